@@ -1,21 +1,18 @@
 -- What is found for targets: a row or a gap for each, rows that are there, and a repeated key that is one of the keys.
 use Rattle.{
-  std.{proofs.{Common.{◌≡◌, ◌∙◌, ap, refl, subst, arith, ℕ, ◌<◌, Bool, true, false, if◌then◌else◌, List, [], ◌∷◌, map, length, All, Option, Some, None, Result, Ok, Err}, lemmas.List.{length-map, FromFn.{length-map-range_with_len, length-range_with_len, get_or-range_with_len}, Elements.{All-head, All-tail, All-map, All-from_get_or}}}, specs.{Prelude.{IfOk, IfSome}, List.{range_with_len}, Cmp.Lexicographic.{pointwise, as_long}}},
+  std.{proofs.{Common.{◌≡◌, ◌∙◌, refl, arith, ℕ, ◌<◌, Bool, true, false, if◌then◌else◌, List, [], ◌∷◌, map, length, All, Option, Some, None, Result, Ok, Err}, lemmas.List.{length-map, FromFn.{length-map-range_with_len, length-range_with_len, get_or-range_with_len}, Elements.{All-head, All-tail, All-map}}}, specs.{Prelude.{IfOk, IfSome}, List.{range_with_len}, Cmp.Lexicographic.{pointwise, as_long}}},
   pick_meaning.{specs.Rows.{rows_where, only_row}, proofs.InsideLaws.{rows_inside}},
   align_meaning.specs.{Faults.{AlignRefusal, duplicate_labels}, Targets.{first_where, first_repeated, unless_repeated, rows_of_targets, reindexed}},
 }
 
 unless_keeps : {K A : Type 0} (P : A → Type 0) (repeated : Option K) (answer : A) → P answer → IfOk (unless_repeated repeated answer) P
-unless_keeps P None answer holds = holds
-unless_keeps P (Some key) answer holds = tt
+unless_keeps P = grind arith
 
 only_keeps : (P : ℕ → Type 0) (rows : List ℕ) → All P rows → IfSome (only_row rows) P
-only_keeps P [] all = tt
-only_keeps P (row ∷ []) all = All-head P row [] all
-only_keeps P (row ∷ (other ∷ rows)) all = tt
+only_keeps P = grind arith
 
 first_among : {K : Type 0} (P : K → Type 0) (p : K → Bool) (xs : List K) → All P xs → IfSome (first_where p xs) P
-first_among P p [] all = tt
+first_among P p [] _ = tt
 first_among P p (x ∷ xs) all =
     elim (p x) as (λ b. IfSome (if b then Some x else first_where p xs) P) [ true ↦ All-head P x xs all | false ↦ first_among P p xs (All-tail P x xs all) ]
 
@@ -38,7 +35,7 @@ module _ {K : Type 0} (same : K → K → Bool) (keys targets : List K) where
     where
       by : (b : Bool) → pointwise same keys targets ≡ b → IfOk (found_if b) (λ rows. length rows ≡ length targets)
       by true e = length-map-range_with_len Some 0 (length keys) ∙ as_long same keys targets e
-      by false e = unless_keeps (λ rows. length rows ≡ length targets) (first_repeated same keys) (rows_of_targets same keys targets) (length-map targets (λ target. only_row (rows_where (same target) 0 keys)))
+      by false e = search (unless_keeps, length-map)
 
   -- among the keys
   abbrev IsThere : Option ℕ → Type 0
@@ -48,7 +45,7 @@ module _ {K : Type 0} (same : K → K → Bool) (keys targets : List K) where
   reindexed_below = by (pointwise same keys targets)
     where
       in_order : All (λ k. k < length keys) (range_with_len 0 (length keys))
-      in_order = All-from_get_or (λ k. k < length keys) (range_with_len 0 (length keys)) 0 (λ k lt. omega (arith, lt, length-range_with_len 0 (length keys), get_or-range_with_len 0 (length keys) k 0 (omega (arith, lt, length-range_with_len 0 (length keys)))))
+      in_order = grind (arith, length-range_with_len, get_or-range_with_len)
 
       by : (b : Bool) → IfOk (found_if b) (All IsThere)
       by true = All-map IsThere Some (range_with_len 0 (length keys)) in_order
@@ -63,8 +60,8 @@ module _ {K : Type 0} (same : K → K → Bool) (keys targets : List K) where
     where
       of : (o : Option K) → IfSome o P → unless_repeated o (rows_of_targets same keys targets) ≡ Err (duplicate_labels key) → P key
       of None h e = cc
-      of (Some other) h e = subst P (ap (λ r. key_or other (refusal_or (duplicate_labels other) r)) e) h
+      of (Some other) h e = grind arith
 
       by : (b : Bool) → found_if b ≡ Err (duplicate_labels key) → P key
       by true e = cc
-      by false e = of (first_repeated same keys) (first_among P _ keys all) e
+      by false e = search (of, first_among)

@@ -1,7 +1,6 @@
 -- The rows of an outer join lie within their sides, and its keys are those of either side.
 use Rattle.{
-  std.{proofs.{Common.{◌≡◌, ◌∙◌, ◌<◌, ◌≤◌, refl, subst, sym, ℕ, Bool, true, false, cond, List, [], ◌∷◌, ◌++◌, map, length, All, Option, Some, None, Result, Ok, Err, nat_lt}, lemmas.{Bool.{ltb-false}, List.{length-map, Elements.{All-nil, All-cons, All-head, All-tail, All-map}}}}, specs.Prelude.{IfSome}},
-  meaning.specs.Reduce.{distinct},
+  std.{proofs.{Common.{arith, ◌≡◌, ◌<◌, ◌≤◌, ℕ, Bool, cond, List, [], ◌∷◌, ◌++◌, map, length, All, Option, Some, Result, Ok, Err}, lemmas.{Bool.{ltb-false}, List.{length-map, Elements.{All-cons, All-head, All-tail, All-map}}}}, specs.Prelude.{IfSome}},
   pick_meaning.{specs.Rows.{rows_where}, proofs.InsideLaws.{rows_inside, ok_same}},
   align_meaning.{proofs.OrderLaws.{all_append, all_flat, all_distinct, all_in_order}, specs.{Faults.{AlignRefusal, too_large}, Joins.{Entry, Lists, or_gap, entry, entries_with, entries_of, keys_in_order, outer_entries, most_rows, lists_of, outer}}},
 }
@@ -26,7 +25,7 @@ pub record AreInside {K : Type 0} (P : K → Type 0) (lefts rights : ℕ) (rows 
   pub right : All (IsRowOf rights) rows.right
 
 gaps_inside : (count : ℕ) (rows : List ℕ) → All (λ row. row < count) rows → All (IsRowOf count) (or_gap rows)
-gaps_inside count [] all = All-cons (IsRowOf count) None [] tt (All-nil (IsRowOf count))
+gaps_inside _ [] all = grind arith
 gaps_inside count (row ∷ rows) all =
     All-cons (IsRowOf count) (Some row) (map Some rows) (All-head (λ row. row < count) row rows all) (All-map (IsRowOf count) Some rows (All-tail (λ row. row < count) row rows all))
 
@@ -39,11 +38,9 @@ module _ {K : Type 0} (P : K → Type 0) (same less : K → K → Bool) (left ri
 
   key_inside : (key : K) → P key → All Inside (of_key key)
   key_inside key here =
-      let lefts = gaps_inside (length left) (rows_where (same key) 0 left) (rows_inside (same key) left) in
-      let rights = gaps_inside (length right) (rows_where (same key) 0 right) (rows_inside (same key) right) in
       all_flat Inside (IsRowOf (length left)) (entries_with key (rows_where (same key) 0 right))
-      (λ gap at. All-map Inside (entry key gap) (or_gap (rows_where (same key) 0 right)) (λ k d lt. record { keyed = here; left = at; right = rights k d lt }))
-      (or_gap (rows_where (same key) 0 left)) lefts
+      (λ gap at. All-map Inside (entry key gap) (or_gap (rows_where (same key) 0 right)) (λ k d lt. record { keyed = here; left = at; right = (gaps_inside (length right) (rows_where (same key) 0 right) (rows_inside (same key) right)) k d lt }))
+      (or_gap (rows_where (same key) 0 left)) (gaps_inside (length left) (rows_where (same key) 0 left) (rows_inside (same key) left))
 
   module _ (lefts : All P left) (rights : All P right) where
     abbrev entries : List (Entry K)
@@ -55,13 +52,13 @@ module _ {K : Type 0} (P : K → Type 0) (same less : K → K → Bool) (left ri
     entries_inside : All Inside entries
     entries_inside =
         all_flat Inside P of_key key_inside (keys_in_order same less (left ++ right))
-        (all_in_order P less (distinct same (left ++ right)) (all_distinct P same (left ++ right) (all_append P left right lefts rights)))
+        (search (all_in_order, all_distinct, all_append))
 
     lists_inside : length entries ≤ most_rows → AreInside P (length left) (length right) (lists_of entries)
     lists_inside few = record {
-      few = subst (λ n. n ≤ most_rows) (sym (length-map entries (λ e. e.key))) few;
-      left_count = length-map entries (λ e. e.left) ∙ sym (length-map entries (λ e. e.key));
-      right_count = length-map entries (λ e. e.right) ∙ sym (length-map entries (λ e. e.key));
+      few = search length-map;
+      left_count = search length-map;
+      right_count = search length-map;
       keyed = All-map P (λ e. e.key) entries (λ k d lt. (entries_inside k d lt).keyed);
       left = All-map (IsRowOf (length left)) (λ e. e.left) entries (λ k d lt. (entries_inside k d lt).left);
       right = All-map (IsRowOf (length right)) (λ e. e.right) entries (λ k d lt. (entries_inside k d lt).right);
@@ -69,8 +66,4 @@ module _ {K : Type 0} (P : K → Type 0) (same less : K → K → Bool) (left ri
 
     -- so it is of what is joined
     pub joined_inside : (rows : Lists K) → outer same less left right ≡ Ok rows → AreInside P (length left) (length right) rows
-    joined_inside rows is = go (nat_lt most_rows (length entries)) refl is
-      where
-        go : (b : Bool) → nat_lt most_rows (length entries) ≡ b → limited b ≡ Ok rows → AreInside P (length left) (length right) rows
-        go true e made = cc
-        go false e made = subst (AreInside P (length left) (length right)) (ok_same (lists_of entries) rows made) (lists_inside (ltb-false most_rows (length entries) e))
+    joined_inside = grind (arith, ok_same, lists_inside, ltb-false)

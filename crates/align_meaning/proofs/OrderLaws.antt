@@ -1,31 +1,31 @@
 -- Lists in order, and what is made of them.
 use Rattle.{
-  std.{proofs.{Common.{◌≡◌, ◌∙◌, ap, refl, Bool, true, false, not, cond, List, [], ◌∷◌, ◌++◌, map, filter, All}, lemmas.List.Elements.{All-nil, All-cons, All-head, All-tail, All-filter}}, specs.List.{flat_map}},
+  std.{proofs.{Common.{arith, ◌≡◌, ◌∙◌, refl, Bool, true, false, not, cond, List, [], ◌∷◌, ◌++◌, map, filter, All}, lemmas.List.Elements.{All-nil, All-cons, All-head, All-tail, All-filter}}, specs.List.{flat_map}},
   meaning.specs.Reduce.{distinct},
   sorting.specs.Sorting.{put_in, in_order},
 }
 
 pub all_append : {X : Type 0} (P : X → Type 0) (xs ys : List X) → All P xs → All P ys → All P (xs ++ ys)
-all_append P [] ys px py = py
+all_append P [] _ _ py = py
 all_append P (x ∷ xs) ys px py = All-cons P x (xs ++ ys) (All-head P x xs px) (all_append P xs ys (All-tail P x xs px) py)
 
 pub all_flat : {X Y : Type 0} (P : Y → Type 0) (Q : X → Type 0) (f : X → List Y) → ((x : X) → Q x → All P (f x)) → (xs : List X) → All Q xs → All P (flat_map f xs)
-all_flat P Q f each [] all = All-nil P
+all_flat P Q f _ [] _ = All-nil P
 all_flat P Q f each (x ∷ xs) all = all_append P (f x) (flat_map f xs) (each x (All-head Q x xs all)) (all_flat P Q f each xs (All-tail Q x xs all))
 
 pub all_distinct : {X : Type 0} (P : X → Type 0) (same : X → X → Bool) (xs : List X) → All P xs → All P (distinct same xs)
-all_distinct P same [] all = all
+all_distinct P _ [] all = all
 all_distinct P same (x ∷ xs) all =
     All-cons P x (filter (λ q. not (same q x)) (distinct same xs)) (All-head P x xs all) (All-filter (λ q. not (same q x)) P (distinct same xs) (all_distinct P same xs (All-tail P x xs all)))
 
 -- a list in order has the elements of the list
 module _ {X : Type 0} (P : X → Type 0) (less : X → X → Bool) where
   pub all_put_in : (x : X) (xs : List X) → P x → All P xs → All P (put_in less x xs)
-  all_put_in x [] here all = All-cons P x [] here all
+  all_put_in x [] here all = grind arith
   all_put_in x (y ∷ ys) here all =
       elim (less y x) as (λ b. All P (cond b (y ∷ put_in less x ys) (x ∷ y ∷ ys))) [
         | true ↦ All-cons P y (put_in less x ys) (All-head P y ys all) (all_put_in x ys here (All-tail P y ys all))
-        | false ↦ All-cons P x (y ∷ ys) here all
+        | false ↦ grind arith
       ]
 
   pub all_in_order : (xs : List X) → All P xs → All P (in_order less xs)
@@ -35,12 +35,11 @@ module _ {X : Type 0} (P : X → Type 0) (less : X → X → Bool) where
 -- and what is made of its elements is in the order that agrees
 module _ {X Y : Type 0} (P : X → Type 0) (f : X → Y) (less : X → X → Bool) (less' : Y → Y → Bool) (below : (x y : X) → P x → P y → less' (f x) (f y) ≡ less x y) where
   put_in_map : (x : X) (xs : List X) → P x → All P xs → put_in less' (f x) (map f xs) ≡ map f (put_in less x xs)
-  put_in_map x [] here all = refl
+  put_in_map x [] _ _ = refl
   put_in_map x (y ∷ ys) here all =
       (λ i. cond (below y x (All-head P y ys all) here i) (f y ∷ put_in_map x ys here (All-tail P y ys all) i) (f x ∷ f y ∷ map f ys))
-      ∙ (elim (less y x) as (λ b. cond b (f y ∷ map f (put_in less x ys)) (f x ∷ f y ∷ map f ys) ≡ map f (cond b (y ∷ put_in less x ys) (x ∷ y ∷ ys))) [ true ↦ refl | false ↦ refl ])
+      ∙ (grind arith)
 
   pub in_order_map : (xs : List X) → All P xs → in_order less' (map f xs) ≡ map f (in_order less xs)
-  in_order_map [] all = refl
-  in_order_map (x ∷ xs) all =
-      ap (put_in less' (f x)) (in_order_map xs (All-tail P x xs all)) ∙ put_in_map x (in_order less xs) (All-head P x xs all) (all_in_order P less xs (All-tail P x xs all))
+  in_order_map [] _ = refl
+  in_order_map (x ∷ xs) all = cc (in_order_map xs (All-tail P x xs all), put_in_map x (in_order less xs) (All-head P x xs all) (all_in_order P less xs (All-tail P x xs all)))

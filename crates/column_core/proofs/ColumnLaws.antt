@@ -1,6 +1,6 @@
 -- Laws of the cells of a column, row by row.
 use Rattle.{
-  std.{proofs.{Common.{◌≡◌, ℕ, zero, suc, ◌+◌, ◌<◌, List, length, map, slice_get, sym, ap, subst, ◌∙◌, arith, Option, Some}, lemmas.List.FromFn.{length-map-range_with_len, get_or-map-range_with_len}}, specs.List.{range_with_len}},
+  std.{proofs.{Common.{◌≡◌, ℕ, zero, suc, ◌+◌, ◌<◌, List, length, map, slice_get, arith, Option, Some}, lemmas.List.FromFn.{length-map-range_with_len, get_or-map-range_with_len}}, specs.List.{range_with_len}},
   cell_core.specs.declared.cell.{Cell.{Cell}, Kind.{Kind}},
   meaning.specs.{Column.{tabulate}, Cell.{IsGiven, AreGiven}},
   column_core.specs.Columns.{CellColumn, column_with},
@@ -12,33 +12,31 @@ length-tabulate n f = length-map-range_with_len f 0 n
 
 -- how many cells
 pub length-column : (kind : Kind) (n : ℕ) (f : ℕ → Cell) (whole : CellColumn) → record { kind = kind; cells = tabulate n f } ≡ whole → n ≡ length whole.cells
-length-column kind n f whole e = sym (length-tabulate n f) ∙ ap (λ (c : CellColumn). length c.cells) e
+length-column _ n f _ e = cc (length-tabulate n f)
 
 get-range : {C : Type 0} (f : ℕ → C) (a n row : ℕ) → row < n → slice_get (map f (range_with_len a n)) row ≡ Some (f (a + row))
-get-range f a zero row h = absurd (omega arith)
-get-range f a (suc n) zero h = ap (λ i. Some (f i)) (omega arith)
-get-range f a (suc n) (suc row) h = get-range f (a + 1) n row (omega arith) ∙ ap (λ i. Some (f i)) (omega arith)
+get-range f a zero _ h = absurd (omega arith)
+get-range f a (suc n) zero h = grind arith
+get-range f a (suc n) (suc row) h = grind (arith, get-range f (a + 1) n row (omega arith))
 
 -- the value of a row
 pub get-tabulate : {C : Type 0} (n : ℕ) (f : ℕ → C) (row : ℕ) → row < n → slice_get (tabulate n f) row ≡ Some (f row)
-get-tabulate n f row h = get-range f 0 n row h ∙ ap (λ i. Some (f i)) (omega arith)
+get-tabulate = grind (arith, get-range)
 
 -- the cell of a row
 pub get-column : (kind : Kind) (n : ℕ) (f : ℕ → Cell) (whole : CellColumn) (row : ℕ) → record { kind = kind; cells = tabulate n f } ≡ whole → row < length whole.cells → slice_get whole.cells row ≡ Some (f row)
 get-column kind n f whole row e h =
     let lt : row < n = omega (arith, length-column kind n f whole e) in
-    ap (λ (c : CellColumn). slice_get c.cells row) (sym e) ∙ get-tabulate n f row lt
+    cc (get-tabulate n f row lt)
 
 -- cells whose texts are all given
 pub given-tabulate : (texts : List (List ℕ)) (n : ℕ) (f : ℕ → Cell) → ((k : ℕ) → k < n → IsGiven texts (f k)) → AreGiven texts (tabulate n f)
-given-tabulate texts n f h k d lt =
-    let below : k < n = omega (arith, length-tabulate n f, lt) in
-    subst (λ (c : Cell). IsGiven texts c) (sym (get_or-map-range_with_len f 0 n k k d below (omega arith))) (h k below)
+given-tabulate = grind (arith, length-tabulate, get_or-map-range_with_len)
 
 -- a column of values that need no dictionary
 pub given-plain : {U : Type 0} (texts : List (List ℕ)) (kind : Kind) (cell : Option U → Cell) (n : ℕ) (rows : ℕ → Option U) (col : CellColumn) → ((x : Option U) → IsGiven texts (cell x)) → col ≡ column_with kind cell n rows → AreGiven texts col.cells
-given-plain texts kind cell n rows col plain e = subst (λ (c : CellColumn). AreGiven texts c.cells) (sym e) (given-tabulate texts n (λ k. cell (rows k)) (λ k lt. plain (rows k)))
+given-plain texts _ cell n rows _ plain e = rw e (given-tabulate texts n (λ k. cell (rows k)) (λ k lt. plain (rows k)))
 
 -- each row of given cells is given
 pub given-row : (texts : List (List ℕ)) (n : ℕ) (f : ℕ → Cell) → AreGiven texts (tabulate n f) → (k : ℕ) → k < n → IsGiven texts (f k)
-given-row texts n f g k lt = subst (λ (c : Cell). IsGiven texts c) (get_or-map-range_with_len f 0 n k k (f 0) lt (omega arith)) (g k (f 0) (omega (arith, length-tabulate n f, lt)))
+given-row _ n f g k lt = rw (← get_or-map-range_with_len f 0 n k k (f 0) lt (omega arith)) (g k (f 0) (omega (arith, length-tabulate n f, lt)))

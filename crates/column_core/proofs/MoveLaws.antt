@@ -1,41 +1,31 @@
 -- Rows that are taken from others, as cells.
 use Rattle.{
-  std.proofs.{Common.{◌≡◌, ℕ, suc, ◌+◌, ◌-◌, ◌<◌, ◌≤◌, ℤ, pos, negsuc, Bool, true, false, cond, List, length, map, nat_lt, slice_index_or, refl, sym, ap, ◌∙◌, arith, Option, Some, None, Result, Ok, Err, IfOk, All}, lemmas.{Bool.{ltb-true, ltb-false}, List.{get_or_past, get_or-map, length-map, FromFn.{get_or-map-range_with_len, fill_by_all}}}},
+  std.proofs.{Common.{◌≡◌, ℕ, ◌-◌, ◌<◌, ℤ, Bool, cond, List, length, map, nat_lt, slice_index_or, sym, ◌∙◌, arith, Option, None, Result, IfOk, All}, lemmas.{Bool.{ltb-true, ltb-false}, List.{get_or_past, get_or-map, length-map, FromFn.{get_or-map-range_with_len, fill_by_all}}}},
   cell_core.specs.declared.cell.Cell.{Cell, TheVariants.{Na}},
   meaning.specs.Column.{tabulate, shifted_row, shifted, gap_cell, taken},
   column_core.{specs.{Columns.{CellColumn}, Moves.{moved_row, is_ahead, distance_of, gap_at, picked_row, IsPlaceOf}}, proofs.{ColumnLaws.{length-tabulate}, CellRows.{range-same}}},
 }
 
 pub get_or-tabulate : {C : Type 0} (n : ℕ) (f : ℕ → C) (k : ℕ) (d : C) → k < n → slice_index_or (tabulate n f) k d ≡ f k
-get_or-tabulate n f k d h = get_or-map-range_with_len f 0 n k k d h (omega arith)
-
-past-tabulate : {C : Type 0} (n : ℕ) (f : ℕ → C) (k : ℕ) (d : C) → n ≤ k → slice_index_or (tabulate n f) k d ≡ d
-past-tabulate n f k d h = get_or_past (tabulate n f) k d (omega (arith, length-tabulate n f))
+get_or-tabulate = grind (arith, get_or-map-range_with_len)
 
 module _ {T : Type 0} (cell : Option T → Cell) (missing : cell None ≡ Na) (n : ℕ) (row : ℕ → Option T) where
   behind : (b : Bool) (k i : ℕ) → k < n → cell (cond b None (row (k - i))) ≡ cond b Na (slice_index_or (tabulate n (λ j. cell (row j))) (k - i) Na)
-  behind true k i h = missing
-  behind false k i h = sym (get_or-tabulate n (λ j. cell (row j)) (k - i) Na (omega arith))
+  behind = grind (arith, get_or-tabulate)
 
   ahead : (k : ℕ) (b : Bool) → nat_lt k n ≡ b → cell (cond b (row k) None) ≡ slice_index_or (tabulate n (λ j. cell (row j))) k Na
-  ahead k true e = sym (get_or-tabulate n (λ j. cell (row j)) k Na (ltb-true k n e))
-  ahead k false e = missing ∙ sym (past-tabulate n (λ j. cell (row j)) k Na (ltb-false k n e))
+  ahead = grind (arith, get_or-tabulate, ltb-true, get_or_past, length-tabulate, ltb-false)
 
   row_moved : (p : ℤ) (k : ℕ) → k < n → cell (moved_row n row (distance_of p) (is_ahead p) k) ≡ shifted_row Na (tabulate n (λ j. cell (row j))) p k
-  row_moved (pos i) k h = behind (nat_lt k i) k i h
-  row_moved (negsuc i) k h = ahead (k + suc i) (nat_lt (k + suc i) n) refl
+  row_moved = grind (arith, behind, ahead)
 
   -- moved rows are the shifted cells
   pub shifted_seen : (p : ℤ) (distance : ℕ) (is_before : Bool) → distance ≡ distance_of p → is_before ≡ is_ahead p
       → tabulate n (λ k. cell (moved_row n row distance is_before k)) ≡ shifted Na (tabulate n (λ k. cell (row k))) p
-  shifted_seen p distance is_before e f =
-      ap (λ d. tabulate n (λ k. cell (moved_row n row d is_before k))) e ∙ ap (λ b. tabulate n (λ k. cell (moved_row n row (distance_of p) b k))) f
-      ∙ range-same (λ k. cell (moved_row n row (distance_of p) (is_ahead p) k)) (shifted_row Na (tabulate n (λ k. cell (row k))) p) 0 n (λ k le lt. row_moved p k (omega arith))
-      ∙ ap (λ m. tabulate m (shifted_row Na (tabulate n (λ k. cell (row k))) p)) (sym (length-tabulate n (λ k. cell (row k))))
+  shifted_seen p _ _ e f = grind (arith, range-same (λ k. cell (moved_row n row (distance_of p) (is_ahead p) k)) (shifted_row Na (tabulate n (λ k. cell (row k))) p) 0 n (λ k le lt. row_moved p k (omega arith)), length-tabulate n (λ k. cell (row k)))
 
   row_picked : (gap : Option ℕ) → IsPlaceOf n gap → cell (picked_row row gap) ≡ gap_cell Na (tabulate n (λ k. cell (row k))) gap
-  row_picked None h = missing
-  row_picked (Some place) h = sym (get_or-tabulate n (λ k. cell (row k)) place Na h)
+  row_picked = grind (arith, get_or-tabulate)
 
   -- picked rows are the taken cells
   pub taken_seen : (gaps : List (Option ℕ)) → All (IsPlaceOf n) gaps → tabulate (length gaps) (λ k. cell (picked_row row (gap_at gaps k))) ≡ taken Na (tabulate n (λ k. cell (row k))) gaps
@@ -46,9 +36,7 @@ module _ {T : Type 0} (cell : Option T → Cell) (missing : cell None ≡ Na) (n
 
 -- the cells of an answer
 pub if_ok_cells : {E : Type 0} (r : Result CellColumn E) (x : CellColumn) (ys : List Cell) → IfOk r (λ c. c ≡ x) → x.cells ≡ ys → IfOk r (λ c. c.cells ≡ ys)
-if_ok_cells (Ok c) x ys e f = ap (λ (d : CellColumn). d.cells) e ∙ f
-if_ok_cells (Err e) x ys h f = h
+if_ok_cells = grind arith
 
 pub if_ok_change : {E : Type 0} (r : Result CellColumn E) (xs ys : List Cell) → IfOk r (λ c. c.cells ≡ xs) → xs ≡ ys → IfOk r (λ c. c.cells ≡ ys)
-if_ok_change (Ok c) xs ys e f = e ∙ f
-if_ok_change (Err e) xs ys h f = h
+if_ok_change = grind arith

@@ -4,9 +4,6 @@ use Rattle.{
   column_operators.specs.Quotients.{IsInverse},
 }
 
-pub upper_fits : (x y : ℕ) → x < 2 ^ 64 → y < 2 ^ 64 → x * y / 2 ^ 64 < 2 ^ 64
-upper_fits x y hx hy = grind (arith, div_below, mul-lt)
-
 module _ (n d m s q r : ℕ) (whole : n ≡ q * d + r) (enough : 2 ^ 63 * s ≤ m * d) where
   -- the product is no less than the quotient's share of the power
   no_less : q * s * 2 ^ 64 ≤ 2 * n * m
@@ -29,11 +26,11 @@ module _ (n d m s q r : ℕ) (whole : n ≡ q * d + r) (enough : 2 ^ 63 * s ≤ 
 
 -- the upper half of the product, shifted, is the quotient
 shifted_is : (x s q : ℕ) → 0 < s → q * s * 2 ^ 64 ≤ x → x < (q + 1) * s * 2 ^ 64 → x / 2 ^ 64 / s ≡ q
-shifted_is x s q some low high = grind (arith, le-div, div_below)
+shifted_is = grind (arith, le-div, div_below)
 
 -- a product with the inverse gives the quotient
 pub by_inverse : (n value inverse shift : ℕ) → n < 2 ^ 63 → 0 < value → IsInverse value inverse shift → 2 * n * inverse / 2 ^ 64 / 2 ^ shift ≡ n / value
-by_inverse n value inverse shift small above inverts =
+by_inverse n value _ _ small above inverts =
     let q = n / value in
     let r = n % value in
     let whole : n ≡ q * value + r = sym (div-add-mod' n value) in
@@ -47,7 +44,7 @@ least_power value above below =
 
 -- a power of 2 below 2^64 is one of 64
 pub narrow : (shift value : ℕ) → value < 2 ^ 63 → 2 ^ shift < 2 * value → shift < 64
-narrow shift value below least = first_half (cases_lt shift 64)
+narrow shift _ below least = first_half (cases_lt shift 64)
   where
     first_half : (shift < 64) ⊎ (64 ≤ shift) → shift < 64
     first_half (inl lt) = lt
@@ -55,7 +52,7 @@ narrow shift value below least = first_half (cases_lt shift 64)
 
 -- a quotient that is rounded up
 rounded : (d p : ℕ) → 0 < d → 0 < p → (p ≤ ((p - 1) / d + 1) * d) × (((p - 1) / d + 1) * d < p + d)
-rounded d p above some = grind (arith, div-add-mod', mod_below)
+rounded = grind (arith, div-add-mod', mod_below)
 
 pub inverts : (value shift : ℕ) → 0 < value → shift < 64 → value ≤ 2 ^ shift → IsInverse value ((2 ^ (63 + shift) - 1) / value + 1) shift
-inverts value shift above narrow enough = grind (arith, pow-add, rounded, pow_pos, narrow)
+inverts _ _ above narrow = grind (arith, pow-add, rounded, pow_pos, narrow)

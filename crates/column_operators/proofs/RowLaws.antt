@@ -8,26 +8,26 @@ use Rattle.{
 }
 
 one_more_row : (row : ℕ) (o : Option CellValue) (r : Result (List CellValue) ℕ) (zs xs : List CellValue) → ((rest : List CellValue) → r ≡ Ok rest → length rest ≡ length xs) → then_rows o row r ≡ Ok zs → length zs ≡ suc (length xs)
-one_more_row row x r zs xs rest is = grind arith
+one_more_row = grind arith
 
 pairs_length : (f : CellValue → CellValue → Option CellValue) (row : ℕ) (xs ys zs : List CellValue) → length xs ≡ length ys → try_pairs f row xs ys ≡ Ok zs → length zs ≡ length xs
-pairs_length f row [] [] zs same is = search
-pairs_length f row [] (y ∷ ys) zs same is = search
-pairs_length f row (x ∷ xs) [] zs same is = search
+pairs_length f _ [] [] _ same is = search
+pairs_length f _ [] (y ∷ ys) _ same is = search
+pairs_length f _ (x ∷ xs) [] _ same is = search
 pairs_length f row (x ∷ xs) (y ∷ ys) zs same is =
     one_more_row row (f x y) (try_pairs f (suc row) xs ys) zs xs (λ rest e. let less : length xs ≡ length ys = omega arith in pairs_length f (suc row) xs ys rest less e) is
 
 column_length : (texts : List Text) (o : Option Kind) (n : ℕ) (r : Result (List CellValue) ℕ) (c : CellColumn) → ((zs : List CellValue) → r ≡ Ok zs → length zs ≡ n)
     → column_if o zero_division r ≡ Ok (cells_value texts c) → length c.cells ≡ n
-column_length texts x n r c rows is = grind (arith, length-map)
+column_length = grind (arith, length-map)
 
 pub answer_length : (texts : List Text) (op : Binary) (x y : ColumnValue) (c : CellColumn) (n : ℕ) → length x.cells ≡ n → length y.cells ≡ n → Answers texts (Ok c) (binary_column op x y) → length c.cells ≡ n
 answer_length texts op x y c n e f is =
     column_length texts (operator_kind op x.kind y.kind) n (try_pairs (operator_cell op) 0 x.cells y.cells) c (λ zs is. pairs_length (operator_cell op) 0 x.cells y.cells zs (e ∙ sym f) is ∙ e) is
 
 made_rows : (texts : List Text) (op : Binary) (x y : ColumnValue) (n : ℕ) (result : Result CellColumn ArrayFault) → length x.cells ≡ n → length y.cells ≡ n → Answers texts result (binary_column op x y) → IfOk result (λ made. length made.cells ≡ n)
-made_rows texts op x y n (Err fault) e f answer = tt
-made_rows texts op x y n (Ok made) e f answer = search answer_length
+made_rows _ _ x y n (Err fault) e f _ = tt
+made_rows _ _ x y n (Ok made) e f answer = search answer_length
 
 -- the column that is made has as many rows as its operands
 pub column_rows : (old new : List Text) (op : Binary) (a b : CellColumn) (n : ℕ) (result : Result CellColumn ArrayFault) → length a.cells ≡ n → length b.cells ≡ n

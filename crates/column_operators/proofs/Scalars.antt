@@ -10,16 +10,16 @@ use Rattle.{
 
 -- a present scalar and a missing one have the column's kind here
 pub number_kept : (texts : List (List ℕ)) (x : Option ℤ) → scalar_kind Int64 (datum texts (number_cell x)) ≡ Int64
-number_kept texts x = grind arith
+number_kept = grind arith
 
 pub truth_kept : (texts : List (List ℕ)) (x : Option Bool) → scalar_kind Boolean (datum texts (truth_cell x)) ≡ Boolean
-truth_kept texts x = grind arith
+truth_kept = grind arith
 
 pub text_kept : (texts : List (List ℕ)) (x : Option TextId) → scalar_kind string (datum texts (text_cell x)) ≡ string
-text_kept texts x = grind arith
+text_kept = grind arith
 
 repeated : (texts : List (List ℕ)) (c : Cell) (a n : ℕ) → map (datum texts) (map (λ (k : ℕ). c) (range_with_len a n)) ≡ replicate n (datum texts c)
-repeated texts c a zero = refl
+repeated _ c a zero = refl
 repeated texts c a (suc n) = cc (repeated texts c (a + 1) n)
 
 -- one value in each row is the scalar beside each cell
@@ -33,9 +33,9 @@ scalar_rows texts kind cell n p s kept =
 pub scalar_on_left : {T : Type 0} (texts : List (List ℕ)) (task : Task) (kind : Kind) (cell : Option T → Cell) (n : ℕ) (p : ℕ → Option T) (s : Option T) (left : Bool) (result : Result CellColumn ArrayFault) → scalar_kind kind (datum texts (cell s)) ≡ kind → left ≡ true
     → (new : List (List ℕ)) (m : ℕ) → m ≡ n → Answers new result (task_column task (column_value texts (column_with kind cell m (λ k. s))) (column_value texts (column_with kind cell n p)))
     → Answers new result (scalar_task task (column_value texts (column_with kind cell n p)) (datum texts (cell s)) left)
-scalar_on_left texts task kind cell n p s left result kept is new m same a = grind (arith, scalar_rows)
+scalar_on_left = grind (arith, scalar_rows)
 
 pub scalar_on_right : {T : Type 0} (texts : List (List ℕ)) (task : Task) (kind : Kind) (cell : Option T → Cell) (n : ℕ) (p : ℕ → Option T) (s : Option T) (left : Bool) (result : Result CellColumn ArrayFault) → scalar_kind kind (datum texts (cell s)) ≡ kind → left ≡ false
     → (new : List (List ℕ)) (m : ℕ) → m ≡ n → Answers new result (task_column task (column_value texts (column_with kind cell n p)) (column_value texts (column_with kind cell m (λ k. s))))
     → Answers new result (scalar_task task (column_value texts (column_with kind cell n p)) (datum texts (cell s)) left)
-scalar_on_right texts task kind cell n p s left result kept is new m same a = grind (arith, scalar_rows)
+scalar_on_right = grind (arith, scalar_rows)

@@ -1,8 +1,8 @@
 -- What operators answer, from rows of values to columns of cells.
 use Rattle.{
-  std.proofs.Common.{arith, ◌≡◌, ℕ, List, map, Option, Some, option_map, Result},
+  std.proofs.Common.{arith, ◌≡◌, ℕ, List, Option, Some, option_map, Result},
   cell_core.specs.declared.cell.{Cell.{Cell}, Kind.{Kind}},
-  meaning.specs.{Cell.{datum}, Column.{zero_division, tabulate, try_pairs, column_of}},
+  meaning.specs.{Cell.{datum}, Column.{zero_division, column_of}},
   column_core.{specs.{Columns.{CellColumn, column_value, column_with}, Rows.{try_rows, map_rows}}, proofs.CellRows.{map-map, pairs-rows}},
   nullable_array.specs.{declared.ops.ArrayFault.{ArrayFault}, Answers.{Answers}},
   column_operators.specs.{declared.ops.Task.{Task}, Tasks.{task_cell, task_kind, task_column}},
@@ -14,11 +14,9 @@ pub pair_answer : {X Y U : Type 0} (texts : List (List ℕ)) (given task : Task)
     → (n m : ℕ) (p : ℕ → Option X) (q : ℕ → Option Y) → n ≡ m → (result : Result CellColumn ArrayFault)
     → Answers texts result (column_of kind zero_division (map_rows (λ z. datum texts (cu z)) (try_rows n (λ k. f (p k) (q k)))))
     → Answers texts result (task_column given (column_value texts (column_with ka ca n p)) (column_value texts (column_with kb cb m q)))
-pair_answer texts given task is ka kb kind ca cb cu f takes law n m p q same result a =
-    let cells = try_pairs (task_cell task) 0 (map (datum texts) (tabulate n (λ k. ca (p k)))) (map (datum texts) (tabulate m (λ k. cb (q k)))) in
-    grind (arith, pairs-rows, map-map)
+pair_answer = grind (arith, pairs-rows, map-map)
 
 -- an answer on two columns is the one on the same columns
 pub two_columns : (texts : List (List ℕ)) (task : Task) (x x' y y' : CellColumn) (result : Result CellColumn ArrayFault) → x ≡ x' → y ≡ y' → Answers texts result (task_column task (column_value texts x) (column_value texts y))
     → Answers texts result (task_column task (column_value texts x') (column_value texts y'))
-two_columns texts task x x' y y' result e f a = grind arith
+two_columns = grind arith

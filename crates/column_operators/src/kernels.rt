@@ -74,11 +74,11 @@ pub fn pure_binary(
         (binary_column (operator_of op) (column_value dict.now a.entry)
         (column_value dict.now b.entry)) }
 {
-    on_columns(alloc, dict, task_of(op), a, b)
+    pure_on_columns(alloc, dict, task_of(op), a, b)
 }
 
 // What an operator but `+` does to two columns.
-fn on_columns(
+fn pure_on_columns(
     alloc: Global,
     dict: &TextDict,
     task: Task,
@@ -197,11 +197,11 @@ pub fn pure_with_scalar(
         (scalar_binary (operator_of op) (column_value dict.now a.entry)
         (datum dict.now scalar) scalar_left) }
 {
-    beside(alloc, dict, task_of(op), a, scalar, scalar_left)
+    pure_beside(alloc, dict, task_of(op), a, scalar, scalar_left)
 }
 
 // What an operator but `+` does to a column and a scalar.
-fn beside(
+fn pure_beside(
     alloc: Global,
     dict: &TextDict,
     task: Task,

@@ -1,6 +1,6 @@
 -- The headings of what is put together.
 use Rattle.{
-  std.{proofs.{Common.{◌≡◌, ◌<◌, ◌≤◌, ◌+◌, refl, ℕ, suc, ℤ, pos, Bool, true, false, List, [], ◌∷◌, ◌++◌, filter, length, drop, slice_index_or, Option, Some, None, arith}, Math.Seq.{drop-cons}, lemmas.List.{append_assoc}}, specs.List.{list_all, list_any, flat_map}},
+  std.{proofs.{Common.{◌≡◌, ◌<◌, ◌+◌, refl, ℕ, ℤ, pos, Bool, true, false, List, [], ◌∷◌, ◌++◌, filter, length, drop, slice_index_or, Option, Some, None, arith}, Math.Seq.{drop-cons}, lemmas.List.{append_assoc}}, specs.List.{list_all, list_any, flat_map}},
   cell_core.specs.declared.cell.Label.{Label},
   meaning.specs.Reduce.{distinct},
   join_meaning.specs.Concat.{united},
@@ -15,7 +15,7 @@ flat_headings (t ∷ ts) = cc (flat_headings ts)
 
 -- headings by first sight
 pub all_united : (parts : List NumberedTable) → distinct same_heading (flat_map (λ t. t.headings) parts) ≡ united same_heading false (headings_of_each parts)
-all_united x = grind (arith, flat_headings)
+all_united = grind (arith, flat_headings)
 
 -- those that all parts have
 held_in_each : (parts : List NumberedTable) (h : Option Label) → held_by_all parts h ≡ list_all (list_any (same_heading h)) (headings_of_each parts)
@@ -23,25 +23,22 @@ held_in_each [] h = refl
 held_in_each (t ∷ ts) h = cc (held_in_each ts h)
 
 filter_alike : {X : Type 0} (p q : X → Bool) → ((x : X) → p x ≡ q x) → (xs : List X) → filter p xs ≡ filter q xs
-filter_alike p q same [] = refl
+filter_alike p q _ [] = refl
 filter_alike p q same (x ∷ xs) = grind (arith, filter_alike p q same xs)
 
 pub common_united : (t : NumberedTable) (ts : List NumberedTable) → common_headings t.headings ts ≡ united same_heading true (headings_of_each (t ∷ ts))
-common_united t ts = search (filter_alike, held_in_each)
+common_united = search (filter_alike, held_in_each)
 
 -- one heading more, with the number that is next or as it is
 drop_at : (hs : List (Option Label)) (k : ℕ) → k < length hs → drop k hs ≡ slice_index_or hs k None ∷ drop (k + 1) hs
-drop_at hs k lt = let next : suc k ≡ k + 1 = omega arith in grind (arith, drop-cons)
+drop_at = grind (arith, drop-cons)
 
 module _ (all : Bool) (n k : ℕ) (h : Option Label) (hs made made' whole : List (Option Label)) (lt : k < length hs) (is : h ≡ slice_index_or hs k None) (so_far : made ++ numbered all n (drop k hs) ≡ whole) where
   split : made ++ numbered all n (h ∷ drop (k + 1) hs) ≡ whole
   split = grind (arith, drop_at)
 
   pub number_more : (z : ℤ) → z ≡ pos n → gets_number all h ≡ true → made' ≡ made ++ Some (label.Int z) ∷ [] → made' ++ numbered all (n + 1) (drop (k + 1) hs) ≡ whole
-  number_more z told here grown = grind (arith, append_assoc, split)
+  number_more = grind (arith, append_assoc, split)
 
   pub heading_more : gets_number all h ≡ false → made' ≡ made ++ h ∷ [] → made' ++ numbered all n (drop (k + 1) hs) ≡ whole
-  heading_more here grown = grind (arith, append_assoc, split)
-
-pub first_united : (parts : List NumberedTable) (t : NumberedTable) → 1 ≤ length parts → t ≡ slice_index_or parts 0 t → common_headings t.headings (drop 1 parts) ≡ united same_heading true (headings_of_each parts)
-first_united x t some is = grind (arith, common_united)
+  heading_more = grind (arith, append_assoc, split)

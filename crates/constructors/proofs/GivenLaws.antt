@@ -13,27 +13,27 @@ use Rattle.form_meaning.specs.declared.Function.TheVariants as function
 use Rattle.form_meaning.specs.declared.Form.TheVariants as form
 
 pub indexes_are : {T : Type 0} (f : T → List Item) (live : Tables) (texts : List Text) (o : Option T) → option_map index_labels (option_map (λ t. items_of live texts (f t)) o) ≡ option_map (λ t. rows_labels texts (f t)) o
-indexes_are f live texts x = grind (arith, rows_are)
+indexes_are = grind (arith, rows_are)
 
 -- what stands at a place was given
 pub index_settled : {T : Type 0} (f : T → List Item) (b : Bound) (place : ℕ) (o : Option T) (live : Tables) (dict : List Text) → Tells b place list_in (λ live texts. option_map (λ t. items_of live texts (f t)) o)
     → IsSettled (arguments_of live) dict b.args.now → (more : List Text) → option_map (λ t. rows_labels (dict ++ more) (f t)) o ≡ option_map (λ t. rows_labels dict (f t)) o
-index_settled f b place o live dict tells settled more =
+index_settled f b _ o live _ tells settled _ =
     sym (indexes_are f _ _ o)
-    ∙ ap (option_map index_labels) (told_settled b place list_in (λ live texts. option_map (λ t. items_of live texts (f t)) o) _ _ tells settled _)
+    ∙ ap (option_map _) (told_settled b _ list_in (λ live texts. option_map (λ t. items_of live texts (f t)) o) _ _ tells settled _)
     ∙ indexes_are f _ _ o
 
 -- and its labels are alike, where its parameter takes labels of rows
 pub index_levels : (ps : List Parameter) (p : Parameter) (gs : List Given) (w : World) (b : Bound) (o : Option (Bor (List Item))) → bound_of ps (arguments_in w b.args.now) ≡ bound gs → b.parameters.now ≡ ps → slice_get ps 1 ≡ Some p
     → p.form ≡ form.RowLabels → option_map (λ (l : Bor (List Item)). items_of w.tables w.texts l.now) o ≡ list_in (stands_at w.tables w.texts b 1) → GivesLevels o
-index_levels ps p gs w b None same is there form told = tt
-index_levels ps p gs w b (Some l) same is there form told =
+index_levels _ p _ w b None _ _ _ form _ = tt
+index_levels ps p _ w b (Some l) same is there form told =
     let found : Some (items_of w.tables w.texts l.now) ≡ list_in (argument_at ps (arguments_in w b.args.now) 1) = cc in
     alike_seen _ _ _ (subst GivesAlike (sym found) (index_taken _ _ 1 p _ same there form))
 
 -- a Series of lists is that of their scalars
 series_same : (values : GivenList) (index : Option GivenList) (name : Option LabelValue) (kind : Option Kind) → series_of values index name kind ≡ series_with (cells_of values) (option_map index_labels index) name kind
-series_same values x name kind = grind arith
+series_same = grind arith
 
 -- a constructor on what binding gives
 abbrev Constructor : Function → Type 0
@@ -45,7 +45,7 @@ series_at ps gs = series_result (argument_at ps gs 0 ∷ argument_at ps gs 1 ∷
 
 series_bound : (gs : List NamedGiven) (w : World) (b : Bound) → bound_of (function_parameters function.Series) gs ≡ bound (given_in w b)
     → b.parameters.now ≡ function_parameters function.Series → made_by function.Series gs ≡ series_at b.parameters.now (arguments_in w b.args.now)
-series_bound gs w b same is = grind arith
+series_bound = grind arith
 
 pub series_given : {T : Type 0} (f : T → List Item) (gs : List NamedGiven) (w : World) (b : Bound) (values : List Item) (index : Option T) (o : Option Cell) (name : Option Label) (kind : Option Kind)
     → bound_of (function_parameters function.Series) gs ≡ bound (given_in w b) → b.parameters.now ≡ function_parameters function.Series
@@ -54,12 +54,12 @@ pub series_given : {T : Type 0} (f : T → List Item) (gs : List NamedGiven) (w 
     → option_map (datum w.texts) o ≡ scalar_in (stands_at w.tables w.texts b 2) → heading_value w.texts name ≡ option_map cell_label (option_map (datum w.texts) o)
     → kind ≡ kind_given (scalar_in (stands_at w.tables w.texts b 3))
     → series_with (scalars w.texts values) (option_map (λ t. rows_labels w.texts (f t)) index) (heading_value w.texts name) kind ≡ made_by function.Series gs
-series_given f gs w b values index o name kind same is listed indexed scalar named kinded =
+series_given f gs w b values _ o _ _ same is listed indexed scalar named kinded =
     sym (
     series_bound gs w b same is
     ∙ ap (λ l. on l (λ parts. series_of parts (list_in (stands_at w.tables w.texts b 1)) (option_map cell_label (scalar_in (stands_at w.tables w.texts b 2))) (kind_given (scalar_in (stands_at w.tables w.texts b 3))))) (sym listed)
-    ∙ series_same (items_of w.tables w.texts values) (list_in (stands_at w.tables w.texts b 1)) (option_map cell_label (scalar_in (stands_at w.tables w.texts b 2))) (kind_given (scalar_in (stands_at w.tables w.texts b 3)))
-    ∙ (λ j. series_with (scalars_are w.tables w.texts values j) ((ap (option_map index_labels) (sym indexed) ∙ indexes_are f _ _ _) j) ((ap (option_map cell_label) (sym scalar) ∙ sym named) j) (sym kinded j))
+    ∙ series_same (items_of w.tables w.texts values) _ _ _
+    ∙ (λ j. series_with (scalars_are w.tables w.texts values j) ((ap (option_map _) (sym indexed) ∙ indexes_are f _ _ _) j) ((ap (option_map _) (sym scalar) ∙ sym named) j) (sym kinded j))
     )
 
 abbrev pub frame_at : List Parameter → List NamedGiven → Result Entry FaultValue
@@ -67,4 +67,4 @@ frame_at ps gs = frame_result (argument_at ps gs 0 ∷ argument_at ps gs 1 ∷ [
 
 pub frame_bound : (gs : List NamedGiven) (w : World) (b : Bound) → bound_of (function_parameters function.DataFrame) gs ≡ bound (given_in w b)
     → b.parameters.now ≡ function_parameters function.DataFrame → made_by function.DataFrame gs ≡ frame_at b.parameters.now (arguments_in w b.args.now)
-frame_bound gs w b same is = grind arith
+frame_bound = grind arith

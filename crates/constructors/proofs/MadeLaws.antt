@@ -17,25 +17,25 @@ abbrev if_within : List (List LabelValue) → Bool → Result (List (List LabelV
 if_within labels b = if b then Ok labels else Err limit
 
 pub counted : (texts : List Text) (rows columns : ℕ) (axis : AxisValue) → within_limits rows columns ≡ true → axis ≡ range_axis rows → labels_within rows columns (default_labels rows) ≡ Ok (axis_labels texts axis)
-counted texts rows columns axis within is = cc (default_seen _ _)
+counted _ _ _ _ within is = cc (default_seen _ _)
 
 default_count : (rows : ℕ) → length (default_labels rows) ≡ rows
-default_count rows = search length-map-range_with_len
+default_count = search length-map-range_with_len
 
 pub nat_same : (a b : ℕ) → nat_eq a b ≡ true → a ≡ b
-nat_same a b e = grind (arith, nat_tests)
+nat_same = grind (arith, nat_tests)
 
 abbrev if_length : ℕ → ℕ → Result (List (List LabelValue)) FaultValue → Bool → Result (List (List LabelValue)) FaultValue
 if_length expected got rest b = if b then rest else Err (bad_value (length_of expected got))
 
 listed_count : (b : Bool) (rows columns : ℕ) (labels made : List (List LabelValue)) → nat_eq rows (length labels) ≡ b → if_length rows (length labels) (few_levels labels (labels_within rows columns labels)) b ≡ Ok made → length made ≡ rows
-listed_count x rows columns labels made same is = grind (arith, nat_same)
+listed_count = grind (arith, nat_same)
 
 pub labels_count : (rows columns : ℕ) (index : Option (List (List LabelValue))) (made : List (List LabelValue)) → index_labels rows columns index ≡ Ok made → length made ≡ rows
-labels_count rows columns x made is = grind (arith, default_count, listed_count)
+labels_count = grind (arith, default_count, listed_count)
 
 pub axis_count : (texts : List Text) (rows columns : ℕ) (index : Option (List (List LabelValue))) (axis : AxisValue) → index_labels rows columns index ≡ Ok (axis_labels texts axis) → rows ≡ length axis.tuples
-axis_count texts rows columns index axis is = grind (arith, labels_count, length-map)
+axis_count = grind (arith, labels_count, length-map)
 
 -- a table that goes on with the labels of its rows, unless it is beyond the limits
 abbrev limit_then : Table → Bool → Result Entry FaultValue
@@ -45,24 +45,24 @@ abbrev pub labels_then : (List (List LabelValue) → Table) → Result (List (Li
 labels_then go r = then_value r (λ labels. Ok (table (go labels)))
 
 either_limit : (go : List (List LabelValue) → Table) (labels : List (List LabelValue)) (b : Bool) → limit_then (go labels) b ≡ labels_then go (if_within labels b)
-either_limit go labels x = grind arith
+either_limit = grind arith
 
 pub limited_labels : (rows columns : ℕ) (go : List (List LabelValue) → Table) (labels : List (List LabelValue)) → length (go labels).labels ≡ rows → length (go labels).columns ≡ columns
     → limited (go labels) ≡ labels_then go (labels_within rows columns labels)
-limited_labels rows columns go labels r c = grind (arith, either_limit)
+limited_labels = grind (arith, either_limit)
 
 pub indexed_within : (rows columns : ℕ) (index : Option (List (List LabelValue))) (go : List (List LabelValue) → Table) → ((labels : List (List LabelValue)) → (go labels).labels ≡ labels) → ((labels : List (List LabelValue)) → length (go labels).columns ≡ columns)
     → indexed rows index (λ labels. limited (go labels)) ≡ labels_then go (index_labels rows columns index)
-indexed_within rows columns None go ls cs = grind (arith, limited_labels, default_count)
-indexed_within rows columns (Some labels) go ls cs = grind (arith, nat_eq, nat_le, limited_labels, nat_same)
+indexed_within _ _ None = grind (arith, limited_labels, default_count)
+indexed_within _ _ (Some labels) = grind (arith, nat_eq, nat_le, limited_labels, nat_same)
 
 -- a column of scalars that were given
 held_cells : (b : Bool) (kind : Kind) (cells : List CellValue) (col : ColumnOf CellValue) → (if b then Ok record { kind = kind; cells = cells } else Err wrong_kind) ≡ Ok col → cells ≡ col.cells
-held_cells x kind cells col is = grind arith
+held_cells = grind arith
 
 pub column_given : (dict : List Text) (items : List Item) (c : CellColumn) → ((texts : List Text) → list_column (scalars texts items) ≡ Ok (column_seen texts c)) → IsSettled scalars dict items → AreGiven dict c.cells
-column_given dict items c is settled =
-    cells_given dict c.cells (settled_by scalars cells_value (λ vs. vs) dict items c.cells
+column_given _ items c is settled =
+    cells_given _ _ (settled_by scalars cells_value (λ vs. vs) _ items _
     (λ texts. held_cells _ _ _ _ (is texts)) settled)
 
 -- the labels of an axis were given
@@ -74,18 +74,18 @@ ok_same a b e = cc
 
 pub labels_settled : (dict : List Text) (axis : AxisValue) (rows columns : ℕ) (index : List Text → Option (List (List LabelValue))) → ((texts : List Text) → index_labels rows columns (index texts) ≡ Ok (axis_labels texts axis))
     → ((more : List Text) → index (dict ++ more) ≡ index dict) → IsSettled labels_value dict axis.tuples
-labels_settled dict axis rows columns index is settled = grind (arith, ok_same)
+labels_settled = grind (arith, ok_same)
 
 -- levels without names, as they are seen
 missing_names : (texts : List Text) (n : ℕ) → headings_value texts (replicate n None) ≡ replicate n None
-missing_names texts zero = refl
+missing_names _ zero = refl
 missing_names texts (suc n) = cc (missing_names texts n)
 
 pub names_seen : (texts : List Text) (axis : AxisValue) → axis.names ≡ nameless axis.tuples → headings_value texts axis.names ≡ nameless (axis_labels texts axis)
-names_seen texts axis names = grind (arith, missing_names, length-map)
+names_seen = grind (arith, missing_names, length-map)
 
 pub names_settled : (texts : List Text) (axis : AxisValue) → axis.names ≡ nameless axis.tuples → IsSettled headings_value texts axis.names
-names_settled texts axis names = grind (arith, missing_names)
+names_settled = grind (arith, missing_names)
 
 abbrev series_rows : Option (List (List LabelValue)) → Option LabelValue → ColumnOf CellValue → Result Entry FaultValue
 series_rows index name c = indexed (length c.cells) index (λ labels. limited (series_table name labels c))
@@ -99,22 +99,22 @@ series_named name c labels = series_table name labels c
 series_is : (new : List Text) (cells : List CellValue) (index : Option (List (List LabelValue))) (name : Option LabelValue) (kind : Option Kind) (listed : ColumnOf CellValue) (column : CellColumn)
     → list_column cells ≡ Ok listed → cast_to kind listed ≡ Ok (column_seen new column)
     → series_with cells index name kind ≡ labels_then (series_named name (column_seen new column)) (index_labels (length column.cells) 1 index)
-series_is new cells index name kind listed column first second = grind (arith, length-map, indexed_within)
+series_is = grind (arith, length-map, indexed_within)
 
 pub axis_refused : (old new : List Text) (cells : List CellValue) (index : List Text → Option (List (List LabelValue))) (name : Option LabelValue) (kind : Option Kind) (listed column : CellColumn) (fault : OpFault)
     → IsLonger old new → list_column cells ≡ Ok (column_seen old listed) → cast_to kind (column_seen old listed) ≡ Ok (column_seen new column) → ((more : List Text) → index (old ++ more) ≡ index old)
     → MakesBy axis_labels new (Err fault) (index_labels (length column.cells) 1 (index new)) → Makes new (Err fault) (series_with cells (index old) name kind)
-axis_refused old new cells index name kind listed column fault longer first second settled refused =
+axis_refused _ new _ _ name _ _ column fault longer first second settled refused =
     rw (series_is _ _ _ _ _ _ _ first second)
-    (refused_on axis_labels new (index_labels (length column.cells) 1 (index old)) (λ labels. Ok (table (series_named name (column_seen new column) labels))) (Err fault) fault refl
+    (refused_on axis_labels new _ (λ labels. Ok (table (series_named name (column_seen new column) labels))) _ _ refl
     (subst (λ (i : Option (List (List LabelValue))). MakesBy axis_labels new (Err fault) (index_labels (length column.cells) 1 i)) (grind arith) refused))
 
 pub series_answer : (old new : List Text) (cells : List CellValue) (index : List Text → Option (List (List LabelValue))) (name : Option Label) (kind : Option Kind) (listed column : CellColumn) (axis : AxisValue) (made : NumberedTable)
     → IsLonger old new → list_column cells ≡ Ok (column_seen old listed) → cast_to kind (column_seen old listed) ≡ Ok (column_seen new column) → ((more : List Text) → index (old ++ more) ≡ index old)
     → ((texts : List Text) → index_labels (length column.cells) 1 (index texts) ≡ Ok (axis_labels texts axis)) → axis.names ≡ nameless axis.tuples → IsSettled heading_value old name → made ≡ made_series axis name column
     → series_with cells (index old) (heading_value old name) kind ≡ Ok (table (table_value new made))
-series_answer old new cells index name kind listed column axis made longer first second settled labels names named is =
-    series_is _ cells (index old) (heading_value old name) _ _ _ first second
+series_answer old new cells _ name _ _ column axis _ longer first second settled labels names named is =
+    series_is _ cells _ _ _ _ _ first second
     ∙ ap (labels_then (series_named (heading_value old name) (column_seen new column))) (ap (index_labels (length column.cells) 1) (sym (grind arith)) ∙ labels new)
     ∙ ap (λ v. Ok (table v)) (seen ∙ ap (table_value new) (sym is))
   where
@@ -133,11 +133,11 @@ pub series_settled : (old new : List Text) (index : List Text → Option (List (
     → IsLonger old new → AreGiven new column.cells → ((more : List Text) → index (old ++ more) ≡ index old)
     → ((texts : List Text) → index_labels (length column.cells) 1 (index texts) ≡ Ok (axis_labels texts axis)) → axis.names ≡ nameless axis.tuples → IsSettled heading_value old name → made ≡ made_series axis name column
     → IsSettled table_value new made
-series_settled old new index name column axis made longer given settled labels names named is =
+series_settled old new _ name column axis _ longer given settled labels names named is =
     rw is
     (table_settled _ (made_series axis name column)
     (λ more. refl)
     (names_settled _ _ names)
-    (settled_later labels_value old new axis.tuples longer (labels_settled old axis (length column.cells) 1 index labels settled))
-    (λ more. ap (λ n. n ∷ []) (settled_later heading_value old new name longer named more))
+    (settled_later labels_value old new _ longer (labels_settled old axis (length column.cells) 1 _ labels settled))
+    (λ more. ap (λ n. n ∷ []) (settled_later heading_value old new _ longer named more))
     (columns_settled new (table_column column ∷ []) (grind arith)))

@@ -10,29 +10,29 @@ use Rattle.{
 use Rattle.csv_frames.specs.declared.growing.Growing.TheVariants as growing
 
 missing_column : (named : Option Kind) (fields : List Text) → named ≡ None → list_all is_missing fields ≡ true → record { kind = Int64; cells = map (cell_of_field Int64) fields } ≡ column_of_fields named fields
-missing_column named fields unnamed missing = grind (arith, kind_missing)
+missing_column = grind (arith, kind_missing)
 
 module _ (texts : List Text) (named : Option Kind) (fields : List Text) where
   column_right : (g : Growing) → Grown texts named fields g → is_mixed g ≡ false → column_seen texts (column_so_far (length fields) g) ≡ column_of_fields named fields
-  column_right growing.Missing grown kept =
+  column_right growing.Missing grown _ =
       (λ i. record { kind = Int64; cells = (na_seen texts (length fields) ∙ sym (all_na Int64 fields grown.1)) i })
       ∙ missing_column named fields grown.0 grown.1
-  column_right (growing.Cells column) grown kept = grown.1
+  column_right (growing.Cells column) grown _ = grown.1
   column_right growing.Mixed grown kept = search
 
   column_settled : (g : Growing) → Grown texts named fields g → IsSettled column_seen texts (column_so_far (length fields) g)
   column_settled growing.Missing grown = search na_seen
   column_settled (growing.Cells column) grown = grown.0
-  column_settled growing.Mixed grown = λ more. refl
+  column_settled growing.Mixed _ = λ more. refl
 
   kind_right : (g : Growing) → Grown texts named fields g → kind_so_far g ≡ unwrap_or named (kind_of_fields fields)
-  kind_right x grown = grind (arith, missing_column)
+  kind_right = grind (arith, missing_column)
 
 never_mixed : (texts : List Text) (kind : Kind) (fields : List Text) (g : Growing) → Grown texts (Some kind) fields g → is_mixed g ≡ false
-never_mixed texts kind fields x grown = grind arith
+never_mixed = grind arith
 
 neither : (a b : Bool) → a || b ≡ false → (a ≡ false) × (b ≡ false)
-neither x b e = grind arith
+neither = grind arith
 
 -- columns from a place on
 abbrev EachGrown : List Text → List (List Text) → ℕ → List (Option Kind) → List Growing → Type 0
@@ -40,10 +40,10 @@ EachGrown texts rows start kinds columns = (k : ℕ) → k < length kinds → Gr
 
 module _ (texts : List Text) (rows : List (List Text)) where
   first_grown : (start : ℕ) (named : Option Kind) (kinds : List (Option Kind)) (g : Growing) (columns : List Growing) → EachGrown texts rows start (named ∷ kinds) (g ∷ columns) → Grown texts named (column_fields start rows) g
-  first_grown start named kinds g columns each = grind arith
+  first_grown = grind arith
 
   others_grown : (start : ℕ) (named : Option Kind) (kinds : List (Option Kind)) (g : Growing) (columns : List Growing) → EachGrown texts rows start (named ∷ kinds) (g ∷ columns) → EachGrown texts rows (suc start) kinds columns
-  others_grown start named kinds g columns each = λ k lt.
+  others_grown start _ kinds g columns each = λ k lt.
       let same : start + suc k ≡ suc start + k = omega arith in
       subst (λ n. Grown texts (get_or kinds k None) (column_fields n rows) (get_or columns k growing.Missing)) same (each (suc k) (omega arith))
 
@@ -75,9 +75,9 @@ module _ (texts : List Text) (rows : List (List Text)) where
   -- with each kind named, the columns are the same
   same_columns : (start : ℕ) (kinds : List (Option Kind)) (columns : List Growing) → length columns ≡ length kinds → EachGrown texts rows start kinds columns
       → columns_from start (map (λ g. Some (kind_so_far g)) columns) rows ≡ columns_from start kinds rows
-  same_columns start [] [] same each = refl
-  same_columns start [] (g ∷ gs) same each = search
-  same_columns start (k ∷ ks) [] same each = search
+  same_columns _ [] [] same each = refl
+  same_columns _ [] (g ∷ gs) same each = search
+  same_columns _ (k ∷ ks) [] same each = search
   same_columns start (k ∷ ks) (g ∷ gs) same each =
       let fields = column_fields start rows in
       let kind = kind_right texts k fields g (first_grown start k ks g gs each) in
@@ -85,7 +85,7 @@ module _ (texts : List Text) (rows : List (List Text)) where
       grind arith
 
 none_mixed : (columns : List Growing) → ((k : ℕ) → k < length columns → is_mixed (get_or columns k growing.Missing) ≡ false) → list_any is_mixed columns ≡ false
-none_mixed [] each = refl
+none_mixed [] _ = refl
 none_mixed (g ∷ gs) each = cc (each 0 (omega arith), none_mixed gs (λ k lt. each (suc k) (omega arith)))
 
 module _ (texts : List Text) (kinds : List (Option Kind)) (rows : List (List Text)) (columns : List Growing) (grown : AreGrown texts kinds rows columns) where

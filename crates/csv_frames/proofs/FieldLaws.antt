@@ -9,6 +9,6 @@ use Rattle.{
 -- the field at a place of all fields
 pub field_unwrapped : (fields : List Text) (place : ℕ) → unwrap_or (field_at fields place) [] ≡ field_in place fields
 unfolding field_at
-field_unwrapped [] place = refl
+field_unwrapped [] _ = refl
 field_unwrapped (f ∷ fs) zero = refl
 field_unwrapped (f ∷ fs) (suc place) = field_unwrapped fs place

@@ -15,19 +15,19 @@ others (x ∷ xs) = xs
 
 module _ (texts : List Text) (rows : List (List Text)) where
   pub count_columns : (place : ℕ) (kinds : List (Option Kind)) (columns : List CellColumn) → columns_seen texts columns ≡ columns_from place kinds rows → length columns ≡ length kinds
-  count_columns place [] [] read = refl
-  count_columns place [] (c ∷ cs) read = Prim.cc
-  count_columns place (k ∷ ks) [] read = Prim.cc
+  count_columns _ [] [] read = refl
+  count_columns _ [] (c ∷ cs) read = Prim.cc
+  count_columns _ (k ∷ ks) [] read = Prim.cc
   count_columns place (k ∷ ks) (c ∷ cs) read = ap suc (count_columns (suc place) ks cs (ap others read))
 
   pub filled : (place : ℕ) (kinds : List (Option Kind)) (columns : List CellColumn) → columns_seen texts columns ≡ columns_from place kinds rows → All (λ (c : CellColumn). length c.cells ≡ length rows) columns
-  filled place [] [] read = grind arith
-  filled place [] (c ∷ cs) read = Prim.cc
-  filled place (k ∷ ks) [] read = Prim.cc
+  filled _ [] [] read = grind arith
+  filled _ [] (c ∷ cs) read = Prim.cc
+  filled _ (k ∷ ks) [] read = Prim.cc
   filled place (k ∷ ks) (c ∷ cs) read = grind (arith, length-map, filled (suc place) ks cs (ap others read))
 
 pub count_tuples : (texts : List Text) (labels : List Text) (tuples : List (List Label)) → tuples_seen texts tuples ≡ label_tuples labels → length tuples ≡ length labels
-count_tuples texts labels tuples read = grind (arith, length-map)
+count_tuples = grind (arith, length-map)
 
 -- labels whose texts differ
 pub tuples_differ : (texts : List Text) (labels : List Text) (tuples : List (List Label)) → tuples_seen texts tuples ≡ label_tuples labels → IsDistinct same_text labels → AllPairs (λ a b. a ≢ b) tuples

@@ -14,7 +14,7 @@ use Rattle.csv_frames.specs.declared.growing.Growing.TheVariants as growing
 -- one cell more
 pub grown_by : (old new : List Text) (before after : CellColumn) (field : Text) (c : Cell) → IsLonger old new → after ≡ record { kind = before.kind; cells = before.cells ++ c ∷ [] } → IsSettled datum new c → datum new c ≡ cell_of_field before.kind field
     → IsGrownBy old new field before after
-grown_by old new before after field c longer is settled made before_settled =
+grown_by old new before after _ c longer is settled made before_settled =
     let cells_settled : IsSettled cells_seen old before.cells = λ more. ap (λ (col : ColumnOf CellValue). col.cells) (before_settled more) in
     let pushed : after.cells ≡ before.cells ++ c ∷ [] = cc in
     let more = settled_more datum old new before.cells after.cells c longer cells_settled pushed settled in (
@@ -25,11 +25,11 @@ grown_by old new before after field c longer is settled made before_settled =
     )
 
 pub truth_settled : (texts : List Text) (o : Option Bool) → IsSettled datum texts (truth_cell o)
-truth_settled texts x = grind arith
+truth_settled = grind arith
 
 -- the number of a field is its cell
 pub number_seen : (texts : List Text) (field : Text) → datum texts (number_cell (number_in field)) ≡ cell_of_field Int64 field
-number_seen texts field = search rules
+number_seen = search rules
 
 -- a column of what is kept
 abbrev pub column_kept : {T : Type 0} → Kind → (Option T → Cell) → Owned T → CellColumn
@@ -43,29 +43,29 @@ put_grown (Ok u) old new field kind cell o rows rows' before longer was settled 
     (pushed_column kind cell rows.values.items rows.present.items o rows'.values.items rows'.present.items (cell o) put refl ∙ ap (λ (w : CellColumn). record { kind = w.kind; cells = w.cells ++ cell o ∷ [] }) was)
     settled
     (grind arith)
-put_grown (Err e) old new field kind cell o rows rows' before longer was settled seen put = put
+put_grown (Err e) _ _ _ _ cell o _ _ _ _ _ _ _ put = put
 
 pub text_grown : {U E : Type 0} (r : Result U E) (old new : List Text) (field : Text) (rows rows' : Owned TextId) (before : CellColumn) → IsLonger old new → column_kept string text_cell rows ≡ before → OnOk r (IsTextPut new field rows rows')
     → OnOk r (IsGrownBy old new field before (column_kept string text_cell rows'))
 text_grown (Ok u) old new field rows rows' before longer was put = put_grown {E = Unit {0}} (Ok u) old new field string text_cell put.0 rows rows' before longer was put.1 put.2 put.3
-text_grown (Err e) old new field rows rows' before longer was put = put
+text_grown (Err e) _ _ _ _ _ _ _ _ put = put
 
 module _ (old new : List Text) (fields : List Text) (field : Text) where
   -- a column whose kind stays
   pub cells_grown : (named : Option Kind) (before after : CellColumn) → IsGrownBy old new field before after → Grown old named fields (growing.Cells before)
       → unwrap_or named (kind_of_fields (fields ++ field ∷ [])) ≡ unwrap_or named (kind_of_fields fields) → Grown new named (fields ++ field ∷ []) (growing.Cells after)
-  cells_grown named before after by grown same =
+  cells_grown _ _ _ by grown same =
       let more = by grown.0 in
       grind (arith, map-append, value_stays)
 
   -- the first value
   pub first_grown : (rows : ℕ) (column : CellColumn) → length fields ≡ rows → list_all is_missing fields ≡ true → is_missing field ≡ false → IsFirst new rows field column → Grown new None (fields ++ field ∷ []) (growing.Cells column)
-  first_grown rows column count missing value first = grind (arith, kind_first, all_na, map-append, value_pushed)
+  first_grown = grind (arith, kind_first, all_na, map-append, value_pushed)
 
   -- the same, of a column for which no kind is named
   pub missing_grown : (named : Option Kind) (g : Growing) (rows : ℕ) (column : CellColumn) → g ≡ growing.Missing → is_missing field ≡ false → IsFirst new rows field column → length fields ≡ rows → Grown old named fields g
       → Grown new named (fields ++ field ∷ []) (growing.Cells column)
-  missing_grown named g rows column is value first count grown = grind (arith, first_grown)
+  missing_grown = grind (arith, first_grown)
 
   module _ (named : Option Kind) (g : Growing) (before : CellColumn) (fits : Bool) (is : g ≡ growing.Cells before) (test : fits ≡ is_of_kind before.kind field) (grown : Grown old named fields g) where
     was_cells : Grown old named fields (growing.Cells before)
@@ -76,21 +76,21 @@ module _ (old new : List Text) (fields : List Text) (field : Text) where
 
     -- numbers or truth values, and then a field of another kind
     pub mixed_grown : fits ≡ false → named ≡ None → (named ≡ None) × (kind_of_fields (fields ++ field ∷ []) ≡ string)
-    mixed_grown other unnamed = grind (arith, kind_mixed)
+    mixed_grown = grind (arith, kind_mixed)
 
     same_kind : (k : Option Kind) → before.kind ≡ unwrap_or k (kind_of_fields fields) → (k ≡ None → fits ≡ true) → unwrap_or k (kind_of_fields (fields ++ field ∷ [])) ≡ unwrap_or k (kind_of_fields fields)
-    same_kind x kind all = grind (arith, kind_stays)
+    same_kind = grind (arith, kind_stays)
 
     pub kept_grown : (after : CellColumn) → (named ≡ None → fits ≡ true) → IsGrownBy old new field before after → Grown new named (fields ++ field ∷ []) (growing.Cells after)
-    kept_grown after all by = search (cells_grown, was_cells, same_kind, kind_is)
+    kept_grown = search (cells_grown, was_cells, same_kind, kind_is)
 
 pub na_seen : (texts : List Text) (rows : ℕ) → map (datum texts) (replicate rows cell.Na) ≡ replicate rows na_cell
-na_seen texts zero = refl
+na_seen _ zero = refl
 na_seen texts (suc n) = cc (na_seen texts n)
 
 -- missing cells and a first value
 pub first_is : (old new : List Text) (kind : Kind) (rows : ℕ) (field : Text) (before after : CellColumn) → kind ≡ kind_of_fields (field ∷ []) → before ≡ record { kind = kind; cells = replicate rows cell.Na } → IsGrownBy old new field before after → IsFirst new rows field after
-first_is old new kind rows field before after is made by =
+first_is old _ kind rows field before _ is made by =
     let all_seen : (texts : List Text) → column_seen texts before ≡ record { kind = kind; cells = replicate rows na_cell } = λ texts. ap (column_seen texts) made ∙ (λ i. record { kind = kind; cells = na_seen texts rows i }) in
     let more = by (λ further. all_seen (old ++ further) ∙ sym (all_seen old)) in (
       more.0,

@@ -1,32 +1,27 @@
 -- Laws of columns that grow record by record.
 use Rattle.{
-  std.{proofs.{Common.{append_assoc, ◌≡◌, ◌∙◌, ◌+◌, ◌<◌, ◌≤◌, ℕ, Bool, true, not, ◌&&◌, nat_le, List, [], ◌∷◌, ◌++◌, length, map, get_or, set, Option, None, arith, inl, inr}, lemmas.{Bool.{cases_order}, List.{map-append, length-map, length-append, length-set, get_or-map, get_or-set_other, Folds.{list_any-append}}, Grind.{get_or-set_at}}}, specs.List.{list_any}},
+  std.{proofs.{Common.{append_assoc, ◌≡◌, ◌∙◌, ◌+◌, ◌<◌, ◌≤◌, ℕ, Bool, true, not, ◌&&◌, nat_le, List, [], ◌∷◌, ◌++◌, length, get_or, set, Option, None, arith, inl, inr}, lemmas.{Bool.{cases_order}, List.{map-append, length-append, length-set, get_or-set_other, Folds.{list_any-append}}, Grind.{get_or-set_at}}}, specs.List.{list_any}},
   cell_core.specs.Texts.{IsLonger},
   meaning.specs.{Text.{Text}, Cell.{Kind}},
-  table_meaning.specs.Valid.{within_limits},
   csv_meaning.specs.CsvRead.{field_in, has_misfit, first_long},
-  csv_frames.{specs.{Views.{column_fields, column_seen}, Growing.{Grown, AreGrown, GrownTo, without_fields}, declared.{growing.Growing.{Growing}, growth.Growth.{Growth}}}, proofs.SettledLaws.{settled_later, seen_later}},
+  csv_frames.{specs.{Views.{column_fields, column_seen}, Growing.{Grown}, declared.growing.Growing.{Growing}}, proofs.SettledLaws.{settled_later, seen_later}},
 }
 use Rattle.csv_frames.specs.declared.growing.Growing.TheVariants as growing
 
 both_true : (a b : Bool) → a && b ≡ true → (a ≡ true) × (b ≡ true)
-both_true x b e = grind arith
+both_true = grind arith
 
 three : (a b c a' c' : Bool) → (a ≡ true → a' ≡ true) → (c ≡ true → c' ≡ true) → a && b && c ≡ true → a' && b && c' ≡ true
-three a b c a' c' f g e = grind arith
+three = grind arith
 
 fewer : (a b m : ℕ) → a ≤ b → nat_le b m ≡ true → nat_le a m ≡ true
-fewer a b m le e = grind arith
+fewer = grind arith
 
 -- a column stays what it is where further texts get numbers
 pub grown_later : (old new : List Text) (named : Option Kind) (fields : List Text) (g : Growing) → IsLonger old new → Grown old named fields g → Grown new named fields g
-grown_later old new named fields growing.Missing longer grown = grown
-grown_later old new named fields (growing.Cells column) longer grown = (search settled_later, seen_later column_seen old new column longer grown.0 ∙ grown.1, grown.2)
-grown_later old new named fields growing.Mixed longer grown = grown
-
--- columns without a record
-pub none_are_grown : (texts : List Text) (kinds : List (Option Kind)) (columns : List Growing) → columns ≡ map without_fields kinds → AreGrown texts kinds [] columns
-none_are_grown texts kinds columns is = grind (arith, length-map, get_or-map)
+grown_later _ _ _ _ growing.Missing _ grown = grown
+grown_later old new _ _ (growing.Cells column) longer grown = (search settled_later, seen_later column_seen old new column longer grown.0 ∙ grown.1, grown.2)
+grown_later _ _ _ _ growing.Mixed _ grown = grown
 
 -- the columns up to a place have a record more
 pub record ArePushed (texts : List Text) (kinds : List (Option Kind)) (before : List (List Text)) (row : List Text) (place : ℕ) (columns : List Growing) : Type 0 where
@@ -57,25 +52,12 @@ module _ (kinds : List (Option Kind)) (before : List (List Text)) (row : List Te
 
 module _ (kinds : List (Option Kind)) where
   no_more : (misfits : Bool) (rows : List (List Text)) (row : List Text) → misfits ≡ list_any (has_misfit kinds) rows → (not misfits && not (has_misfit kinds row)) ≡ not (list_any (has_misfit kinds) (rows ++ row ∷ []))
-  no_more misfits rows row is = grind (arith, list_any-append)
-
-  -- a record more
-  pub record_grown : (old new : List Text) (rows : List (List Text)) (row : List Text) (before after : Growth) → GrownTo old kinds rows before
-      → after.rows ≡ before.rows + 1 → after.fits ≡ (before.fits && not (has_misfit kinds row))
-      → (within_limits (length rows + 1) (length kinds) ≡ true → AreGrown old kinds rows before.columns.items → AreGrown new kinds (rows ++ row ∷ []) after.columns.items)
-      → GrownTo new kinds (rows ++ row ∷ []) after
-  record_grown old new rows row before after grown count fit push =
-      let size : length (rows ++ row ∷ []) ≡ length rows + 1 = length-append rows (row ∷ []) in
-      record {
-        count = omega arith;
-        fits = grind (arith, no_more);
-        columns = grind (arith, grown.columns);
-      }
+  no_more = grind (arith, list_any-append)
 
 module _ (width : ℕ) (file before rows rest : List (List Text)) (row : List Text) (next : rows ≡ row ∷ rest) where
   -- the records so far and those after them
   pub more_read : before ++ rows ≡ file → (before ++ row ∷ []) ++ rest ≡ file
-  more_read all = grind (arith, append_assoc)
+  more_read = grind (arith, append_assoc)
 
   pub still_short : length row ≤ width → first_long width (2 + length before) rows ≡ first_long width 2 file → first_long width (2 + length (before ++ row ∷ [])) rest ≡ first_long width 2 file
-  still_short short all = grind (arith, length-append)
+  still_short = grind (arith, length-append)

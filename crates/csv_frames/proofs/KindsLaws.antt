@@ -10,31 +10,27 @@ no e = Prim.cc
 
 -- a missing field is a missing cell of each kind
 missing_cell : (kind : Kind) (f : Text) → is_missing f ≡ true → field_cell kind f ≡ Some na_cell
-missing_cell kind f e = cc
+missing_cell _ f e = cc
 
 both_true : (a b : Bool) → a && b ≡ true → (a ≡ true) × (b ≡ true)
-both_true x b e = grind (arith, no)
+both_true = grind (arith, no)
 
 all_fit : (kind : Kind) (fs : List Text) → list_all is_missing fs ≡ true → list_all (is_of_kind kind) fs ≡ true
-all_fit kind [] e = refl
+all_fit _ [] e = refl
 all_fit kind (f ∷ fs) e =
     let b = both_true (is_missing f) (list_all is_missing fs) e in
     search (all_fit kind fs b.1)
 
 -- only missing fields
 pub kind_missing : (fs : List Text) → list_all is_missing fs ≡ true → kind_of_fields fs ≡ Int64
-kind_missing fs e = search all_fit
+kind_missing = search all_fit
 
 -- so many missing cells
 pub all_na : (kind : Kind) (fs : List Text) → list_all is_missing fs ≡ true → map (cell_of_field kind) fs ≡ replicate (length fs) na_cell
-all_na kind [] e = refl
+all_na _ [] e = refl
 all_na kind (f ∷ fs) e =
     let b = both_true (is_missing f) (list_all is_missing fs) e in
     search (missing_cell, all_na kind fs b.1)
-
--- every field can be a text
-fits_text : (f : Text) → is_of_kind string f ≡ true
-fits_text f = search rules
 
 -- no truth value is a number
 abbrev AreNoNumbers : List Text → Type 0
@@ -49,18 +45,18 @@ no_number : (f : Text) → whole_number f ≡ None → is_some (option_map int_c
 no_number f none e = no (cc)
 
 one_kind : (f : Text) → is_some (cast_cell Int64 (text_cell f)) ≡ true → is_some (cast_cell Boolean (text_cell f)) ≡ false
-one_kind f number = search rules
+one_kind = search rules
 
 -- a field that isn't missing isn't both
 exclusive : (f : Text) → is_missing f ≡ false → is_of_kind Int64 f ≡ true → is_of_kind Boolean f ≡ false
-exclusive f value number = grind (arith, one_kind)
+exclusive = grind (arith, one_kind)
 
 no_truth : (a b : Bool) → b ≡ false → a && b ≡ false
-no_truth x b e = grind arith
+no_truth = grind arith
 
 -- where one isn't missing and all are numbers, not all are truth values
 no_truths : (fs : List Text) → list_all is_missing fs ≡ false → list_all (is_of_kind Int64) fs ≡ true → list_all (is_of_kind Boolean) fs ≡ false
-no_truths [] value numbers = no (sym value)
+no_truths [] value _ = no (sym value)
 no_truths (f ∷ fs) value numbers = by (no_truths fs) (search both_true) (is_missing f) refl value
   where
     by : (list_all is_missing fs ≡ false → list_all (is_of_kind Int64) fs ≡ true → list_all (is_of_kind Boolean) fs ≡ false) → (is_of_kind Int64 f ≡ true) × (list_all (is_of_kind Int64) fs ≡ true) → (b : Bool) → is_missing f ≡ b → b && list_all is_missing fs ≡ false → is_of_kind Boolean f && list_all (is_of_kind Boolean) fs ≡ false
@@ -72,21 +68,17 @@ kind_by numbers truths = if numbers then Int64 else if truths then Boolean else 
 
 module _ (fs : List Text) (f : Text) where
   all_pushed : (q : Text → Bool) → list_all q (fs ++ f ∷ []) ≡ (list_all q fs && q f)
-  all_pushed q = grind (arith, list_all-append)
+  all_pushed = grind (arith, list_all-append)
 
   kind_pushed : kind_of_fields (fs ++ f ∷ []) ≡ kind_by (list_all (is_of_kind Int64) fs && is_of_kind Int64 f) (list_all (is_of_kind Boolean) fs && is_of_kind Boolean f)
   kind_pushed = search all_pushed
 
-  -- missing fields, and one more
-  pub missing_pushed : list_all is_missing fs ≡ true → is_missing f ≡ true → list_all is_missing (fs ++ f ∷ []) ≡ true
-  missing_pushed all one = grind (arith, all_pushed)
-
   -- one that isn't missing
   pub value_pushed : is_missing f ≡ false → list_all is_missing (fs ++ f ∷ []) ≡ false
-  value_pushed one = search (all_pushed, no_truth)
+  value_pushed = search (all_pushed, no_truth)
 
   pub value_stays : list_all is_missing fs ≡ false → list_all is_missing (fs ++ f ∷ []) ≡ false
-  value_stays some = grind (arith, all_pushed)
+  value_stays = grind (arith, all_pushed)
 
   -- the first that isn't missing has the kind
   pub kind_first : list_all is_missing fs ≡ true → kind_of_fields (fs ++ f ∷ []) ≡ kind_of_fields (f ∷ [])
@@ -101,12 +93,8 @@ module _ (fs : List Text) (f : Text) where
 
   -- a field of the kind leaves it
   pub kind_stays : is_of_kind (kind_of_fields fs) f ≡ true → kind_of_fields (fs ++ f ∷ []) ≡ kind_of_fields fs
-  kind_stays fits = grind (arith, kind_pushed)
+  kind_stays = grind (arith, kind_pushed)
 
   -- a field of another kind makes texts of all
   pub kind_mixed : is_of_kind (kind_of_fields fs) f ≡ false → list_all is_missing fs ≡ false → kind_of_fields (fs ++ f ∷ []) ≡ string
-  kind_mixed other some = grind (arith, kind_pushed, no_truths)
-
-  -- texts stay texts
-  pub kind_texts : kind_of_fields fs ≡ string → kind_of_fields (fs ++ f ∷ []) ≡ string
-  kind_texts texts = grind (arith, kind_stays, fits_text)
+  kind_mixed = grind (arith, kind_pushed, no_truths)

@@ -12,23 +12,23 @@ at_end p (x ∷ xs) = search (rules, at_end p xs)
 
 -- a text is new where its number is that after the last one
 pub new_number : (texts : List Text) (t : Text) (n count : ℕ) → n ≡ number_of texts t → count ≡ length texts → nat_eq n count ≡ not (list_any (same_text t) texts)
-new_number texts t n count is counts = grind (arith, at_end)
+new_number = grind (arith, at_end)
 
 -- from a number on
 abbrev pub first_free : List Text → Text → ℕ → ℕ → ℕ
 first_free taken label columns n = position_or_len (is_free taken label) (range_with_len n (columns - n))
 
 from_number : (p : ℕ → Bool) (n columns : ℕ) → n < columns → position_or_len p (range_with_len n (columns - n)) ≡ cond (not (p n)) (1 + position_or_len p (range_with_len (n + 1) (columns - (n + 1)))) 0
-from_number p n columns lt = grind arith
+from_number = grind arith
 
 -- whether the number is free, as the label was new
 pub is_number_free : (taken now : List Text) (label t u : Text) (n : ℕ) (new : Bool) → now ≡ taken → t ≡ with_number label n → u ≡ t → new ≡ not (list_any (same_text u) now) → new ≡ is_free taken label n
-is_number_free taken now label t u n new same is read test = cc
+is_number_free _ _ _ t u n _ same is read test = cc
 
 pub number_found : (taken : List Text) (label t : Text) (n columns : ℕ) → n < columns → t ≡ with_number label n → n + first_free taken label columns n ≡ 1 + first_free taken label columns 1
     → true ≡ is_free taken label n → t ≡ free_label columns taken label
-number_found taken label t n columns lt is before free = grind arith
+number_found = grind arith
 
 pub number_passed : (taken : List Text) (label : Text) (n columns : ℕ) → n < columns → n + first_free taken label columns n ≡ 1 + first_free taken label columns 1
     → false ≡ is_free taken label n → n + 1 + first_free taken label columns (n + 1) ≡ 1 + first_free taken label columns 1
-number_passed taken label n columns lt before free = grind (arith, from_number)
+number_passed = grind (arith, from_number)

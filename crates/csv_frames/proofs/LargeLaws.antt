@@ -15,32 +15,32 @@ no_misfit (l ∷ ls) [] = refl
 no_misfit (l ∷ ls) (f ∷ fs) = no_misfit ls fs
 
 no_misfits : (labels : List Text) (rows : List (List Text)) → list_any (has_misfit (map (named_kind []) labels)) rows ≡ false
-no_misfits labels [] = refl
+no_misfits _ [] = refl
 no_misfits labels (r ∷ rs) = search (no_misfit, no_misfits labels rs)
 
 -- there is a label for each field of the header
 count_named : (place : ℕ) (labels : List Text) → length (labels_named place labels) ≡ length labels
-count_named place [] = refl
+count_named _ [] = refl
 count_named place (l ∷ ls) = ap suc (count_named (suc place) ls)
 
 count_after : (columns : ℕ) (before taken labels : List Text) → length (labels_after columns before taken labels) ≡ length labels
-count_after columns before taken [] = refl
+count_after _ _ _ [] = refl
 count_after columns before taken (l ∷ ls) = ap suc (count_after columns (with_text before l) (with_text taken (next_label columns before taken l)) ls)
 
 pub count_labels : (header : List Text) → length (labels_of header) ≡ length header
-count_labels header = search (count_after, count_named)
+count_labels = search (count_after, count_named)
 
 large : (header : List Text) (rows : List (List Text)) → within_limits (length rows) (length header) ≡ false → columns_under [] header rows ≡ Err beyond_limits
-large header rows beyond = grind (arith, no_misfits, count_labels)
+large = grind (arith, no_misfits, count_labels)
 
 -- without named kinds
 pub no_kinds : (kinds : List (Text × Kind)) → length kinds ≡ 0 → kinds ≡ []
-no_kinds [] none = refl
+no_kinds [] _ = refl
 no_kinds (k ∷ ks) none = search
 
 not_within : (a b c : Bool) → b ≡ false → a && b && c ≡ false
-not_within x b c e = grind arith
+not_within = grind arith
 
 -- a header that is too wide for a table
 pub wide : (kinds : List (Text × Kind)) (count : ℕ) (header : List Text) (rows : List (List Text)) → count ≡ length kinds → count ≡ 0 → 2 ^ 16 < length header → columns_under kinds header rows ≡ Err beyond_limits
-wide kinds count header rows counted none broad = search (rules, nat_le, nat_tests, no_kinds, large)
+wide = search (rules, nat_le, nat_tests, no_kinds, large)

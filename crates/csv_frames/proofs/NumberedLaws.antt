@@ -1,9 +1,9 @@
 -- The labels of a header, said as a whole.
 use Rattle.{
-  std.{proofs.{Common.{rules, ◌≡◌, ℕ, zero, suc, ◌+◌, ◌-◌, ◌<◌, ◌≤◌, ◌^◌, Bool, true, false, ◌||◌, if◌then◌else◌, List, [], ◌∷◌, ◌++◌, length, take, refl, sym, ap, ◌∙◌, arith, append_assoc, append-nil}, lemmas.List.{Folds.{list_any-append}, FromFn.{get_or-range_with_len, length-range_with_len}, Sums.{prefix_len_passes, prefix_len-le-length}}}, specs.{Prelude.{slice_get, Option, Some}, List.{position_or_len, range_with_len}}},
+  std.{proofs.{Common.{rules, ◌≡◌, ℕ, zero, suc, ◌+◌, ◌-◌, ◌<◌, ◌≤◌, ◌^◌, true, false, ◌||◌, List, [], ◌∷◌, ◌++◌, length, take, refl, sym, ap, ◌∙◌, arith, append_assoc, append-nil}, lemmas.List.{Folds.{list_any-append}, FromFn.{get_or-range_with_len, length-range_with_len}, Sums.{prefix_len_passes, prefix_len-le-length}}}, specs.{Prelude.{slice_get, Option, Some}, List.{position_or_len, range_with_len}}},
   cell_core.specs.Texts.{with_text},
   meaning.specs.Text.{Text},
-  csv_meaning.{specs.CsvRead.{with_number, is_free, free_label, next_label, labels_after, with_texts, different_labels}, proofs.DifferentLaws.{IsFair, numbered-free, fair-after, count-texts, header-had, labels_differ}},
+  csv_meaning.{specs.CsvRead.{with_number, is_free, next_label, labels_after, with_texts, different_labels}, proofs.DifferentLaws.{IsFair, numbered-free, fair-after, count-texts, header-had, labels_differ}},
   csv_frames.specs.Numbered.{has_text, AreNumbered},
 }
 
@@ -15,13 +15,13 @@ abbrev Alike : List Text → List Text → Type 0
 Alike xs ys = (q : Text) → has_text xs q ≡ has_text ys q
 
 put_has : (xs : List Text) (t q : Text) → has_text (with_text xs t) q ≡ has_text (xs ++ t ∷ []) q
-put_has xs t q = search (rules, list_any-append)
+put_has = search (rules, list_any-append)
 
 put_alike : (xs ys : List Text) (t : Text) → Alike xs ys → Alike (with_text xs t) (ys ++ t ∷ [])
-put_alike xs ys t alike q = grind (arith, put_has, list_any-append)
+put_alike = grind (arith, put_has, list_any-append)
 
 all_alike : (xs ys ls : List Text) → Alike xs ys → Alike (with_texts xs ls) (ys ++ ls)
-all_alike xs ys [] alike q = search append-nil
+all_alike _ _ [] alike q = search append-nil
 all_alike xs ys (l ∷ ls) alike q = search (append_assoc, all_alike (with_text xs l) (ys ++ l ∷ []) ls (put_alike xs ys l alike) q)
 
 -- no smaller number is free
@@ -45,10 +45,9 @@ module _ (columns : ℕ) (small : columns < 2 ^ 64) (header : List Text) where
 
   next_is : (pre outs before taken : List Text) (label : Text) (rest : List Text) → Alike before pre → Alike taken (header ++ outs) → IsFair columns before taken (label ∷ rest)
       → IsNext pre outs label (Some (next_label columns before taken label))
-  next_is pre outs before taken label rest old used fair =
+  next_is _ outs before taken label rest old used fair =
       let m = 1 + position_or_len (is_free taken label) (range_with_len 1 (columns - 1)) in
       let told : (t : Text) → (has_text header t || has_text outs t) ≡ has_text taken t = grind (arith, list_any-append) in
-      let chosen : (b : Bool) → has_text before label ≡ b → next_label columns before taken label ≡ (if b then free_label columns taken label else label) = grind arith in
       record {
         first = grind arith;
         number = m;
@@ -71,7 +70,7 @@ module _ (columns : ℕ) (small : columns < 2 ^ 64) (header : List Text) where
       grind (arith, append_assoc)
 
 after_count : (columns : ℕ) (before taken rest : List Text) → length (labels_after columns before taken rest) ≡ length rest
-after_count columns before taken [] = refl
+after_count _ _ _ [] = refl
 after_count columns before taken (l ∷ rest) = ap suc (after_count columns (with_text before l) (with_text taken (next_label columns before taken l)) rest)
 
 pub labels_numbered : (header : List Text) → length header < 2 ^ 64 → AreNumbered header (different_labels header)

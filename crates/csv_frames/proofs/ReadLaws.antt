@@ -9,13 +9,13 @@ use Rattle.{
 }
 
 front : (old inner : List Text) → IsLonger old inner → take (length old) inner ≡ old
-front old inner longer = grind (arith, take-append_seam)
+front = grind (arith, take-append_seam)
 
 pub refused : (old inner new : List Text) (known : ℕ) (result : Result CsvTable CsvFault) (meant : Result CsvValue CsvRefusal) → IsLonger old inner → known ≡ length old → new ≡ take known inner → is_err result ≡ true → ReadsAs inner result meant → ReadAnswers old new result meant
-refused old inner new known x meant longer count is err read = grind (arith, front)
+refused = grind (arith, front)
 
 pub answered : (old new : List Text) (result : Result CsvTable CsvFault) (meant : Result CsvValue CsvRefusal) → is_err result ≡ false → ReadsAs new result meant → ReadAnswers old new result meant
-answered old new x meant ok read = grind arith
+answered = grind arith
 
 -- a header that is too wide for a table
 pub wide_read : (entries : List (Text × Kind)) (count : ℕ) (header : List Text) (records rows : List (List Text)) → records ≡ header ∷ rows → count ≡ length entries → count ≡ 0 → 2 ^ 16 < length header → first_long (length header) 2 rows ≡ None
@@ -24,4 +24,4 @@ wide_read entries count header records rows all counted none broad short = cc (w
 
 -- a file that is a text and isn't too long
 pub file_read : (bytes : List ℕ) (entries : List (Text × Kind)) → length bytes ≤ 2 ^ 28 → IsUtf8 bytes → columns_of_records entries (file_records bytes) ≡ columns_of_file bytes entries
-file_read bytes entries short is_text = grind (arith, utf8_valid_len-IsUtf8)
+file_read = grind (arith, utf8_valid_len-IsUtf8)

@@ -10,29 +10,29 @@ abbrev Quiet : State × Action → Type 0
 Quiet a = is_end a.1 ≡ true → ends_at_end a.0 ≡ false
 
 quiet-if : (b : Bool) (x y : State × Action) → Quiet x → Quiet y → Quiet (if b then x else y)
-quiet-if x1 x y p q = grind arith
+quiet-if = grind arith
 
 no : {P : Type 0} → false ≡ true → P
 no e = absurd (grind arith)
 
 quiet-end : (t : Terminator) (c : ℕ) → ends_at_end (after_end t c) ≡ false
-quiet-end x1 c = grind arith
+quiet-end = grind arith
 
 quiet-in : (cfg : Config) (c : ℕ) → Quiet (in_field cfg c)
-quiet-in cfg c = search (quiet-if, no, quiet-end)
+quiet-in = search (quiet-if, no, quiet-end)
 
 quiet-start : (cfg : Config) (c : ℕ) → Quiet (start_field cfg c)
-quiet-start cfg c = search (quiet-if, no, quiet-in)
+quiet-start = search (quiet-if, no, quiet-in)
 
 -- a step that ends a record leaves no record begun
 quiet : (cfg : Config) (s : State) (c : ℕ) → Quiet (step cfg s c)
-quiet cfg x c = grind (arith, quiet-if, no, quiet-start, quiet-in)
+quiet = grind (arith, quiet-if, no, quiet-start, quiet-in)
 
 inner : {A : Type 0} (x y : A) → Some x ≡ Some y → x ≡ y
 inner x y e = cc
 
 chosen : {A : Type 0} (b : Bool) (x y z : A) → (if b then x else y) ≡ z → ((b ≡ true) × (x ≡ z)) ⊎ ((b ≡ false) × (y ≡ z))
-chosen x1 x y z e = grind arith
+chosen = grind arith
 
 -- a record that was read: from where no record was begun it took a byte, and it leaves none begun
 pub record Took (s : State) (xs : List ℕ) (p : Read) : Type 0 where
@@ -42,8 +42,8 @@ pub record Took (s : State) (xs : List ℕ) (p : Read) : Type 0 where
 
 took : (cfg : Config) (s : State) (fields : List (List ℕ)) (field xs : List ℕ) (p : Read) → next_record cfg s fields field xs ≡ Some p → Took s xs p
 unfolding next_record
-took cfg s fields field [] p e = grind arith
-took cfg s fields field (c ∷ rest) p e =
+took _ s _ _ [] p e = grind arith
+took cfg s _ _ (c ∷ rest) p e =
     elim (chosen (is_end (step cfg s c).1) _ _ _ e) [
       | inl h ↦ grind (arith, quiet)
       | inr h ↦ grind (arith, took cfg (step cfg s c).0 _ _ rest p h.1)
@@ -51,50 +51,50 @@ took cfg s fields field (c ∷ rest) p e =
 
 -- a record from where none was begun leaves fewer bytes
 fewer : (cfg : Config) (s : State) (xs : List ℕ) (p : Read) → ends_at_end s ≡ false → next_record cfg s [] [] xs ≡ Some p → length p.2 < length xs
-fewer cfg s xs p e is = grind (arith, took)
+fewer = grind (arith, took)
 
 -- more turns than bytes give all records
 fuel : (cfg : Config) (n m : ℕ) (s : State) (xs : List ℕ) → ends_at_end s ≡ false → length xs < n → length xs < m → records_from cfg n s xs ≡ records_from cfg m s xs
 unfolding records_from
-fuel cfg zero m s xs e l k = absurd (omega arith)
-fuel cfg (suc n) zero s xs e l k = absurd (omega arith)
-fuel cfg (suc n) (suc m) s xs e l k = grind (arith, took, fuel cfg n m)
+fuel _ zero m s _ e l k = absurd (omega arith)
+fuel _ (suc n) zero s _ e l k = absurd (omega arith)
+fuel cfg (suc n) (suc m) s _ e l k = grind (arith, took, fuel cfg n m)
 
 turned : (cfg : Config) (s : State) (xs : List ℕ) (r : Option Read) → next_record cfg s [] [] xs ≡ r → records_from cfg (length xs + 1) s xs ≡ records_next (records_from cfg (length xs)) r
 unfolding records_from
-turned cfg s xs r is = grind arith
+turned = grind arith
 
 -- the first record, and those after it
 one_more : (cfg : Config) (s : State) (xs : List ℕ) (p : Read) → ends_at_end s ≡ false → next_record cfg s [] [] xs ≡ Some p → records_from cfg (length xs + 1) s xs ≡ p.0 ∷ records_from cfg (length p.2 + 1) p.1 p.2
-one_more cfg s xs p e is = grind (arith, turned, fuel, took)
+one_more = grind (arith, turned, fuel, took)
 
 -- what a read says of the records that are left
 pub read_next : (a b : Reader (Bor (List ℕ))) (found : Bool) (fields : List (List ℕ)) → Reads a → (b.trim ≡ trim.None) → Ready b → ReadRecord known a b found fields → IsNext a found fields b
 unfolding Reached
-read_next a b x fields reads trims ready read = search (rules, rows-more, one_more, quiet, took, turned)
+read_next = search (rules, rows-more, one_more, quiet, took, turned)
 
 strip-shorter : (xs : List ℕ) → length (strip_bom xs) ≤ length xs
 unfolding strip_bom
-strip-shorter x = grind arith
+strip-shorter = grind arith
 
 turns : (cfg : Config) (n : ℕ) (s : State) (xs : List ℕ) → length (records_from cfg n s xs) ≤ n
 unfolding records_from
-turns cfg zero s xs = omega arith
-turns cfg (suc n) s xs = grind (arith, turns cfg n)
+turns _ zero = omega arith
+turns cfg (suc n) = grind (arith, turns cfg n)
 
 module _ (a b : Reader (Bor (List ℕ))) (found : Bool) (row : List (List ℕ)) (next : IsNext a found row b) where
   pub none_left : found ≡ false → rows_left a ≡ []
-  none_left is = grind arith
+  none_left = grind arith
 
   pub one_left : found ≡ true → (rows_left a ≡ row ∷ rows_left b) × Reads b
-  one_left is = grind arith
+  one_left = grind arith
 
   -- the header
   pub no_header : (bytes : List ℕ) → rows_left a ≡ file_records bytes → found ≡ false → file_rows bytes ≡ []
-  no_header bytes all is = cc (none_left is)
+  no_header _ all is = cc (none_left is)
 
   pub under_header : (bytes : List ℕ) → rows_left a ≡ file_records bytes → found ≡ true → file_rows bytes ≡ rows_left b
-  under_header bytes all is = cc ((one_left is).0)
+  under_header _ all is = cc ((one_left is).0)
 
 -- the records of a front of the file
 pub few_before : (bytes : List ℕ) (before rest : List (List (List ℕ))) → before ++ rest ≡ file_rows bytes → length before ≤ length bytes + 1

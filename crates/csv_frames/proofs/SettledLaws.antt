@@ -11,18 +11,18 @@ pub longer_self : (texts : List Text) → IsLonger texts texts
 longer_self texts = ([], sym (append-nil texts))
 
 pub longer_twice : (a b c : List Text) → IsLonger a b → IsLonger b c → IsLonger a c
-longer_twice a b c f g = grind (arith, append_assoc)
+longer_twice = grind (arith, append_assoc)
 
 pub longer_with : (texts texts' : List Text) (t : Text) → texts' ≡ with_text texts t → IsLonger texts texts'
-longer_with texts texts' t is = search rules
+longer_with = search rules
 
 -- what is settled stays so
 pub settled_later : {X Y : Type 0} (view : List Text → X → Y) (old new : List Text) (x : X) → IsLonger old new → IsSettled view old x → IsSettled view new x
-settled_later view old new x longer settled = grind (arith, append_assoc)
+settled_later = grind (arith, append_assoc)
 
 -- and is seen as before
 pub seen_later : {X Y : Type 0} (view : List Text → X → Y) (old new : List Text) (x : X) → IsLonger old new → IsSettled view old x → view new x ≡ view old x
-seen_later view old new x longer settled = grind arith
+seen_later = grind arith
 
 -- what is seen of a list
 abbrev pub all_seen : {X Y : Type 0} → (List Text → X → Y) → List Text → List X → List Y
@@ -40,12 +40,12 @@ module _ {X Y : Type 0} (view : List Text → X → Y) (old new : List Text) (xs
       ∙ ap (all_seen view new) (sym is)
 
   pub seen_more : (y : Y) (rest whole : List Y) → view new x ≡ y → all_seen view old xs ++ y ∷ rest ≡ whole → all_seen view new xs' ++ rest ≡ whole
-  seen_more y rest whole here before = grind (arith, map-append, append_assoc)
+  seen_more = grind (arith, map-append, append_assoc)
 
 -- a number that was given keeps its text
 text_kept : (texts more : List Text) (i : ℕ) (t : Text) → slice_get texts i ≡ Some t → slice_index_or (texts ++ more) i [] ≡ slice_index_or texts i []
-text_kept [] more i t given = Prim.cc
-text_kept (u ∷ us) more zero t given = refl
+text_kept [] _ i t given = Prim.cc
+text_kept (u ∷ us) _ zero t given = refl
 text_kept (u ∷ us) more (suc i) t given = text_kept us more i t given
 
 text_given : (texts : List Text) (i : ℕ) (t : Text) → slice_get texts i ≡ Some t → slice_index_or texts i [] ≡ t
@@ -55,10 +55,10 @@ text_given (u ∷ us) (suc i) t given = text_given us i t given
 
 -- a text's label as a tuple of its own
 pub tuple_settled : (texts : List Text) (id : TextId) (t : Text) → slice_get texts id.0 ≡ Some t → IsSettled tuple_value texts (label.Text id ∷ [])
-tuple_settled texts id t given = search text_kept
+tuple_settled = search text_kept
 
 pub tuple_seen : (texts : List Text) (id : TextId) (t : Text) → slice_get texts id.0 ≡ Some t → tuple_value texts (label.Text id ∷ []) ≡ text t ∷ []
-tuple_seen texts id t given = search text_given
+tuple_seen = search text_given
 
 -- what stands after the first
 abbrev pub after : {X : Type 0} → List X → List X
@@ -66,4 +66,4 @@ after xs = take (length xs - 1) (drop 1 xs)
 
 pub first_of : {X : Type 0} (xs : List X) (x : X) → x ≡ get_or xs 0 x → 1 ≤ length xs → xs ≡ x ∷ after xs
 first_of [] x is some = grind arith
-first_of (y ∷ ys) x is some = λ i. sym is i ∷ sym (take_rest (y ∷ ys) 1) i
+first_of (y ∷ ys) x is _ = λ i. sym is i ∷ sym (take_rest (y ∷ ys) 1) i

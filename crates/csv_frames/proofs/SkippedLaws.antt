@@ -9,11 +9,11 @@ use Rattle.{
 
 -- numbers that were passed over
 passed_from : (taken : List Text) (label : Text) (columns k : ℕ) → k + 1 ≤ columns → IsSkipped taken label (k + 1) → k + 1 + first_free taken label columns (k + 1) ≡ 1 + first_free taken label columns 1
-passed_from taken label columns zero le skipped = search
+passed_from _ _ _ zero le skipped = search
 passed_from taken label columns (suc k) le skipped = grind (arith, number_passed, passed_from taken label columns k (omega arith) (λ n some lt. skipped n some (omega arith)))
 
 passed_all : (taken : List Text) (label : Text) (columns n : ℕ) → 1 ≤ n → n ≤ columns → IsSkipped taken label n → n + first_free taken label columns n ≡ 1 + first_free taken label columns 1
-passed_all taken label columns n some le skipped = grind (arith, passed_from)
+passed_all = grind (arith, passed_from)
 
 -- the first number that is free, and the last one
 pub label_found : (taken : List Text) (label t : Text) (n columns : ℕ) → 1 ≤ n → n < columns → IsSkipped taken label n → t ≡ with_number label n → true ≡ is_free taken label n → t ≡ free_label columns taken label
@@ -30,39 +30,39 @@ any-more p [] t any = Prim.cc
 any-more p (u ∷ us) t any = grind (arith, any-more p us t)
 
 not-false : (b : Bool) → not b ≡ false → b ≡ true
-not-false x h = grind arith
+not-false = grind arith
 
 still_taken : (taken taken' : List Text) (t label : Text) (n : ℕ) → taken' ≡ with_text taken t → is_free taken label n ≡ false → is_free taken' label n ≡ false
-still_taken taken taken' t label n is not_free = grind (arith, any-more)
+still_taken = grind (arith, any-more)
 
 pub skipped_later : (taken taken' : List Text) (t label : Text) (n : ℕ) → taken' ≡ with_text taken t → IsSkipped taken label n → IsSkipped taken' label n
-skipped_later taken taken' t label n is skipped = search still_taken
+skipped_later = search still_taken
 
 pub number_within : (texts : List Text) (t : Text) (n : ℕ) → n ≡ number_of texts t → n ≢ length texts → n < length texts
-number_within texts t n is other = grind (arith, prefix_len-le-length)
+number_within = grind (arith, prefix_len-le-length)
 
 is_old : (b : Bool) (n m : ℕ) → nat_eq n m ≡ not b → n ≢ m → b ≡ true
-is_old x n m h other = grind arith
+is_old = grind arith
 
 pub old_text : (texts : List Text) (t : Text) (n : ℕ) → n ≡ number_of texts t → n ≢ length texts → list_any (same_text t) texts ≡ true
 old_text texts t n is other = is_old (list_any (same_text t) texts) n (length texts) (new_number texts t n (length texts) is refl) other
 
 is_not_new : (b : Bool) (n m : ℕ) → nat_eq n m ≡ not b → n ≡ m → b ≡ false
-is_not_new x n m h same = grind arith
+is_not_new = grind arith
 
 pub new_text : (texts : List Text) (t : Text) (n : ℕ) → n ≡ number_of texts t → n ≡ length texts → list_any (same_text t) texts ≡ false
 new_text texts t n is same = is_not_new (list_any (same_text t) texts) n (length texts) (new_number texts t n (length texts) is refl) same
 
 kept : (texts texts' : List Text) (t : Text) → texts' ≡ with_text texts t → list_any (same_text t) texts ≡ true → texts' ≡ texts
-kept texts texts' t put old = cc
+kept _ _ t put old = cc
 
 pub text_numbered : (texts texts' : List Text) (t : Text) (n : ℕ) → texts' ≡ with_text texts t → n ≡ number_of texts t → n ≢ length texts → slice_get texts' n ≡ Some t → slice_index_or texts n [] ≡ t
-text_numbered texts texts' t n put is other given = grind (arith, kept, old_text, slice_get-get_or, number_within, slice_get)
+text_numbered = grind (arith, kept, old_text, slice_get-get_or, number_within, slice_get)
 
 -- a new label, for which no number was tried
 pub skipped_new : (before before' taken taken' : List Text) (next next' : List ℕ) (label : Text) (n : ℕ) → AreSkipped before taken next → before' ≡ with_text before label → taken' ≡ with_text taken label → next' ≡ next ++ 1 ∷ []
     → n ≡ number_of before label → n ≡ length before → AreSkipped before' taken' next'
-skipped_new before before' taken taken' next next' label n inv put takes pushed is same =
+skipped_new before before' taken taken' next _ label n inv put takes pushed is same =
     let more : before' ≡ before ++ label ∷ [] = cc (new_text before label n is same) in
     rw (more, pushed) record {
       count = omega (arith, length-append next (1 ∷ []), length-append before (label ∷ []));
@@ -88,17 +88,17 @@ skipped_new before before' taken taken' next next' label n inv put takes pushed 
 -- a label that stood before, for which numbers were tried
 pub skipped_old : (before before' taken taken' : List Text) (next : List ℕ) (label t : Text) (n m : ℕ) → AreSkipped before taken next → before' ≡ with_text before label → taken' ≡ with_text taken t
     → n ≡ number_of before label → n ≢ length before → slice_get before' n ≡ Some label → 1 ≤ m → IsSkipped taken' label m → AreSkipped before' taken' (slice_set next n m)
-skipped_old before before' taken taken' next label t n m inv put takes is other given some skipped = grind (arith, kept, old_text, length-set, cases_eq, get_or-set_other, text_numbered, skipped_later, slice_set, get_or-set_same, number_within)
+skipped_old = grind (arith, kept, old_text, length-set, cases_eq, get_or-set_other, text_numbered, skipped_later, slice_set, get_or-set_same, number_within)
 
 any_default : (xs : List ℕ) (i d e : ℕ) → i < length xs → slice_index_or xs i d ≡ slice_index_or xs i e
 any_default [] i d e lt = absurd (omega arith)
-any_default (x ∷ xs) zero d e lt = refl
+any_default (x ∷ xs) zero d e _ = refl
 any_default (x ∷ xs) (suc i) d e lt = any_default xs i d e (omega arith)
 
 -- the next number for a label that stood before
 pub next_number_of : (before before' taken : List Text) (next : List ℕ) (label : Text) (n first : ℕ) → AreSkipped before taken next → before' ≡ with_text before label → n ≡ number_of before label → n ≢ length before
     → slice_get before' n ≡ Some label → first ≡ slice_index_or next n first → (1 ≤ first) × IsSkipped taken label first
-next_number_of before before' taken next label n first inv put is other given read =
+next_number_of before before' _ next label n first inv put is other given read =
     let lt = number_within before label n is other in
     let at : first ≡ slice_index_or next n 0 = grind (arith, any_default) in (
       grind arith,
@@ -107,4 +107,4 @@ next_number_of before before' taken next label n first inv put is other given re
 
 -- its label
 pub next_old : (columns : ℕ) (before taken : List Text) (label t : Text) (n : ℕ) → n ≡ number_of before label → n ≢ length before → t ≡ free_label columns taken label → t ≡ next_label columns before taken label
-next_old columns before taken label t n is other free = grind (arith, old_text)
+next_old = grind (arith, old_text)

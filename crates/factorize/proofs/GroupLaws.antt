@@ -31,13 +31,13 @@ module _ (texts : List Text) (keys : List (List Label)) (levels : ℕ) (alike : 
   key_at number = slice_index_or (distinct same_tuple keys) number []
 
   inside : (i : ℕ) → i < how_many → first_row firsts i < length keys
-  inside i lt = search (firsts_inside, tuple_decides, tuple_laws, firsts_counted)
+  inside = search (firsts_inside, tuple_decides, tuple_laws, firsts_counted)
 
   key_there : (i : ℕ) → i < how_many → key_at i ≡ slice_index_or keys (first_row firsts i) []
   key_there i lt = cc (first_keys same_tuple tuple_decides tuple_laws keys [], get_or-map (λ r. slice_index_or keys r []) firsts i 0 [] (omega (arith, firsts_counted, lt)))
 
   below : (i j : ℕ) → i < how_many → j < how_many → tuple_less texts (key_at i) (key_at j) ≡ less i j
-  below i j hi hj = search (key_there, row_agrees, inside)
+  below = search (key_there, row_agrees, inside)
 
   missing : (i : ℕ) → i < how_many → list_any is_na (tuple_seen texts (key_at i)) ≡ holds_na i
   missing i lt = cc (key_there i lt, labels_there texts keys levels (first_row firsts i) alike (inside i lt))
@@ -63,7 +63,7 @@ module _ (texts : List Text) (keys : List (List Label)) (levels : ℕ) (alike : 
     count_is = ap length first ∙ firsts_counted
 
     pub codes_below : (codes : List ℕ) → codes ≡ codes_of same_tuple keys → All (λ code. code < length firsts') codes
-    codes_below codes coded = grind (arith, count_is, All-map (λ code. code < how_many) (place_among same_tuple (distinct same_tuple keys)) keys (λ k d lt. position_in (same_tuple (slice_index_or keys k d)) (distinct same_tuple keys) (all_known same_tuple tuple_laws keys k d lt)))
+    codes_below _ coded = grind (arith, count_is, All-map (λ code. code < how_many) (place_among same_tuple (distinct same_tuple keys)) keys (λ k d lt. position_in (same_tuple (slice_index_or keys k d)) (distinct same_tuple keys) (all_known same_tuple tuple_laws keys k d lt)))
 
     module _ (kept' : List ℕ) (chosen : kept' ≡ kept_numbers sorted dropna (number_less texts keys levels firsts') (λ number. row_holds_na texts keys levels (first_row firsts' number)) (length firsts')) where
       pub kept_is : kept' ≡ kept
@@ -76,7 +76,7 @@ module _ (texts : List Text) (keys : List (List Label)) (levels : ℕ) (alike : 
       groups_counted = ap length kept_is ∙ sym keys_counted
 
       pub rows_are : (rows : List ℕ) → rows ≡ map (first_row firsts') kept' → rows ≡ map (place_among same_tuple keys) (group_keys (seen_rules texts) sorted dropna keys)
-      rows_are rows made = search (kept_is, firsts_kept)
+      rows_are _ made = search (kept_is, firsts_kept)
 
       pub codes_are : (codes : List ℕ) → codes ≡ codes_of same_tuple keys → (made : List (Option ℕ)) → made ≡ recoded (places_of kept' (length firsts')) codes → made ≡ group_codes (seen_rules texts) sorted dropna keys
       codes_are codes coded made is = search (kept_is, count_is, codes_recoded)
@@ -102,4 +102,4 @@ module _ (texts : List Text) (keys : List (List Label)) (sorted dropna : Bool) w
 
   pub law_of : (rows : List ℕ) (codes : List (Option ℕ)) → rows ≡ map (place_among same_tuple keys) group_tuples → codes ≡ group_codes (seen_rules texts) sorted dropna keys
       → AreGroups (seen_rules texts) sorted dropna keys (tuples_at keys rows) codes
-  law_of rows codes first coded = grind (arith, tuples_there, are_groups (seen_rules texts) tuple_laws (ranks_by (lists_total label_total) (tuple_seen texts)) (λ a b e. ap (λ key. list_any is_na (tuple_seen texts key)) ((tuple_decides a b).0 e)) sorted dropna keys)
+  law_of _ _ first coded = grind (arith, tuples_there, are_groups (seen_rules texts) tuple_laws (ranks_by (lists_total label_total) (tuple_seen texts)) (λ a b e. ap (λ key. list_any is_na (tuple_seen texts key)) ((tuple_decides a b).0 e)) sorted dropna keys)

@@ -45,7 +45,7 @@ module _ (texts : List Text) (sorted : Bool) (rows : List (List Label)) where
     ordered_counted = search (groups_counted, chosen)
 
     pub renumbered : (codes made : List ℕ) → codes ≡ codes_of same_tuple rows → made ≡ map number_in (recoded (places_of ordered (length firsts)) codes) → made ≡ map (place_among same_tuple keys) rows
-    renumbered codes made coded is = grind (arith, codes_are texts rows levels alike sorted false firsts first ordered chosen codes coded (recoded (places_of ordered (length firsts)) codes) (λ i. recoded (places_of ordered (length firsts)) codes), groups_are, map_map, map-id)
+    renumbered codes _ coded is = grind (arith, codes_are texts rows levels alike sorted false firsts first ordered chosen codes coded (recoded (places_of ordered (length firsts)) codes) (λ i. recoded (places_of ordered (length firsts)) codes), groups_are, map_map, map-id)
 
 -- numbers by first sight
 module _ (texts : List Text) (rows : List (List Label)) (sorted : Bool) (unsorted : sorted ≡ false) where
@@ -56,13 +56,13 @@ module _ (texts : List Text) (rows : List (List Label)) (sorted : Bool) (unsorte
   sight = grind (arith, keys_are)
 
   pub sight_counted : (firsts : List ℕ) → firsts ≡ first_rows same_tuple rows → length firsts ≡ length (keys texts sorted rows)
-  sight_counted firsts first = grind (arith, length-map, sight)
+  sight_counted = grind (arith, length-map, sight)
 
   pub sight_firsts : (firsts : List ℕ) → firsts ≡ first_rows same_tuple rows → firsts ≡ map (place_among same_tuple rows) (keys texts sorted rows)
-  sight_firsts firsts first = cc sight
+  sight_firsts _ first = cc sight
 
   pub sight_numbers : (codes : List ℕ) → codes ≡ codes_of same_tuple rows → codes ≡ map (place_among same_tuple (keys texts sorted rows)) rows
-  sight_numbers codes coded = cc sight
+  sight_numbers _ coded = cc sight
 
   pub sight_codes : (codes : List ℕ) → codes ≡ codes_of same_tuple rows → map Some codes ≡ group_codes (seen_rules texts) sorted false rows
   sight_codes codes coded = cc (sight_numbers codes coded, groups_are texts sorted rows)
@@ -70,7 +70,7 @@ module _ (texts : List Text) (rows : List (List Label)) (sorted : Bool) (unsorte
 -- groups by first sight, where no row is left out
 module _ (texts : List Text) (rows : List (List Label)) (sorted dropna : Bool) (unsorted : sorted ≡ false) (whole : dropna ≡ false) where
   pub all_counted : (firsts : List ℕ) → firsts ≡ first_rows same_tuple rows → length firsts ≡ length (group_keys (seen_rules texts) sorted dropna rows)
-  all_counted firsts first = grind (arith, sight_counted)
+  all_counted = grind (arith, sight_counted)
 
   pub all_codes : (codes : List ℕ) → codes ≡ codes_of same_tuple rows → map Some codes ≡ group_codes (seen_rules texts) sorted dropna rows
   all_codes codes coded = cc (sight_codes texts rows sorted unsorted codes coded, whole)

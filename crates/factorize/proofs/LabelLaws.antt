@@ -16,13 +16,12 @@ use Rattle.cell_core.specs.declared.cell.Label.TheVariants as label
 pub labels_there : (texts : List Text) (keys : List (List Label)) (levels row : ℕ) → HaveLevels levels keys → row < length keys → labels_of texts keys levels row ≡ tuple_seen texts (slice_index_or keys row [])
 labels_there texts keys levels row alike lt =
     let key = slice_index_or keys row [] in
-    let size = alike row [] lt in
     same_lists (labels_of texts keys levels row) (tuple_seen texts key) (grind (arith, labels_counted, length-map))
     (λ k d inside.
     let below : k < levels = omega (arith, labels_counted texts keys levels row, inside) in
     label_there texts keys levels row k d below
     ∙ sym (get_or-map (label_datum texts) key k label.Na)
-    ∙ get_or_default (tuple_seen texts key) k (label_datum texts label.Na) d (omega (arith, below, size, length-map key (label_datum texts))))
+    ∙ get_or_default (tuple_seen texts key) k (label_datum texts label.Na) d (omega (arith, below, (alike row [] lt), length-map key (label_datum texts))))
 
 -- the keys of columns
 pub columns_alike : (columns : List CellColumn) (count : ℕ) → HaveLevels (length columns) (column_keys columns count)
@@ -31,17 +30,17 @@ columns_alike columns count =
     (λ k d lt. length-map columns (λ column. label_of_cell (slice_index_or column.cells (slice_index_or (range_with_len 0 count) k d) cell.Na)))
 
 pub columns_counted : (columns : List CellColumn) (count : ℕ) → count ≡ length (column_keys columns count)
-columns_counted columns count = search length-map-range_with_len
+columns_counted = search length-map-range_with_len
 
 key_of_row : (columns : List CellColumn) (count row : ℕ) → row < count → slice_index_or (column_keys columns count) row [] ≡ row_key columns row
-key_of_row columns count row lt = grind (arith, get_or-map-range_with_len)
+key_of_row = grind (arith, get_or-map-range_with_len)
 
 pub column_label : (columns : List CellColumn) (count row level : ℕ) (d : CellColumn) (c : Cell) → row < count → level < length columns → slice_get (slice_index_or columns level d).cells row ≡ Some c
     → label_of_cell c ≡ label_in level (slice_index_or (column_keys columns count) row [])
-column_label columns count row level d c below inside here = grind (arith, get_or_from_slice_get, key_of_row, get_or-map-at)
+column_label = grind (arith, get_or_from_slice_get, key_of_row, get_or-map-at)
 
 pub no_column : (columns : List CellColumn) (count row level : ℕ) → row < count → length columns ≤ level → label.Na ≡ label_in level (slice_index_or (column_keys columns count) row [])
-no_column columns count row level below le = search (key_of_row, get_or_past, length-map)
+no_column = search (key_of_row, get_or_past, length-map)
 
 pub no_row : (keys : List (List Label)) (row level : ℕ) → length keys ≤ row → label.Na ≡ label_in level (slice_index_or keys row [])
-no_row keys row level le = search get_or_past
+no_row = search get_or_past

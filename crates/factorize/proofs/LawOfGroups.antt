@@ -18,21 +18,21 @@ none_at p (x ∷ xs) all =
     omega (arith, here, none_at p xs (All-tail (λ y. p y ≡ false) x xs all))
 
 any_put_in : {X : Type 0} (p : X → Bool) (less : X → X → Bool) (x : X) (ys : List X) → list_any p (put_in less x ys) ≡ (p x || list_any p ys)
-any_put_in p less x [] = refl
+any_put_in p _ x [] = refl
 any_put_in p less x (y ∷ ys) = grind (arith, any_put_in p less x ys)
 
 pub any_in_order : {X : Type 0} (p : X → Bool) (less : X → X → Bool) (xs : List X) → list_any p (in_order less xs) ≡ list_any p xs
-any_in_order p less [] = refl
+any_in_order p _ [] = refl
 any_in_order p less (x ∷ xs) = search (any_put_in, any_in_order p less xs)
 
 -- an element that passes is left by a filter that keeps all such elements
 any_kept : {X : Type 0} (p r : X → Bool) → ((q : X) → p q ≡ true → r q ≡ true) → (xs : List X) → list_any p (filter r xs) ≡ list_any p xs
-any_kept p r keeps [] = refl
+any_kept p r _ [] = refl
 any_kept p r keeps (x ∷ xs) = grind (arith, false≢true, any_kept p r keeps xs)
 
 module _ {K : Type 0} (same : K → K → Bool) (laws : IsEquivalence same) where
   apart_filter : (p : K → Bool) (ks : List K) → Apart same ks → Apart same (filter p ks)
-  apart_filter p [] apart = tt
+  apart_filter p [] _ = tt
   apart_filter p (k ∷ ks) apart = elim (p k) as (λ b. Apart same (cond b (k ∷ filter p ks) (filter p ks))) [
     | true ↦ (All-filter p (λ q. not (same q k) ≡ true) ks apart.0, apart_filter p ks apart.1)
     | false ↦ apart_filter p ks apart.1
@@ -40,7 +40,7 @@ module _ {K : Type 0} (same : K → K → Bool) (laws : IsEquivalence same) wher
 
   module _ (less : K → K → Bool) where
     apart_put_in : (x : K) (ys : List K) → All (λ q. not (same q x) ≡ true) ys → Apart same ys → Apart same (put_in less x ys)
-    apart_put_in x [] other apart = (other, tt)
+    apart_put_in x [] other _ = (other, tt)
     apart_put_in x (y ∷ ys) other apart = elim (less y x) as (λ b. Apart same (cond b (y ∷ put_in less x ys) (x ∷ y ∷ ys))) [
       | true ↦ (
         all_put_in (λ q. not (same q y) ≡ true) less x ys (ap not (laws.symm x y) ∙ All-head (λ q. not (same q x) ≡ true) y ys other) apart.0,
@@ -50,17 +50,17 @@ module _ {K : Type 0} (same : K → K → Bool) (laws : IsEquivalence same) wher
     ]
 
     apart_in_order : (xs : List K) → Apart same xs → Apart same (in_order less xs)
-    apart_in_order [] apart = tt
+    apart_in_order [] _ = tt
     apart_in_order (x ∷ xs) apart = apart_put_in x (in_order less xs) (all_in_order (λ q. not (same q x) ≡ true) less xs apart.0) (apart_in_order xs apart.1)
 
   -- a key's place among keys of which no two are the same
   module _ (keys : List K) (apart : Apart same keys) where
     place_is : (g : ℕ) (d k : K) → g < length keys → same (slice_index_or keys g d) k ≡ true → position_or_len (same k) keys ≡ g
-    place_is g d k lt e = grind (arith, position_or_len_is, apart_at)
+    place_is = grind (arith, position_or_len_is, apart_at)
 
     -- a key is in the group whose key it is
     pub told : (g : ℕ) (d k : K) → g < length keys → is_in g (group_of same keys k) ≡ same (slice_index_or keys g d) k
-    told g d k lt = grind (arith, place_is, there, eq-eqb, cases_lt, eqb-true, passes_at_first, false≢true)
+    told = grind (arith, place_is, there, eq-eqb, cases_lt, eqb-true, passes_at_first, false≢true)
 
 module _ {K : Type 0} (rules : KeyRules K) (laws : IsEquivalence rules.same) (weak : IsStrictWeakOrder rules.less) (respects : (a b : K) → rules.same a b ≡ true → rules.holds_na a ≡ rules.holds_na b) (sorted dropna : Bool) (rows : List K) where
   abbrev distinct_keys : List K
@@ -86,10 +86,10 @@ module _ {K : Type 0} (rules : KeyRules K) (laws : IsEquivalence rules.same) (we
     coded = grind (arith, get_or-map)
 
     in_group : kept key ≡ true → HasGroup rules rows keys codes row d
-    in_group keeps = grind (arith, any_kept, any_in_order, all_known, position_in, there, coded, passes_at_first)
+    in_group = grind (arith, any_kept, any_in_order, all_known, position_in, there, coded, passes_at_first)
 
     in_none : kept key ≡ false → slice_index_or codes row None ≡ None
-    in_none leaves = grind (arith, coded, none_at, true≢false, filter_passes)
+    in_none = grind (arith, coded, none_at, true≢false, filter_passes)
 
   rows_of : (group : ℕ) (d : K) → group < length keys → rows_of_group group codes ≡ rows_where (rules.same (slice_index_or keys group d)) 0 rows
   rows_of group d lt = rows_where-map (λ k. Unit {0}) (is_in group) (rules.same (slice_index_or keys group d)) (group_of rules.same keys) (λ k _. told rules.same laws keys keys_apart group d k lt) 0 rows (λ k d' below. tt)
@@ -116,21 +116,21 @@ module _ {X : Type 0} (wrong : X → X → Bool) where
   Rises (x ∷ xs) = All (λ y. wrong y x ≡ false) xs × Rises xs
 
   rises_at : (xs : List X) → Rises xs → (i j : ℕ) (d : X) → i < j → j < length xs → wrong (slice_index_or xs j d) (slice_index_or xs i d) ≡ false
-  rises_at [] up i j d lt inside = grind arith
-  rises_at (x ∷ xs) up zero zero d lt inside = grind arith
-  rises_at (x ∷ xs) up zero (suc j) d lt inside = grind arith
-  rises_at (x ∷ xs) up (suc i) zero d lt inside = grind arith
-  rises_at (x ∷ xs) up (suc i) (suc j) d lt inside = grind (arith, rises_at xs up.1)
+  rises_at [] up i j = grind arith
+  rises_at (x ∷ xs) up zero zero = grind arith
+  rises_at (x ∷ xs) up zero (suc j) = grind arith
+  rises_at (x ∷ xs) up (suc i) zero = grind arith
+  rises_at (x ∷ xs) up (suc i) (suc j) = grind (arith, rises_at xs up.1)
 
   rises_filter : (p : X → Bool) (xs : List X) → Rises xs → Rises (filter p xs)
-  rises_filter p [] up = tt
+  rises_filter p [] _ = tt
   rises_filter p (x ∷ xs) up = elim (p x) as (λ b. Rises (cond b (x ∷ filter p xs) (filter p xs))) [
     | true ↦ (All-filter p (λ y. wrong y x ≡ false) xs up.0, rises_filter p xs up.1)
     | false ↦ rises_filter p xs up.1
   ]
 
 in_order_rises : {X : Type 0} (less : X → X → Bool) → IsStrictWeakOrder less → (xs : List X) → Rises less (in_order less xs)
-in_order_rises {X} less weak [] = tt
+in_order_rises {X} _ _ [] = tt
 in_order_rises {X} less weak (x ∷ xs) = put x (in_order less xs) (in_order_rises less weak xs)
   where
     put : (x : X) (ys : List X) → Rises less ys → Rises less (put_in less x ys)
@@ -170,7 +170,7 @@ module _ {K : Type 0} (rules : KeyRules K) (laws : IsEquivalence rules.same) (we
 -- what group_keys and group_codes say are groups
 pub are_groups : {K : Type 0} (rules : KeyRules K) (laws : IsEquivalence rules.same) (weak : IsStrictWeakOrder rules.less) (respects : (a b : K) → rules.same a b ≡ true → rules.holds_na a ≡ rules.holds_na b) (sorted dropna : Bool) (rows : List K)
     → AreGroups rules sorted dropna rows (group_keys rules sorted dropna rows) (group_codes rules sorted dropna rows)
-are_groups {K} rules laws weak respects sorted dropna rows = record {
+are_groups {K} rules laws weak respects _ _ _ = record {
   each_row = search length-map;
   in_group = search in_group;
   in_none = search in_none;

@@ -62,7 +62,7 @@ module _ {K : Type 0} (rules : KeyRules K) (laws : IsEquivalence rules.same) (d 
         ])
 
     kept_agrees : (i : ℕ) → IsNumber i → is_kept dropna rules.holds_na (key_at i) ≡ is_kept dropna holds_na i
-    kept_agrees i lt = grind arith
+    kept_agrees = grind arith
 
     -- the keys of the groups are those of the numbers that are kept
     pub keys_kept : group_keys rules sorted dropna rows ≡ map key_at kept

@@ -9,53 +9,52 @@ use Rattle.{
 
 module _ {X : Type 0} (p : X → Bool) where
   pub there : (xs : List X) → position_or_len p xs < length xs → position p xs ≡ Some (position_or_len p xs)
-  there xs lt = search lt-ltb
+  there = search lt-ltb
 
   pub nowhere : (xs : List X) → length xs ≤ position_or_len p xs → position p xs ≡ None
-  nowhere xs le = search le-ltb
+  nowhere = search le-ltb
 
   module _ (xs : List X) (y : X) where
     place_stays : position_or_len p xs < length xs → position_or_len p (xs ++ y ∷ []) ≡ position_or_len p xs
-    place_stays lt = grind (arith, position_or_len_push, ne_eqb)
+    place_stays = grind (arith, position_or_len_push, ne_eqb)
 
     few : position_or_len p xs ≤ length xs
     few = search prefix-le
 
     place_at_end : length xs ≤ position_or_len p xs → position_or_len p (xs ++ y ∷ []) ≡ length xs + cond (p y) 0 1
-    place_at_end le = grind (arith, position_or_len_push, eq-eqb, few)
+    place_at_end = grind (arith, position_or_len_push, eq-eqb, few)
 
     longer : length (xs ++ y ∷ []) ≡ length xs + 1
     longer = length-append xs (y ∷ [])
 
     stays : position_or_len p xs < length xs → position p (xs ++ y ∷ []) ≡ position p xs
-    stays lt = grind (arith, there, place_stays, longer)
+    stays = grind (arith, there, place_stays, longer)
 
   -- a place is one of the list
   pub place_inside : (xs : List X) → IsPlaceOf (length xs) (position p xs)
-  place_inside xs = grind (arith, cases_lt, there, nowhere)
+  place_inside = grind (arith, cases_lt, there, nowhere)
 
 -- where each number first stands, with one number more
 module _ (numbers : List ℕ) (count number : ℕ) (before after : List (Option ℕ)) (below : number < count) (size : length before ≡ count)
     (were : (n : ℕ) → n < count → slice_index_or before n None ≡ position (λ k. n == k) numbers) (is : after ≡ placed before number (length numbers)) where
   other : (n : ℕ) → (n == number) ≡ false → slice_index_or after n None ≡ slice_index_or before n None
-  other n e = grind (arith, get_or-set_other, eqb-false)
+  other = grind (arith, get_or-set_other, eqb-false)
 
   here : (o : Option ℕ) → slice_index_or before number None ≡ o → slice_index_or after number None ≡ position (λ k. number == k) (numbers ++ number ∷ [])
-  here x e = grind (arith, get_or-set_same, cases_lt, there, place_at_end, longer, eq-eqb, stays, nowhere)
+  here = grind (arith, get_or-set_same, cases_lt, there, place_at_end, longer, eq-eqb, stays, nowhere)
 
   pub placed_more : (n : ℕ) → n < count → slice_index_or after n None ≡ position (λ k. n == k) (numbers ++ number ∷ [])
-  placed_more n lt = grind (arith, eqb-true, here, other, cases_lt, stays, nowhere, place_at_end, longer)
+  placed_more = grind (arith, eqb-true, here, other, cases_lt, stays, nowhere, place_at_end, longer)
 
 pub codes_placed : (kept : List ℕ) (count : ℕ) (places : List (Option ℕ)) (codes : List ℕ) → places ≡ places_of kept count → All (λ code. code < count) codes → All (λ code. code < length places) codes
-codes_placed kept count places codes is = grind (arith, length-map-range_with_len)
+codes_placed = grind (arith, length-map-range_with_len)
 
 pub recoded_inside : (kept : List ℕ) (count : ℕ) (codes : List ℕ) → All (λ code. code < count) codes → All (IsPlaceOf (length kept)) (recoded (places_of kept count) codes)
 recoded_inside kept count codes below =
     All-map (IsPlaceOf (length kept)) (λ number. slice_index_or (places_of kept count) number None) codes
     (λ k d lt.
-    let code = slice_index_or codes k d in
     subst (IsPlaceOf (length kept)) (grind (arith, get_or-map-range_with_len))
-    (place_inside (λ i. code == i) kept))
+    (place_inside (λ i. (slice_index_or codes k d) == i) kept))
 
 -- numbers are recoded one by one
 pub all_recoded : (places : List (Option ℕ)) (codes made : List ℕ) → length made ≡ length codes

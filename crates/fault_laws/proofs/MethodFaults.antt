@@ -1,11 +1,11 @@
 -- No method has the fault that a file isn't there.
 use Rattle.{
-  std.specs.Prelude.{ℕ, ℤ, Bool, true, false, List, [], ◌∷◌, Option, Some, None, Result, Ok, Err},
-  cell_core.specs.declared.{cell.Kind.{Kind}, grid.Shape.{Shape, TheVariants.{Series, Frame}}},
-  meaning.specs.{Text.{Text}, Cell.{CellValue, int_cell, text_cell, LabelValue}, Column.{ColumnFault}, Fault.{FaultValue}},
-  table_meaning.specs.{Table.{ColumnOf, Table}, Value.{Entry, cell, table, Given, GivenList, NamedGiven, nothing}},
+  std.{proofs.Common.{arith}, specs.Prelude.{ℤ, Bool, true, false, List, [], ◌∷◌, Option, Result}},
+  cell_core.specs.declared.grid.Shape.{Shape, TheVariants.{Series, Frame}},
+  meaning.specs.{Text.{Text}, Cell.{CellValue, LabelValue}, Fault.{FaultValue}},
+  table_meaning.specs.{Table.{ColumnOf, Table}, Value.{Entry, Given, GivenList, NamedGiven}},
   form_meaning.specs.declared.Method.{Method},
-  method_meaning.specs.{Rows.{head_result, tail_result, labels_in, subset_places, duplicated_result, sort_by_result, drop_result}, Methods.{each_column, filled_column, Summary, reduced, distinct, made_cell, summary_cell, summary_as, summary_of, renamed_frame, as_frame, reset_index_result, csv_answer, answer_for}, Levels.{rename_axis_result, index_set, set_index_result, renumbered, levels_reset, level_of, level_gone, droplevel_result, swaplevel_result}, Reindex.{reindex_rows, reindex_columns, reindex_result}, Section.{xs_result}, Calls.{ChainValue, called, method_result, not_built_if, chain_result}},
+  method_meaning.specs.{Rows.{head_result, tail_result, subset_places, duplicated_result, sort_by_result, drop_result}, Methods.{each_column, filled_column, Summary, summary_cell, summary_of, renamed_frame, reset_index_result, csv_answer, answer_for}, Levels.{rename_axis_result, set_index_result, renumbered, level_of, droplevel_result, swaplevel_result}, Reindex.{reindex_rows, reindex_columns, reindex_result}, Section.{xs_result}, Calls.{ChainValue, method_result, chain_result}},
   fault_laws.{specs.FormFault.{HasFormFault}, proofs.{GroupFaults.{grouped_result_fault}, FormFaults.{if_fault, then_value_fault, of_length_fault, unless_repeated_fault, met_rows_fault, list_column_fault, on_bound_fault, limited_fault, finished_fault, column_fault, made_column_fault, try_all_fault, found_fault, column_places_fault, on_fault}, SelectFaults.{found_pick_fault, whole_items_fault}}},
 }
 use Rattle.form_meaning.specs.declared.Method.TheVariants as method
@@ -14,99 +14,78 @@ use Rattle.form_meaning.specs.declared.RowMethod.TheVariants as row_method
 use Rattle.form_meaning.specs.declared.LevelMethod.TheVariants as level_method
 use Rattle.form_meaning.specs.declared.LabelMethod.TheVariants as label_method
 use Rattle.form_meaning.specs.declared.TableMethod.TheVariants as table_method
-use Rattle.method_meaning.specs.Calls as call
 
 -- cells, column by column
 each_column_fault : (f : ColumnOf CellValue → Result (ColumnOf CellValue) FaultValue) (t : Table) → ((c : ColumnOf CellValue) → HasFormFault (f c)) → HasFormFault (each_column f t)
-each_column_fault f t each = search (then_value_fault, try_all_fault, limited_fault)
+each_column_fault = search (then_value_fault, try_all_fault, limited_fault)
 
 filled_column_fault : (value : CellValue) (c : ColumnOf CellValue) → HasFormFault (filled_column value c)
-filled_column_fault value c = search (if_fault)
-
-made_cell_fault : (r : Result CellValue ColumnFault) → HasFormFault (made_cell r)
-made_cell_fault (Ok c) = tt
-made_cell_fault (Err f) = column_fault f
+filled_column_fault = search (if_fault)
 
 summary_cell_fault : (op : Summary) (c : ColumnOf CellValue) → HasFormFault (summary_cell op c)
-summary_cell_fault (reduced op) c = made_cell_fault _
-summary_cell_fault distinct c = tt
-
-summary_as_fault : (op : Summary) (kind : Kind) (c : ColumnOf CellValue) → HasFormFault (summary_as op kind c)
-summary_as_fault op kind c = search (if_fault, summary_cell_fault)
+summary_cell_fault = grind (arith, column_fault)
 
 summary_of_fault : (s : Shape) (op : Summary) (t : Table) → HasFormFault (summary_of s op t)
 summary_of_fault Series op t = then_value_fault _ _ (summary_cell_fault op _) (λ c. tt)
-summary_of_fault Frame op t = search (then_value_fault, try_all_fault, summary_as_fault, limited_fault)
+summary_of_fault Frame _ t = search (then_value_fault, try_all_fault, if_fault, summary_cell_fault, limited_fault)
 
 renamed_frame_fault : (t : Table) (pairs : List (LabelValue × Given)) → HasFormFault (renamed_frame t pairs)
-renamed_frame_fault t pairs = search (if_fault, finished_fault)
+renamed_frame_fault = search (if_fault, finished_fault)
 
 csv_answer_fault : (index : Bool) (t : Table) → HasFormFault (csv_answer index t)
-csv_answer_fault index t = search (if_fault)
+csv_answer_fault = search (if_fault)
 
 -- rows, and columns by their labels
 head_fault : (t : Table) (n : ℤ) → HasFormFault (head_result t n)
-head_fault t n = search (limited_fault)
+head_fault = search (limited_fault)
 
 tail_fault : (t : Table) (n : ℤ) → HasFormFault (tail_result t n)
-tail_fault t n = search (if_fault, limited_fault)
+tail_fault = search (if_fault, limited_fault)
 
 subset_fault : (t : Table) (subset : Given) → HasFormFault (subset_places t subset)
-subset_fault t nothing = tt
-subset_fault t subset = column_places_fault t (labels_in subset)
+subset_fault = grind (arith, column_places_fault)
 
 duplicated_fault : (t : Table) (subset : Given) → HasFormFault (duplicated_result t subset)
-duplicated_fault t subset = search (then_value_fault, subset_fault, limited_fault)
+duplicated_fault = search (then_value_fault, subset_fault, limited_fault)
 
 sort_by_fault : (t : Table) (ascending : Bool) (by : Given) → HasFormFault (sort_by_result t ascending by)
-sort_by_fault t ascending by = search (then_value_fault, column_places_fault, limited_fault)
+sort_by_fault = search (then_value_fault, column_places_fault, limited_fault)
 
 drop_fault : (t : Table) (columns : Given) → HasFormFault (drop_result t columns)
-drop_fault t columns = search (then_value_fault, column_places_fault, finished_fault)
+drop_fault = search (then_value_fault, column_places_fault, finished_fault)
 
 -- levels
 rename_axis_fault : (t : Table) (names : Given) → HasFormFault (rename_axis_result t names)
-rename_axis_fault t names = search (of_length_fault, limited_fault)
-
-index_set_fault : (t : Table) (places : List ℕ) → HasFormFault (index_set t places)
-index_set_fault t places = search (unless_repeated_fault, if_fault, limited_fault)
+rename_axis_fault = search (of_length_fault, limited_fault)
 
 set_index_fault : (t : Table) (keys : Given) → HasFormFault (set_index_result t keys)
-set_index_fault t keys = search (then_value_fault, column_places_fault, index_set_fault)
-
-levels_reset_fault : (t : Table) → HasFormFault (levels_reset t)
-levels_reset_fault t = search (then_value_fault, try_all_fault, list_column_fault, finished_fault)
+set_index_fault = search (then_value_fault, column_places_fault, unless_repeated_fault, if_fault, limited_fault)
 
 reset_index_fault : (t : Table) (drop : Bool) → HasFormFault (reset_index_result t drop)
 reset_index_fault t true = limited_fault (renumbered t)
-reset_index_fault t false = levels_reset_fault (as_frame t)
+reset_index_fault t false = search (then_value_fault, try_all_fault, list_column_fault, finished_fault)
 
 level_of_fault : (t : Table) (level : Option CellValue) → HasFormFault (level_of t level)
-level_of_fault t (Some (int_cell z)) = found_pick_fault _
-level_of_fault t (Some (text_cell name)) = found_fault _ _
-level_of_fault t level = tt
+level_of_fault = grind (arith, found_pick_fault, found_fault)
 
 droplevel_fault : (t : Table) (level : Option CellValue) → HasFormFault (droplevel_result t level)
-droplevel_fault t level = then_value_fault (level_of t level) (level_gone t) (level_of_fault t level) (λ k. search (if_fault, limited_fault))
+droplevel_fault = search (then_value_fault, level_of_fault, if_fault, limited_fault)
 
 swaplevel_fault : (t : Table) (i j : Option CellValue) → HasFormFault (swaplevel_result t i j)
-swaplevel_fault t i j = search (then_value_fault, level_of_fault, limited_fault)
+swaplevel_fault = search (then_value_fault, level_of_fault, limited_fault)
 
 -- rows or columns by labels
 reindex_rows_fault : (t : Table) (items : GivenList) → HasFormFault (reindex_rows t items)
-reindex_rows_fault t items = search (then_value_fault, whole_items_fault, met_rows_fault, limited_fault)
+reindex_rows_fault = search (then_value_fault, whole_items_fault, met_rows_fault, limited_fault)
 
 reindex_columns_fault : (t : Table) (items : GivenList) → HasFormFault (reindex_columns t items)
-reindex_columns_fault t items = search (then_value_fault, whole_items_fault, met_rows_fault, finished_fault)
+reindex_columns_fault = search (then_value_fault, whole_items_fault, met_rows_fault, finished_fault)
 
 reindex_fault : (t : Table) (rows columns : Option GivenList) → HasFormFault (reindex_result t rows columns)
-reindex_fault t (Some items) None = reindex_rows_fault t items
-reindex_fault t None (Some items) = reindex_columns_fault t items
-reindex_fault t None None = tt
-reindex_fault t (Some items) (Some others) = tt
+reindex_fault = grind (arith, reindex_rows_fault, reindex_columns_fault)
 
 xs_fault : (t : Table) (key : CellValue) (level : Option CellValue) → HasFormFault (xs_result t key level)
-xs_fault t key level = search (if_fault, then_value_fault, level_of_fault, found_pick_fault, limited_fault)
+xs_fault = search (if_fault, then_value_fault, level_of_fault, found_pick_fault, limited_fault)
 
 ruleset answers = (
   on_fault,
@@ -134,30 +113,18 @@ ruleset answers = (
 
 -- by the method, and by how many arguments it has; the first lines have the methods of a family told apart
 answer_for_fault : (m : Method) (gs : List Given) (t : Table) → HasFormFault (answer_for m gs t)
-answer_for_fault (method.Columns column_method.Isna) gs t = search answers
-answer_for_fault (method.Rows row_method.Dropna) gs t = search answers
+answer_for_fault (method.Columns column_method.Isna) _ t = search answers
+answer_for_fault (method.Rows row_method.Dropna) _ t = search answers
 answer_for_fault (method.Levels level_method.SetIndex) [] t = tt
 answer_for_fault (method.Labels label_method.Xs) [] t = tt
-answer_for_fault (method.Table table_method.Copy) gs t = search answers
+answer_for_fault (method.Table table_method.Copy) _ t = search answers
 answer_for_fault m [] t = search answers depth 9
 answer_for_fault m (a ∷ []) t = search answers depth 9
 answer_for_fault m (a ∷ b ∷ []) t = search answers depth 9
-answer_for_fault m gs t = search answers
-
--- calls of methods
-called_fault : (m : Option Method) (name : Text) (gs : List NamedGiven) (t : Table) → HasFormFault (called m name gs t)
-called_fault None name gs t = tt
-called_fault (Some m) name gs t = search (if_fault, on_bound_fault, answer_for_fault)
+answer_for_fault m _ t = search answers
 
 pub method_result_fault : (v : Entry) (name : Text) (gs : List NamedGiven) → HasFormFault (method_result v name gs)
-method_result_fault (cell c) name gs = tt
-method_result_fault (table t) name gs = called_fault _ name gs t
-
-not_built_if_fault : (b : Bool) (name : Text) → HasFormFault (not_built_if b name)
-not_built_if_fault true name = tt
-not_built_if_fault false name = tt
+method_result_fault = grind (arith, if_fault, on_bound_fault, answer_for_fault)
 
 pub chain_result_fault : (v : Entry) (chain : ChainValue) (gs : List NamedGiven) → HasFormFault (chain_result v chain gs)
-chain_result_fault v (call.plain name) gs = method_result_fault v name gs
-chain_result_fault v (call.grouped by brackets name) gs = grouped_result_fault v by brackets name gs
-chain_result_fault v (call.through name) gs = not_built_if_fault _ name
+chain_result_fault = grind (arith, method_result_fault, grouped_result_fault)

@@ -22,7 +22,7 @@ module _ (f : Label → LabelValue) where
   pub labels_more : (line with_comma with_label whole : List ℕ) (key : List Label) (level : ℕ) (l : Label)
       → line ++ more_labels (map f (drop level key)) ≡ whole → slice_get key level ≡ Some l → with_comma ≡ line ++ codes ", " → with_label ≡ with_comma ++ label_text (f l)
       → with_label ++ more_labels (map f (drop (level + 1) key)) ≡ whole
-  labels_more line with_comma with_label whole key level l so_far is comma label =
+  labels_more line _ _ _ key level l so_far is comma label =
       let rest = more_labels (map f (drop (level + 1) key)) in
       ap (λ t. t ++ rest) (label ∙ ap (λ t. t ++ label_text (f l)) comma)
       ∙ append_assoc (line ++ codes ", ") (label_text (f l)) rest

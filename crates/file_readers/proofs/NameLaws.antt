@@ -1,34 +1,21 @@
 -- The first argument of a call as a name.
 use Rattle.{
-  std.{proofs.Common.{◌≡◌, ◌∙◌, refl, ap, sym, List, [], Option, Some, None, Ok}, specs.Option.{option_map}},
+  std.{proofs.Common.{arith, ◌≡◌, ap, List, [], Option, Some, None, Ok}, specs.Option.{option_map}},
   cell_core.specs.declared.cell.TextId.{TextId},
   meaning.specs.{Text.{Text}, Cell.{text_cell, datum}},
   table_meaning.specs.{Settled.{IsSettled}, Value.{NamedGiven, scalar_in}},
   form_meaning.specs.{declared.Function.{Function}, Signature.{function_parameters}, Binding.{bound, bound_of, argument_at, arguments_from, text_of, text_in}},
   method_meaning.specs.Readers.{name_in, name_of_bound, file_name_of},
-  frame_store.specs.{Arguments.{arguments_of}, World.{World, arguments_in}},
-  signatures.{specs.{Bound.{given_in, stands_at, Tells}, declared.bound.Bound.{Bound}}, proofs.ToldLaws.{told_settled}},
+  frame_store.specs.{Arguments.{arguments_of}, World.{World}},
+  signatures.{specs.{Bound.{given_in, Tells}, declared.bound.Bound.{Bound}}, proofs.ToldLaws.{told_settled}},
   file_readers.specs.Names.{Names},
 }
 use Rattle.cell_core.specs.declared.cell.Cell.TheVariants as cell
-use Rattle.form_meaning.specs.declared.Function.TheVariants as function
 
 -- where arguments are bound, the name is the first
 first_of : (f : Function) (gs : List NamedGiven)
     → name_of_bound (bound (arguments_from (function_parameters f) gs 0 (function_parameters f))) ≡ name_in (text_in (argument_at (function_parameters f) gs 0))
-first_of function.Series gs = refl
-first_of function.DataFrame gs = refl
-first_of function.ReadCsv gs = refl
-first_of function.Concat gs = refl
-
-name_is : (f : Function) (gs : List NamedGiven) (w : World) (b : Bound) → b.parameters.now ≡ function_parameters f → bound_of (function_parameters f) gs ≡ bound (given_in w b)
-    → file_name_of f gs ≡ name_in (text_in (stands_at w.tables w.texts b 0))
-name_is f gs w b is same =
-    let given = arguments_in w b.args.now in
-    ap name_of_bound same
-    ∙ ap (λ p. name_of_bound (bound (arguments_from p given 0 p))) is
-    ∙ first_of f given
-    ∙ ap (λ p. name_in (text_in (argument_at p given 0))) (sym is)
+first_of = grind arith
 
 abbrev text_or : Option Text → Text
 text_or None = []
@@ -36,7 +23,7 @@ text_or (Some t) = t
 
 pub name_given : (f : Function) (gs : List NamedGiven) (w : World) (b : Bound) (id : TextId) → b.parameters.now ≡ function_parameters f → bound_of (function_parameters f) gs ≡ bound (given_in w b)
     → Tells b 0 scalar_in (λ _ texts. option_map (datum texts) (Some (cell.Text id))) → IsSettled (arguments_of w.tables) w.texts b.args.now → Names w.texts (Ok id) (file_name_of f gs)
-name_given f gs w b id is same tells settled = (
-  name_is f gs w b is same ∙ ap (λ o. name_in (text_of o)) (sym (tells w.tables w.texts)),
+name_given f _ w b id is same tells settled = (
+  grind arith,
   λ more. ap (λ o. text_cell (text_or (text_of o))) (told_settled b 0 scalar_in (λ _ texts. option_map (datum texts) (Some (cell.Text id))) w.tables w.texts tells settled more),
 )

@@ -14,7 +14,7 @@ some_is : {X : Type 0} (x y : X) → Some x ≡ Some y → x ≡ y
 some_is x y h = cc
 
 given_taken : (ps : List Parameter) (k : ℕ) (gs : List NamedGiven) (place : ℕ) (a : Given) → fit ps k gs ≡ true → given_at ps k gs place ≡ Some a → taken_by (slice_get ps place) a ≡ true
-given_taken ps k [] place a fitted is = cc
+given_taken _ k [] _ a fitted is = cc
 given_taken ps k (x ∷ gs) place a fitted is =
     elim (nat_eq (goes_to ps k x.name) place) as (λ b. (nat_eq (goes_to ps k x.name) place ≡ b) → cond b (Some x.value) (given_at ps (counted k x.name) gs place) ≡ Some a → taken_by (slice_get ps place) a ≡ true) [
       | true ↦ grind (arith, eqb-true, some_is, if_both)
@@ -22,27 +22,27 @@ given_taken ps k (x ∷ gs) place a fitted is =
     ] refl is
 
 fitted : (a b c : Bool) (r l : List Given) → (if a then (if b then (if c then bound r else not_listed) else not_taken) else not_taken) ≡ bound l → a ≡ true
-fitted true b c r l is = refl
+fitted true b c r l _ = refl
 fitted false b c r l is = cc
 
 no_default : (o : Omitted) (parts : GivenList) → list_in (stands_for o) ≡ Some parts → ⊥
-no_default omitted.Required parts is = cc
-no_default omitted.None parts is = cc
-no_default (omitted.Number z) parts is = cc
-no_default (omitted.Truth b) parts is = cc
-no_default (omitted.Text t) parts is = cc
+no_default omitted.Required _ is = cc
+no_default omitted.None _ is = cc
+no_default (omitted.Number z) _ is = cc
+no_default (omitted.Truth b) _ is = cc
+no_default (omitted.Text t) _ is = cc
 
 taken_list : (p : Parameter) (a : Given) (parts : GivenList) → takes p a ≡ true → list_in a ≡ Some parts → list_has p.form parts ≡ true
-taken_list p (many parts') parts taken is = search some_is
-taken_list p (one (cell c)) parts taken is = cc
-taken_list p (one (table t)) parts taken is = cc
-taken_list p nothing parts taken is = cc
-taken_list p (row more) parts taken is = cc
-taken_list p (entries pairs) parts taken is = cc
+taken_list p (many parts') _ taken is = search some_is
+taken_list p (one (cell c)) _ taken is = cc
+taken_list p (one (table t)) _ taken is = cc
+taken_list p nothing _ taken is = cc
+taken_list p (row more) _ taken is = cc
+taken_list p (entries pairs) _ taken is = cc
 
 list_of : (p : Parameter) (o : Option Given) (parts : GivenList) → ((a : Given) → o ≡ Some a → takes p a ≡ true) → list_in (or_stand_in o (Some p)) ≡ Some parts → list_has p.form parts ≡ true
-list_of p None parts taken is = search no_default
-list_of p (Some a) parts taken is = search taken_list
+list_of p None _ taken is = search no_default
+list_of p (Some a) _ taken is = search taken_list
 
 -- a list at a place has the form of the parameter there
 pub list_taken : (ps : List Parameter) (gs : List NamedGiven) (place : ℕ) (p : Parameter) (l : List Given) (parts : GivenList) → bound_of ps gs ≡ bound l → slice_get ps place ≡ Some p → list_in (argument_at ps gs place) ≡ Some parts
@@ -60,4 +60,4 @@ bound_is false b c r l is = cc
 
 -- the arguments that are bound, in the order of the signature
 pub bound_list : (ps : List Parameter) (gs : List NamedGiven) (l : List Given) → bound_of ps gs ≡ bound l → l ≡ arguments_from ps gs 0 ps
-bound_list ps gs l same = search bound_is
+bound_list = search bound_is

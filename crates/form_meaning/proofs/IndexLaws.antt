@@ -12,10 +12,10 @@ both true b h = (refl, h)
 both false b h = cc
 
 nat_same : (a b : ℕ) → nat_eq a b ≡ true → a ≡ b
-nat_same a b e = grind (arith, nat_tests)
+nat_same = grind (arith, nat_tests)
 
 below : (a b : ℕ) → nat_lt a b ≡ true → a < b
-below a b e = grind (arith, nat_tests)
+below = grind (arith, nat_tests)
 
 -- as many labels as scalars
 labels_count : (parts : GivenList) → each is_scalar parts ≡ true → length (labels_of parts) ≡ count_of parts
@@ -46,13 +46,12 @@ tuple_labels n (many parts) h = cc
 tuple_labels n (entries pairs) h = cc
 
 each_has : (n : ℕ) (test : Given → Bool) → ((g : Given) → test g ≡ true → Has n (row_labels g)) → (parts : GivenList) → each test parts ≡ true → All (Has n) (index_labels parts)
-each_has n test so no_given h = All-nil (Has n)
+each_has n _ _ no_given h = All-nil (Has n)
 each_has n test so (more_given g rest) h =
-    let x = both (test g) (each test rest) h in
-    grind (arith, each_has n test so rest x.1)
+    grind (arith, each_has n test so rest (both (test g) (each test rest) h).1)
 
 alike_from : (g : Given) (rest : GivenList) (n : ℕ) → 1 ≤ n → Has n (row_labels g) → All (Has n) (index_labels rest) → AreAlike (index_labels (more_given g rest))
-alike_from g rest n some first others = grind arith
+alike_from = grind arith
 
 -- the labels of an index that has the form are alike
 pub index_alike : (parts : GivenList) → are_row_labels parts ≡ true → AreAlike (index_labels parts)
@@ -76,9 +75,9 @@ GivesAlike (Some parts) = AreAlike (index_labels parts)
 
 index_of : (ps : List Parameter) (gs : List NamedGiven) (place : ℕ) (p : Parameter) (l : List Given) → bound_of ps gs ≡ bound l → slice_get ps place ≡ Some p → p.form ≡ form.RowLabels
     → (o : Option GivenList) → list_in (argument_at ps gs place) ≡ o → GivesAlike o
-index_of ps gs place p l same there form None is = tt
+index_of _ _ _ p l _ _ form None _ = tt
 index_of ps gs place p l same there form (Some parts) is = index_alike parts (cc (list_taken ps gs place p l parts same there is))
 
 -- an index that is bound to a parameter for labels of rows gives labels that are alike
 pub index_taken : (ps : List Parameter) (gs : List NamedGiven) (place : ℕ) (p : Parameter) (l : List Given) → bound_of ps gs ≡ bound l → slice_get ps place ≡ Some p → p.form ≡ form.RowLabels → GivesAlike (list_in (argument_at ps gs place))
-index_taken ps gs place p l same there form = search index_of
+index_taken _ _ _ p l same there form = search index_of

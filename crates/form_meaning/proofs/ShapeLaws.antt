@@ -33,17 +33,17 @@ found_fits s t [] m found = cc
 found_fits s t (n ∷ ns) m found = by (same_text n.name t) found (found_fits s t ns m)
   where
     by : (b : Bool) → option_and_then (method_at s) (cond b (Some n) (find (λ n. same_text n.name t) ns)) ≡ Some m → (first_named s t ns ≡ Some m → is_among s ns m ≡ true) → is_among s (n ∷ ns) m ≡ true
-    by true is later = rw (is, same_self m) refl
+    by true is _ = rw (is, same_self m) refl
     by false is later = or_true _ (later is)
 
 pub named_fits : (s : Shape) (t : Text) (m : Method) → method_named s t ≡ Some m → fits_shape m s ≡ true
-named_fits s t m = search found_fits
+named_fits = search found_fits
 
 -- a method that the one doesn't have is of the other
 pub of_series : (m : Method) (s : Shape) → fits_shape m Frame ≡ false → fits_shape m s ≡ true → s ≡ Series
-of_series m Series never fits = refl
+of_series m Series _ _ = refl
 of_series m Frame never fits = cc
 
 pub of_frame : (m : Method) (s : Shape) → fits_shape m Series ≡ false → fits_shape m s ≡ true → s ≡ Frame
-of_frame m Frame never fits = refl
+of_frame m Frame _ _ = refl
 of_frame m Series never fits = cc

@@ -1,12 +1,12 @@
 -- The rows that labels take, by their numbers as by their texts, and the columns on such rows.
 use Rattle.{
-  std.{proofs.{Common.{◌≡◌, ◌∙◌, ap, refl, sym, subst, ℕ, ◌+◌, ◌<◌, false, List, [], ◌∷◌, ◌++◌, map, length, take, slice_index_or, All, Option, Some, None, Result, Ok, Err}, Math.ListN.{get_or-map}, lemmas.List.{map-append, take_more, Elements.{All-map, All-push}}}, specs.Prelude.{IfOk}},
+  std.proofs.{Common.{arith, ◌≡◌, ◌∙◌, ap, refl, sym, subst, ℕ, ◌+◌, ◌<◌, false, List, [], ◌∷◌, ◌++◌, map, length, take, slice_index_or, All, Option, Some, None, Result, Ok, Err}, Math.ListN.{get_or-map}, lemmas.List.{map-append, take_more, Elements.{All-map, All-push}}},
   cell_core.specs.{declared.cell.{Cell.{Cell, TheVariants.{Na}}, Label.{Label}}, Texts.{AreDistinct, AreGiven, IsGiven}},
-  meaning.specs.{Text.{Text}, Cell.{na_cell, datum}, Column.{gap_cell, taken}, Fault.{FaultValue, bad_value, repeated}},
+  meaning.specs.{Text.{Text}, Cell.{na_cell, datum}, Column.{gap_cell, taken}, Fault.{FaultValue}},
   column_core.specs.{Blocks.{CellBlock}, Columns.{CellColumn}, Moves.{IsPlaceOf}},
   table_meaning.specs.{Settled.{IsSettled}, Table.{ColumnOf, tuple_value, no_column}},
   form_meaning.specs.Infix.{same_tuple, on_rows},
-  align_meaning.{specs.{Faults.{AlignRefusal, met_rows}, Targets.{reindexed}}, proofs.{SeenLaws.{gaps_seen, reindexed_seen}, FoundLaws.{reindexed_count, reindexed_below, repeat_given}}},
+  align_meaning.{specs.{Faults.{met_rows}, Targets.{reindexed}}, proofs.{SeenLaws.{gaps_seen, reindexed_seen}, FoundLaws.{reindexed_count, reindexed_below, repeat_given}}},
   label_align.specs.{Answers.{AlignsBy, as_it_is}, declared.fault.AlignFault.{AlignFault, TheVariants.{DuplicateLabels, TooLarge, NoMemory}}},
   frame_store.specs.{Parts.{HaveRows, IsSingle, block_column, table_column}, Shown.{labels_value, columns_value}},
   form_parts.{specs.{Makes.{MakesBy}, Faults.{align_refusal}}, proofs.RowLaws.{tuple_by_number, tuples_settled}},
@@ -24,64 +24,60 @@ module _ (texts : List Text) (distinct : AreDistinct texts) (keys targets : List
   found_rows = met_rows (reindexed same_tuple (labels_value texts keys) (labels_value texts targets))
 
   pub rows_met : (rows : List (Option ℕ)) → reindexed numbers.same_tuple keys targets ≡ Ok rows → found_rows ≡ Ok rows
-  rows_met rows is = ap met_rows (reindexed_by_number ∙ ap (gaps_seen (tuple_value texts)) is)
+  rows_met _ is = cc reindexed_by_number
 
   pub rows_refused : (fault : AlignFault) → AlignsBy as_it_is (Err fault) (reindexed numbers.same_tuple keys targets) → MakesBy (λ _ rows. rows) texts (Err (align_refusal fault)) found_rows
   rows_refused (DuplicateLabels key) is =
-      let settled : IsSettled tuple_value texts key = repeat_given numbers.same_tuple keys targets (IsSettled tuple_value texts) key (tuples_settled texts keys given) is in
-      (ap met_rows (reindexed_by_number ∙ ap (gaps_seen (tuple_value texts)) is), λ more. ap (λ t. bad_value (repeated t)) (settled more))
-  rows_refused TooLarge is = (ap met_rows (reindexed_by_number ∙ ap (gaps_seen (tuple_value texts)) is), λ more. refl)
+      let settled = repeat_given numbers.same_tuple keys targets (IsSettled tuple_value texts) key (tuples_settled texts keys given) is in
+      (grind (arith, reindexed_by_number, gaps_seen), search)
+  rows_refused TooLarge is = grind (arith, reindexed_by_number, gaps_seen)
   rows_refused NoMemory is = tt
 
 -- as many rows as labels, and rows of the axis
 pub rows_counted : (keys targets : List (List Label)) (rows : List (Option ℕ)) → reindexed numbers.same_tuple keys targets ≡ Ok rows → length rows ≡ length targets
-rows_counted keys targets rows is = subst (λ (r : Result (List (Option ℕ)) (AlignRefusal (List Label))). IfOk r (λ rows. length rows ≡ length targets)) is (reindexed_count numbers.same_tuple keys targets)
+rows_counted keys targets _ is = rw is at (reindexed_count numbers.same_tuple keys targets)
 
 pub rows_below : (keys targets : List (List Label)) (rows : List (Option ℕ)) → reindexed numbers.same_tuple keys targets ≡ Ok rows → All (IsPlaceOf (length keys)) rows
-rows_below keys targets rows is = subst (λ (r : Result (List (Option ℕ)) (AlignRefusal (List Label))). IfOk r (All (IsPlaceOf (length keys)))) is (reindexed_below numbers.same_tuple keys targets)
+rows_below keys targets _ is = rw is at (reindexed_below numbers.same_tuple keys targets)
 
 module _ (texts : List Text) where
   -- cells on other rows, with texts
   cell_on : (cells : List Cell) (gap : Option ℕ) → datum texts (gap_cell Na cells gap) ≡ gap_cell na_cell (map (datum texts) cells) gap
-  cell_on cells None = refl
+  cell_on _ None = refl
   cell_on cells (Some place) = sym (get_or-map (datum texts) cells place Na)
 
   cells_on : (cells : List Cell) (rows : List (Option ℕ)) → map (datum texts) (taken Na cells rows) ≡ taken na_cell (map (datum texts) cells) rows
-  cells_on cells [] = refl
+  cells_on _ [] = refl
   cells_on cells (gap ∷ rows) = λ i. cell_on cells gap i ∷ cells_on cells rows i
 
   pub on_rows_seen : (rows : List (Option ℕ)) (cs : List (ColumnOf Cell)) → columns_value texts (on_rows Na rows cs) ≡ on_rows na_cell rows (columns_value texts cs)
-  on_rows_seen rows [] = refl
-  on_rows_seen rows (c ∷ cs) = λ i. record { kind = c.kind; cells = cells_on c.cells rows i } ∷ on_rows_seen rows cs i
+  on_rows_seen _ [] = refl
+  on_rows_seen rows (c ∷ cs) = search (cells_on, on_rows_seen rows cs)
 
   -- their texts were given
   gap_given : (cells : List Cell) (gap : Option ℕ) → AreGiven texts cells → IsPlaceOf (length cells) gap → IsGiven texts (gap_cell Na cells gap)
-  gap_given cells None given inside = tt
-  gap_given cells (Some place) given inside = given place Na inside
+  gap_given = grind arith
 
   pub on_rows_given : (count : ℕ) (rows : List (Option ℕ)) (cs : List (ColumnOf Cell)) → HaveRows count cs → All (IsPlaceOf count) rows → All (λ c. AreGiven texts c.cells) cs → All (λ c. AreGiven texts c.cells) (on_rows Na rows cs)
-  on_rows_given count rows cs filled inside given =
-      All-map (λ (c : ColumnOf Cell). AreGiven texts c.cells) (λ (c : ColumnOf Cell). record { kind = c.kind; cells = taken Na c.cells rows }) cs
-      (λ k d lt. let c : ColumnOf Cell = slice_index_or cs k d in
-      All-map (IsGiven texts) (gap_cell Na c.cells) rows (λ j e within. gap_given c.cells (slice_index_or rows j e) (given k d lt) (subst (λ n. IsPlaceOf n (slice_index_or rows j e)) (sym (filled k d lt)) (inside j e within))))
+  on_rows_given _ rows cs filled inside given =
+      All-map (λ c. AreGiven texts c.cells) (λ c. record { kind = c.kind; cells = taken Na c.cells rows }) cs
+      (λ k d lt. let c = slice_index_or cs k d in
+      All-map (IsGiven texts) (gap_cell Na c.cells) rows (λ j e within. gap_given c.cells (slice_index_or rows j e) (given k d lt) (grind arith)))
 
 -- one more column on other rows
 pub block_on : (block : CellBlock) (made a : CellColumn) (at : ColumnOf Cell) (rows : List (Option ℕ)) → block ≡ record { kind = made.kind; rows = length made.cells; columns = made.cells ∷ [] } → made.kind ≡ a.kind → made.cells ≡ taken Na a.cells rows → at ≡ table_column a
     → block_column block ≡ record { kind = at.kind; cells = taken Na at.cells rows }
-block_on block made a at rows is kind cells here =
-    let kinds : made.kind ≡ at.kind = kind ∙ sym (ap (λ (c : ColumnOf Cell). c.kind) here) in
-    let same : made.cells ≡ taken Na at.cells rows = cells ∙ sym (ap (λ (c : ColumnOf Cell). taken Na c.cells rows) here) in
-    ap block_column is ∙ (λ i. record { kind = kinds i; cells = same i })
+block_on = grind arith
 
 pub single_on : (blocks blocks' : List CellBlock) (block : CellBlock) (made : CellColumn) → All IsSingle blocks → block ≡ record { kind = made.kind; rows = length made.cells; columns = made.cells ∷ [] } → blocks' ≡ blocks ++ block ∷ [] → All IsSingle blocks'
-single_on blocks blocks' block made all is pushed = subst (All IsSingle) (sym pushed) (All-push IsSingle blocks block all (subst IsSingle (sym is) refl))
+single_on blocks _ block _ all is pushed = rw pushed (All-push IsSingle blocks block all (subst IsSingle (sym is) refl))
 
 pub one_more_on : (columns : List (ColumnOf Cell)) (rows : List (Option ℕ)) (place : ℕ) (made made' : List CellBlock) (block : CellBlock) → place < length columns
     → map block_column made ≡ on_rows Na rows (take place columns) → made' ≡ made ++ block ∷ [] → block_column block ≡ record { kind = (slice_index_or columns place no_column).kind; cells = taken Na (slice_index_or columns place no_column).cells rows }
     → map block_column made' ≡ on_rows Na rows (take (place + 1) columns)
-one_more_on columns rows place made made' block lt before pushed here =
+one_more_on columns rows place made _ block lt before pushed here =
     let on : ColumnOf Cell → ColumnOf Cell = λ c. record { kind = c.kind; cells = taken Na c.cells rows } in
     ap (map block_column) pushed ∙ map-append block_column made (block ∷ [])
     ∙ (λ i. before i ++ here i ∷ [])
-    ∙ sym (map-append on (take place columns) (slice_index_or columns place no_column ∷ []))
+    ∙ sym (search map-append)
     ∙ ap (map on) (sym (take_more columns place no_column lt))

@@ -1,6 +1,6 @@
 -- A whole table is what a grid that is read off it tells.
 use Rattle.{
-  std.{proofs.{Common.{◌≡◌, ℕ, ◌<◌, List, [], length, get_or, refl, ap, sym, arith, None}, lemmas.List.FromFn.{fill_by_all}}, specs.Prelude.{All, slice_index_or}},
+  std.{proofs.{Common.{◌≡◌, ℕ, ◌<◌, List, [], length, get_or, refl, sym, arith, None}, lemmas.List.FromFn.{fill_by_all}}, specs.Prelude.{All, slice_index_or}},
   cell_core.specs.{Grids.{GridValue}, declared.cell.{Label.{Label}, Cell.{Cell}}},
   meaning.specs.{Text.{Text}, Column.{tabulate}},
   table_meaning.specs.Table.{ColumnOf, NumberedTable, no_column, column_at, table_value},
@@ -39,13 +39,13 @@ whole_numbered : (t : NumberedTable) → length t.headings ≡ length t.columns 
     → numbered (read_off t) ≡ t
 whole_numbered t headed filled levels =
     let names = placed t.level_names (length t.level_names) None refl in
-    let labels = placed_by (λ row. tabulate (length t.level_names) (λ level. get_or (get_or t.labels row []) level label.Na)) t.labels (length t.labels) [] refl (λ row h. sym (placed (get_or t.labels row []) (length t.level_names) label.Na (levels row [] h))) in
+    let labels = placed_by (λ row. tabulate (length t.level_names) (λ level. get_or (get_or t.labels row []) level label.Na)) t.labels (length t.labels) [] refl (λ row h. sym (search placed)) in
     let headings = placed t.headings (length t.columns) None headed in
-    let columns = placed_by (λ column. record { kind = (column_at t.columns column).kind; cells = tabulate (length t.labels) (λ row. get_or (column_at t.columns column).cells row cell.Na) }) t.columns (length t.columns) no_column refl (λ column h. sym (column_placed (column_at t.columns column) (length t.labels) (filled column no_column h))) in
-    λ i. record { shape = t.shape; columns_name = t.columns_name; level_names = names i; labels = labels i; headings = headings i; columns = columns i }
+    let columns = placed_by (λ column. record { kind = (column_at t.columns column).kind; cells = tabulate (length t.labels) (λ row. get_or (column_at t.columns column).cells row cell.Na) }) t.columns (length t.columns) no_column refl (λ column h. sym (search column_placed)) in
+    grind arith
 
 -- so the text of a grid that is read off a whole table is the text of that table
 pub told_whole : (texts : List Text) (t : NumberedTable) → length t.headings ≡ length t.columns → All (λ (c : ColumnOf Cell). length c.cells ≡ length t.labels) t.columns → All (λ (tuple : List Label). length tuple ≡ length t.level_names) t.labels
     → told texts (read_off t) ≡ table_value texts t
 unfolding told
-told_whole texts t headed filled levels = ap (table_value texts) (whole_numbered t headed filled levels)
+told_whole = grind (arith, whole_numbered)

@@ -14,7 +14,7 @@ use Rattle.frame_methods.specs.declared.made.Made.TheVariants as made
 -- a refusal
 pub refused_made : (earlier texts : List Text) (tables : Tables) (m : Result Made OpFault) (result : Result Value OpFault) (fault : OpFault) (meant : Result Entry FaultValue)
     → m ≡ Err fault → result ≡ Err fault → IsLonger earlier texts → IsSettled shown earlier tables → MakesBy made_value texts m meant → FormAnswers texts result meant (shown earlier tables) (shown texts tables)
-refused_made earlier texts tables m result fault meant was is longer settled makes =
+refused_made earlier texts tables m _ _ meant was is longer settled makes =
     subst (λ r. FormAnswers texts r meant (shown earlier tables) (shown texts tables)) (sym is) (grind (arith, go))
   where
     kept : shown texts tables ≡ shown earlier tables
@@ -30,7 +30,7 @@ table_of (value.cell c) = no_table
 
 -- the table that was made is settled
 table_settled_in : (texts : List Text) (m : Result Made OpFault) (one : Made) (t : NumberedTable) → m ≡ Ok one → one ≡ made.Table t → IfOk m (IsSettled made_value texts) → IsSettled table_value texts t
-table_settled_in texts m one t was is settled =
+table_settled_in texts m _ t was is settled =
     let here : IsSettled made_value texts (made.Table t) = rw (was ∙ ap Ok is) at settled in
     grind arith
 
@@ -42,11 +42,11 @@ cell_of (value.table t) = na_cell
 pub scalar_answered : (earlier texts : List Text) (tables : Tables) (m : Result Made OpFault) (one : Made) (c : Cell) (meant : Result Entry FaultValue)
     → m ≡ Ok one → one ≡ made.Scalar c → IfOk m (IsSettled made_value texts) → IsLonger earlier texts → IsSettled shown earlier tables → MakesBy made_value texts m meant
     → (meant ≡ Ok (value.cell (datum texts c))) × ((shown texts tables ≡ shown earlier tables) × IsSettled datum texts c)
-scalar_answered earlier texts tables m one c meant was is given longer settled makes =
+scalar_answered earlier texts tables m _ c _ was is given longer settled makes =
     let here : IsSettled made_value texts (made.Scalar c) = rw (was ∙ ap Ok is) at given in
     (grind arith, (seen_later shown earlier texts tables longer settled, grind arith))
 
 -- a table is meant, and it is settled
 pub table_meant : (texts : List Text) (m : Result Made OpFault) (one : Made) (t : NumberedTable) (meant : Result Entry FaultValue) → m ≡ Ok one → one ≡ made.Table t → IfOk m (IsSettled made_value texts)
     → MakesBy made_value texts m meant → Makes texts (Ok t) meant
-table_meant texts m one t meant was is given makes = grind (arith, table_settled_in)
+table_meant = grind (arith, table_settled_in)

@@ -34,7 +34,7 @@ pub front_step : (f : ColumnOf CellValue → Result (ColumnOf CellValue) FaultVa
     → IsFront f first dict columns rows place made → place < length columns → column_at columns place ≡ table_column a → IsLonger dict dict' → AreGiven dict' new.cells → length new.cells ≡ rows
     → made' ≡ made ++ single_block (table_column new) ∷ [] → f (column_value first (table_column a)) ≡ Ok (column_value dict' (table_column new))
     → IsFront f first dict' columns rows (place + 1) made'
-front_step f first dict dict' columns rows place made made' a new so_far lt at longer given full more is = subst (IsFront f first dict' columns rows (place + 1)) (sym more) record {
+front_step f first dict dict' columns rows place made _ a new so_far lt at longer given full more is = subst (IsFront f first dict' columns rows (place + 1)) (sym more) record {
   longer = longer_twice first dict dict' so_far.longer longer;
   given = one_more (λ c. AreGiven dict' c.cells) made (single_block (table_column new)) (λ k d lt. given_later dict dict' (slice_index_or (map block_column made) k d).cells longer (so_far.given k d lt)) given;
   single = All-append IsSingle made (single_block (table_column new) ∷ []) so_far.single (All-cons IsSingle (single_block (table_column new)) [] refl (All-nil IsSingle));
@@ -57,7 +57,7 @@ front_step f first dict dict' columns rows place made made' a new so_far lt at l
 pub front_refused : (f : ColumnOf CellValue → Result (ColumnOf CellValue) FaultValue) (first dict : List Text) (columns : List (ColumnOf Cell)) (rows place : ℕ) (made : List CellBlock) (a : CellColumn) (fault : FaultValue)
     → IsFront f first dict columns rows place made → place < length columns → column_at columns place ≡ table_column a → f (column_value first (table_column a)) ≡ Err fault
     → try_all f (columns_value first columns) ≡ Err fault
-front_refused f first dict columns rows place made a fault so_far lt at is =
+front_refused f first dict columns _ place made a fault so_far lt at is =
     front_fails f (columns_value dict (map block_column made)) (column_value first (table_column a)) fault (columns_value first (drop (place + 1) columns)) (try_all f (columns_value first columns))
     (ap (λ l. placed_front f (columns_value dict (map block_column made)) (columns_value first l)) (sym (at_place columns place (table_column a) lt at)) ∙ so_far.answer) is
 
@@ -74,4 +74,4 @@ same_answer answer held first dict a longer own given = λ j.
 -- a refused column is a refused list of columns
 pub refused_columns : (fault : ArrayFault) (one : Result (ColumnOf CellValue) FaultValue) (all : Result (List (ColumnOf CellValue)) FaultValue)
     → ((e : FaultValue) → one ≡ Err e → all ≡ Err e) → IsFault fault one → IsFault fault all
-refused_columns x one all same is = grind arith
+refused_columns = grind arith

@@ -13,4 +13,4 @@ use Rattle.cell_core.specs.declared.cell.Cell.TheVariants as cell
 
 pub csv_seen : (texts later : List Text) (index : Bool) (t : NumberedTable) (id : TextId) (words : Text) → IsWhole t → HaveLevels (length t.level_names) t.labels → words ≡ csv_text_of index (told texts (grid_of t))
     → slice_get later id.0 ≡ Some words → datum later (cell.Text id) ≡ text_cell (csv_text_of index (table_value texts t))
-csv_seen texts later index t id words whole levels written given = grind (arith, get_or_from_slice_get, told_whole)
+csv_seen = grind (arith, get_or_from_slice_get, told_whole)

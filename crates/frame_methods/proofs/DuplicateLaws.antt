@@ -25,7 +25,7 @@ abbrev pub same_key : Key → Key → Bool
 same_key a b = nat_eq a.0 b.0 && same_number a.1 b.1
 
 key_decides : (a b : Key) → Decides (same_key a b) (a ≡ b)
-key_decides a b = search rules
+key_decides = search rules
 
 -- the keys so far have numbers, at which they stand among the different ones; those that are left have the old numbers
 pub record AreNumbered (old : List ℕ) (cells : List Cell) (row : ℕ) (numbers : List ℕ) (keys : List Key) : Type 0 where
@@ -40,8 +40,8 @@ no_keys = tt
 
 -- a key stays where it stands
 kept_place : (xs ys : List Key) (i : ℕ) (x : Key) → slice_get xs i ≡ Some x → slice_get (xs ++ ys) i ≡ Some x
-kept_place [] ys i x at = cc
-kept_place (k ∷ ks) ys zero x at = at
+kept_place [] _ i x at = cc
+kept_place (k ∷ ks) _ zero x at = at
 kept_place (k ∷ ks) ys (suc i) x at = kept_place ks ys i x at
 
 pub numbered_more : (old : List ℕ) (cells : List Cell) (row number before : ℕ) (c : Cell) (numbers numbers' : List ℕ) (keys keys' : List Key) (stored : Key) → AreNumbered old cells row numbers keys → row < length old
@@ -76,32 +76,32 @@ not_before keys a b x unique at_a at_b lt =
     grind (arith, key_decides)
 
 one_place : (keys : List Key) (a b : ℕ) (x : Key) → IsDistinct same_key keys → slice_get keys a ≡ Some x → slice_get keys b ≡ Some x → a ≡ b
-one_place keys a b x unique at_a at_b = grind (arith, not_before)
+one_place = grind (arith, not_before)
 
 places_apart : (keys : List Key) (a b : ℕ) (x y : Key) → IsDistinct same_key keys → slice_get keys a ≡ Some x → slice_get keys b ≡ Some y → nat_eq a b ≡ same_key x y
-places_apart keys a b x y unique at_a at_b = search (rules, same_from_decides, nat_eq, slice_get, one_place, key_decides)
+places_apart = search (rules, same_from_decides, nat_eq, slice_get, one_place, key_decides)
 
 pub numbers_apart : (old : List ℕ) (cells : List Cell) (row : ℕ) (numbers : List ℕ) (keys : List Key) → AreNumbered old cells row numbers keys → (i j : ℕ) → i < row → j < row
     → nat_eq (slice_index numbers i) (slice_index numbers j) ≡ (nat_eq (slice_index old i) (slice_index old j) && same_number (slice_index_or cells i cell.Na) (slice_index_or cells j cell.Na))
-numbers_apart old cells row numbers keys so_far i j hi hj =
+numbers_apart _ _ _ numbers keys so_far i j hi hj =
     places_apart keys (slice_index numbers i) (slice_index numbers j) _ _ so_far.unique (so_far.told i hi) (so_far.told j hj)
 
 -- lists that are equal but for their last elements
 and_true : (b : Bool) → (b && true) ≡ b
-and_true x = grind arith
+and_true = grind arith
 
 and_assoc : (a b c : Bool) → ((a && b) && c) ≡ (a && (b && c))
-and_assoc x b c = grind arith
+and_assoc = grind arith
 
 pointwise_more : {C : Type 0} (same : C → C → Bool) (f g : ℕ → C) (places : List ℕ) (place : ℕ)
     → pointwise same (map f (places ++ place ∷ [])) (map g (places ++ place ∷ [])) ≡ (pointwise same (map f places) (map g places) && same (f place) (g place))
-pointwise_more same f g [] place = search and_true
+pointwise_more _ f g [] _ = search and_true
 pointwise_more same f g (p ∷ ps) place = search (and_assoc, pointwise_more same f g ps place)
 
 -- one column more
 pub numbers_more : (t : NumberedTable) (place row : ℕ) (column : ColumnOf Cell) (old numbers : List ℕ) (keys : List Key) → column_at t.columns place ≡ column → length t.labels ≤ row → AreNumbered old column.cells row numbers keys
     → (places : List ℕ) → AreNumbers t places old → AreNumbers t (places ++ place ∷ []) numbers
-numbers_more t place row column old numbers keys is end done places before =
+numbers_more t _ row column old numbers keys is end done places before =
     record {
       count = search;
       equal = λ i j hi hj.
@@ -112,30 +112,30 @@ numbers_more t place row column old numbers keys is end done places before =
 
 -- whether each number stands earlier, from one on
 repeats_seen : {X : Type 0} (same : X → X → Bool) (a b xs : List X) → ((x : X) → list_any (same x) a ≡ list_any (same x) b) → repeats same a xs ≡ repeats same b xs
-repeats_seen same a b [] alike = refl
+repeats_seen _ a b [] _ = refl
 repeats_seen same a b (x ∷ xs) alike = λ j. alike x j ∷ repeats_seen same (x ∷ a) (x ∷ b) xs (λ y. ap (λ r. same y x || r) (alike y)) j
 
 or_false : (b : Bool) → (b || false) ≡ b
-or_false x = grind arith
+or_false = grind arith
 
 nat_same : (x y : ℕ) → nat_eq x y ≡ true → x ≡ y
-nat_same x y e = grind (arith, nat_tests)
+nat_same = grind (arith, nat_tests)
 
 key_seen : (seen : List ℕ) (x y : ℕ) → (nat_eq y x || list_any (nat_eq y) seen) ≡ list_any (nat_eq y) (insert_key nat_eq seen x)
-key_seen seen x y = grind (arith, nat_eq, nat_same, or_false, list_any-append)
+key_seen = grind (arith, nat_eq, nat_same, or_false, list_any-append)
 
 not_not : (b : Bool) → not (not b) ≡ b
-not_not x = grind arith
+not_not = grind arith
 
 pub marks_more : (numbers seen seen' : List ℕ) (cells cells' : List Cell) (i x : ℕ) (is_new : Bool) (whole : List Cell) → i < length numbers → x ≡ slice_index numbers i → is_new ≡ not (list_any (nat_eq x) seen)
     → seen' ≡ insert_key nat_eq seen x → cells' ≡ cells ++ cell.Bool (not is_new) ∷ [] → cells ++ map cell.Bool (repeats nat_eq seen (drop i numbers)) ≡ whole
     → cells' ++ map cell.Bool (repeats nat_eq seen' (drop (i + 1) numbers)) ≡ whole
-marks_more numbers seen seen' cells cells' i x is_new whole lt read fresh keyed pushed before = grind (arith, nat_eq, append_assoc, not_not, repeats_seen, key_seen, drop_more)
+marks_more = grind (arith, nat_eq, append_assoc, not_not, repeats_seen, key_seen, drop_more)
 
 -- rows that are told apart alike repeat alike
 repeats_alike : {X Y : Type 0} (n : ℕ) (same : X → X → Bool) (same' : Y → Y → Bool) (f : ℕ → X) (g : ℕ → Y) → ((i j : ℕ) → i < n → j < n → same (f i) (f j) ≡ same' (g i) (g j)) → (before rows : List ℕ)
     → All (λ row. row < n) before → All (λ row. row < n) rows → repeats same (map f before) (map f rows) ≡ repeats same' (map g before) (map g rows)
-repeats_alike n same same' f g alike before [] below all = refl
+repeats_alike n _ _ f g _ _ [] _ _ = refl
 repeats_alike n same same' f g alike before (r ∷ rs) below all =
     λ j. stands before below j ∷ repeats_alike n same same' f g alike (r ∷ before) rs (All-cons (λ row. row < n) r before here below) (λ k d lt. all (suc k) d (omega arith)) j
   where
@@ -143,13 +143,13 @@ repeats_alike n same same' f g alike before (r ∷ rs) below all =
     here = all 0 r (omega arith)
 
     stands : (bs : List ℕ) → All (λ row. row < n) bs → list_any (same (f r)) (map f bs) ≡ list_any (same' (g r)) (map g bs)
-    stands [] inside = refl
+    stands [] _ = refl
     stands (b ∷ bs) inside = λ j. alike r b here (inside 0 b (omega arith)) j || stands bs (λ k d lt. inside (suc k) d (omega arith)) j
 
 -- the cells of two rows are the same by number where they are so with texts
 row_by_number : (texts : List Text) (t : NumberedTable) (i j : ℕ) (places : List ℕ) → AreDistinct texts → IsKnownTable texts t → All (λ place. place < length t.columns) places → i < length t.labels → j < length t.labels
     → pointwise same_number (row_cells t places i) (row_cells t places j) ≡ pointwise same_cell (cells_in (table_value texts t) places i) (cells_in (table_value texts t) places j)
-row_by_number texts t i j [] distinct known inside hi hj = refl
+row_by_number _ t i j [] distinct known inside hi hj = refl
 row_by_number texts t i j (p ∷ ps) distinct known inside hi hj =
     λ k. (cell_by_number texts (cell_across t i p) (cell_across t j p) distinct (given i hi) (given j hj) ∙ (λ l. same_cell (seen i l) (seen j l))) k
     && row_by_number texts t i j ps distinct known (λ m d lt. inside (suc m) d (omega arith)) hi hj k
@@ -158,7 +158,7 @@ row_by_number texts t i j (p ∷ ps) distinct known inside hi hj =
     column = column_at t.columns p
 
     given : (row : ℕ) → row < length t.labels → IsGiven texts (cell_across t row p)
-    given row lt =
+    given _ lt =
         let all = All-get_or (λ c. AreGiven texts c.cells) t.columns p no_column (inside 0 p (omega arith)) (columns_given texts t.columns (columns_part texts t known.given)) in
         grind arith
 
@@ -167,21 +167,20 @@ row_by_number texts t i j (p ∷ ps) distinct known inside hi hj =
 
 -- as many marks as rows
 repeats_count : {X : Type 0} (same : X → X → Bool) (before xs : List X) → length (repeats same before xs) ≡ length xs
-repeats_count same before [] = refl
+repeats_count _ _ [] = refl
 repeats_count same before (x ∷ xs) = ap suc (repeats_count same (x ∷ before) xs)
 
 pub marks_count : (t : NumberedTable) (places numbers : List ℕ) (cells : List Cell) (axis : AxisValue) → AreNumbers t places numbers → cells ≡ map cell.Bool (repeats nat_eq [] numbers) → axis ≡ axis_of t
     → length cells ≡ length axis.tuples
-marks_count t places numbers cells axis told is same = grind (arith, length-map, nat_eq, repeats_count)
+marks_count = grind (arith, length-map, nat_eq, repeats_count)
 
 -- marks by numbers are marks of rows
 marks_alike : (texts : List Text) (t : NumberedTable) (places numbers : List ℕ) → AreDistinct texts → IsKnownTable texts t → All (λ place. place < length t.columns) places → AreNumbers t places numbers
     → repeats nat_eq [] numbers ≡ repeats (pointwise same_cell) [] (cells_by_row (table_value texts t) places)
 marks_alike texts t places numbers distinct known inside told =
     let n = length t.labels in
-    let T = table_value texts t in
     ap (repeats nat_eq []) (sym (list_is (slice_index numbers) numbers 0 0 (λ k lt. let e : 0 + k ≡ k = omega arith in ap (slice_index numbers) e)) ∙ ap (λ m. map (slice_index numbers) (range_with_len 0 m)) told.count)
-    ∙ repeats_alike n nat_eq (pointwise same_cell) (slice_index numbers) (cells_in T places) (λ i j hi hj. told.equal i j hi hj ∙ row_by_number texts t i j places distinct known inside hi hj)
+    ∙ repeats_alike n nat_eq (pointwise same_cell) (slice_index numbers) (cells_in (table_value texts t) places) (λ i j hi hj. told.equal i j hi hj ∙ row_by_number texts t i j places distinct known inside hi hj)
     [] (range_with_len 0 n) (All-nil (λ row. row < n)) (below_range n)
     ∙ ap (repeats (pointwise same_cell) []) (grind (arith, cells_in, length-map, by_rows))
   where
@@ -189,7 +188,7 @@ marks_alike texts t places numbers distinct known inside told =
     below_range n = Rattle.selections.proofs.PickedLaws.places_inside (range_with_len 0 n) n n refl refl
 
 truths_seen : (texts : List Text) (bs : List Bool) → map (datum texts) (map cell.Bool bs) ≡ map truth_cell bs
-truths_seen texts [] = refl
+truths_seen _ [] = refl
 truths_seen texts (b ∷ bs) = cc (truths_seen texts bs)
 
 abbrev marks_table : AxisValue → CellColumn → NumberedTable
@@ -198,7 +197,7 @@ marks_table axis marks = table_with Series axis record { columns_name = None; la
 pub duplicated_made : (texts : List Text) (t made : NumberedTable) (axis : AxisValue) (marks : CellColumn) (places numbers : List ℕ) → AreDistinct texts → IsKnownTable texts t → All (λ place. place < length t.columns) places
     → AreNumbers t places numbers → marks.kind ≡ Boolean → marks.cells ≡ map cell.Bool (repeats nat_eq [] numbers) → within_limits (length t.labels) 1 ≡ true → axis ≡ axis_of t → made ≡ marks_table axis marks
     → Makes texts (Ok made) (duplicated_among (table_value texts t) places)
-duplicated_made texts t made axis marks places numbers distinct known inside told kind cells within same is = (
+duplicated_made texts t _ axis marks places numbers distinct known inside told kind cells within same is = (
   grind (arith, limited_within, T, bs, length-map, shown),
   subst (IsSettled table_value texts) (sym (is ∙ ap (λ a. marks_table a marks) same))
       (table_settled texts (marks_table (axis_of t) marks) (λ more. refl) (level_names_part texts t known.given) (labels_part texts t known.given) (λ more. refl)

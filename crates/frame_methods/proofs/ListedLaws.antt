@@ -25,10 +25,10 @@ cell_back (label.Bool b) = cell.Bool b
 cell_back (label.Text id) = cell.Text id
 
 label_seen : (texts : List Text) (c : Cell) → label_datum texts (label_of c) ≡ cell_label (datum texts c)
-label_seen texts x = grind arith
+label_seen = grind arith
 
 label_settled : (texts : List Text) (c : Cell) → IsGiven texts c → IsSettled label_datum texts (label_of c)
-label_settled texts c given = search (label_seen, cell_settled)
+label_settled = search (label_seen, cell_settled)
 
 -- a test by numbers is the test by texts
 pub cell_by_number : (texts : List Text) (a b : Cell) → AreDistinct texts → IsGiven texts a → IsGiven texts b → same_number a b ≡ same_cell (datum texts a) (datum texts b)
@@ -39,24 +39,24 @@ cell_by_number texts a b distinct f g =
 
 any_by_number : (texts : List Text) (c : Cell) (values : List Cell) → AreDistinct texts → IsGiven texts c → AreGiven texts values
     → list_any (same_cell (datum texts c)) (cells_value texts values) ≡ list_any (same_number c) values
-any_by_number texts c [] distinct here given = refl
+any_by_number _ c [] _ _ _ = refl
 any_by_number texts c (v ∷ vs) distinct here given =
     λ j. sym (cell_by_number texts c v distinct here (given 0 v (omega arith))) j || any_by_number texts c vs distinct here (λ k d lt. given (suc k) d (omega arith)) j
 
 marks : (texts : List Text) (values cells : List Cell) → AreDistinct texts → AreGiven texts values → AreGiven texts cells
     → map (is_in (cells_value texts values)) (cells_value texts cells) ≡ cells_value texts (map (listed_mark values) cells)
-marks texts values [] distinct given all = refl
+marks _ _ [] _ _ _ = refl
 marks texts values (c ∷ cs) distinct given all =
     λ j. truth_cell (any_by_number texts c values distinct (all 0 c (omega arith)) given j) ∷ marks texts values cs distinct given (λ k d lt. all (suc k) d (omega arith)) j
 
 pub listed_answer : (texts : List Text) (values : List Cell) (a new : CellColumn) → AreDistinct texts → AreGiven texts values → AreGiven texts a.cells → new ≡ record { kind = Boolean; cells = map (listed_mark values) a.cells }
     → listed_column (cells_value texts values) (column_value texts (table_column a)) ≡ Ok (column_value texts (table_column new))
-listed_answer texts values a new distinct given all is =
+listed_answer texts values a _ distinct given all is =
     (λ j. Ok record { kind = Boolean; cells = marks texts values a.cells distinct given all j })
     ∙ ap (λ n. Ok (column_value texts (table_column n))) (sym is)
 
 pub listed_given : (texts : List Text) (values : List Cell) (a new : CellColumn) → new ≡ record { kind = Boolean; cells = map (listed_mark values) a.cells } → AreGiven texts new.cells
-listed_given texts values a new is = rw is (All-map (IsGiven texts) (listed_mark values) a.cells (λ k d lt. tt))
+listed_given texts values a _ is = rw is (All-map (IsGiven texts) (listed_mark values) a.cells (λ k d lt. tt))
 
 -- a cell and those after it are settled where they are so together
 abbrev first_or : CellValue → List CellValue → CellValue
@@ -72,7 +72,7 @@ AreBoth texts o rest = IfSome o (IsGiven texts) × ((more : List Text) → rest 
 
 pub both_settled : (texts : List Text) (o : Option Cell) (rest : List Text → List CellValue)
     → ((more : List Text) → with_cell (option_map (datum (texts ++ more)) o) (rest (texts ++ more)) ≡ with_cell (option_map (datum texts) o) (rest texts)) → AreBoth texts o rest
-both_settled texts x rest settled = grind (arith, cell_given)
+both_settled = grind (arith, cell_given)
 
 pub first_settled : (texts : List Text) (items : List Item) (i : ℕ) (item : Item) (o : Option Cell) → i < length items → item ≡ get_or items i item → IsScalarOf o item
     → IsSettled scalars texts (drop i items) → AreBoth texts o (λ ts. scalars ts (drop (i + 1) items))
@@ -82,7 +82,7 @@ first_settled texts items i item o lt is scalar settled =
 
 -- one cell more among the different ones
 pub noted_given : (texts : List Text) (values : List Cell) (o : Option Cell) → AreGiven texts values → IfSome o (IsGiven texts) → AreGiven texts (noted values o)
-noted_given texts values None given here = given
+noted_given _ _ None given _ = given
 noted_given texts values (Some c) given here = go (list_any (same_number c) values)
   where
     go : (b : Bool) → AreGiven texts (cond b values (values ++ c ∷ []))
@@ -91,14 +91,14 @@ noted_given texts values (Some c) given here = go (list_any (same_number c) valu
 
 -- what passes at a cell passes where the cell is
 passes_at : (test : CellValue → Bool) (texts : List Text) (c : Cell) (values : List Cell) → list_any (same_number c) values ≡ true → test (datum texts c) ≡ true → list_any test (cells_value texts values) ≡ true
-passes_at test texts c [] among passes = cc
+passes_at _ _ c [] among passes = cc
 passes_at test texts c (v ∷ vs) among passes = grind (arith, passes_at test texts c vs)
 
 or_more : (a t r : Bool) → (t ≡ true → a ≡ true) → (a || r) ≡ (a || (t || r))
-or_more x t r same = grind arith
+or_more = grind arith
 
 or_last : (a t r : Bool) → ((a || (t || false)) || r) ≡ (a || (t || r))
-or_last x t r = grind arith
+or_last = grind arith
 
 noted_more : (test : CellValue → Bool) (texts : List Text) (values : List Cell) (c : Cell) (r : Bool)
     → (list_any test (cells_value texts (noted values (Some c))) || r) ≡ (list_any test (cells_value texts values) || (test (datum texts c) || r))
@@ -111,7 +111,7 @@ noted_more test texts values c r = go (list_any (same_number c) values) refl
 pub noted_step : (texts : List Text) (items : List Item) (i : ℕ) (item : Item) (o : Option Cell) (values values' : List Cell) (test : CellValue → Bool) (all : Bool) → i < length items → item ≡ get_or items i item → IsScalarOf o item → values' ≡ noted values o
     → (list_any test (cells_value texts values) || list_any test (scalars texts (drop i items))) ≡ all
     → (list_any test (cells_value texts values') || list_any test (scalars texts (drop (i + 1) items))) ≡ all
-noted_step texts items i item o values values' test all lt is scalar more before = grind (arith, noted_more, scalars_from texts items i item o lt is scalar)
+noted_step texts items i item o _ _ _ _ lt is scalar = grind (arith, noted_more, scalars_from texts items i item o lt is scalar)
 
 -- what the cells of a list are in its place
 abbrev isin_of : Table → GivenList → Result Entry FaultValue
@@ -120,7 +120,7 @@ isin_of t parts = each_column (listed_column (cells_of parts)) t
 pub isin_meant : (live : Tables) (dict : List Text) (items : List Item) (values : List Cell) (o : Option GivenList) (t : Table) → Some (items_of live dict items) ≡ o
     → ((test : CellValue → Bool) → list_any test (cells_value dict values) ≡ list_any test (scalars dict items))
     → each_column (listed_column (cells_value dict values)) t ≡ on o (isin_of t)
-isin_meant live dict items values o t is same =
+isin_meant live dict items _ o t is same =
     ap (λ f. each_column (mapped Boolean f) t) (λ j c. truth_cell (same (same_cell c) j))
     ∙ ap (λ cells. each_column (listed_column cells) t) (sym (scalars_are live dict items))
     ∙ ap (λ p. on p (isin_of t)) is

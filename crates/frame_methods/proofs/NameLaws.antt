@@ -14,22 +14,22 @@ use Rattle.method_meaning.specs.Methods as meant
 -- a heading that is read of what is settled is settled
 pub named_settled : {A : Type 0} (view : List Text → A) (read : A → Option LabelValue) (texts : List Text) (name : Option Label) (labels : List (Option Label))
     → ((more : List Text) → view (texts ++ more) ≡ view texts) → ((ts : List Text) → heading_value ts name ≡ read (view ts)) → labels ≡ name ∷ [] → IsSettled headings_value texts labels
-named_settled view read texts name labels settled law is = grind arith
+named_settled = grind arith
 
 abbrev with_headings : Table → List (Option LabelValue) → Table
 with_headings t headings = record t { headings = headings }
 
 -- another wording of what is meant
 pub meant_so : (texts : List Text) (result : Result Value OpFault) (meant meant' : Result Entry FaultValue) (old new : Shown) → meant ≡ meant' → FormAnswers texts result meant old new → FormAnswers texts result meant' old new
-meant_so texts result meant meant' old new same answers = grind arith
+meant_so _ _ meant = grind arith
 
 -- the label of a Series' column
 pub label_seen : (h : Option Label) (l : Label) → column_tuple h ≡ l ∷ [] → (ts : List Text) → label_datum ts l ≡ unwrap_or (heading_value ts h) (int (pos 0))
-label_seen x1 l is ts = grind arith
+label_seen = grind arith
 
 pub one_item : (hs : List (Option Label)) → length hs ≡ 1 → hs ≡ slice_index_or hs 0 None ∷ []
 one_item [] is = cc
-one_item (h ∷ []) is = refl
+one_item (h ∷ []) _ = refl
 one_item (h ∷ g ∷ hs) is = cc
 
 abbrev pub frame_heading : Option LabelValue → Option LabelValue
@@ -40,12 +40,12 @@ frame_with t headings = record t { shape = Frame; headings = headings }
 
 pub frame_meant : (texts : List Text) (t : NumberedTable) (headings : HeadingList) (h : Option Label) (l : Label) → headings ≡ record { columns_name = t.columns_name; labels = Some l ∷ [] } → column_tuple h ≡ l ∷ [] → t.headings ≡ h ∷ []
     → limited (table_value texts (headed_by Frame headings t)) ≡ limited (meant.as_frame (table_value texts t))
-frame_meant texts t headings h l is tuple one = grind (arith, label_seen)
+frame_meant = grind (arith, label_seen)
 
 -- a list of one heading
 pub heading_list : (columns_name name : Option Label) (first list : HeadingList) → first ≡ record { columns_name = columns_name; labels = [] } → list ≡ record first { labels = first.labels ++ name ∷ [] }
     → list ≡ record { columns_name = columns_name; labels = name ∷ [] }
-heading_list columns_name name first list begins more = search
+heading_list _ _ _ _ begins more = search
 
 abbrev pub first_value : List (Option LabelValue) → Option LabelValue
 first_value [] = None

@@ -17,47 +17,47 @@ use Rattle.column_core.specs.Columns as kernel
 
 -- cells by themselves
 map_values : (f : CellValue → CellValue) (made : Cell → Cell) (texts : List Text) → ((c : Cell) → f (datum texts c) ≡ datum texts (made c)) → (cs : List Cell) → map f (map (datum texts) cs) ≡ map (datum texts) (map made cs)
-map_values f made texts same [] = refl
+map_values f _ _ _ [] = refl
 map_values f made texts same (c ∷ cs) = λ j. same c j ∷ map_values f made texts same cs j
 
 mark_given : (missing : Bool) (texts : List Text) (c : Cell) → IsGiven texts (missing_mark missing c)
-mark_given missing texts x = grind arith
+mark_given = grind arith
 
 pub marked_answer : (missing : Bool) (texts : List Text) (a new : CellColumn) → new ≡ record { kind = Boolean; cells = map (missing_mark missing) a.cells }
     → marked_column missing (column_value texts (table_column a)) ≡ Ok (column_value texts (table_column new))
-marked_answer missing texts a new is =
+marked_answer missing texts a _ is =
     (λ j. Ok record { kind = Boolean; cells = map_values (mark_of missing) (missing_mark missing) texts (grind arith) a.cells j })
     ∙ ap (λ n. Ok (column_value texts (table_column n))) (sym is)
 
 pub marked_given : (missing : Bool) (texts : List Text) (a new : CellColumn) → new ≡ record { kind = Boolean; cells = map (missing_mark missing) a.cells } → AreGiven texts new.cells
-marked_given missing texts a new is =
+marked_given missing texts a _ is =
     subst (λ (n : CellColumn). AreGiven texts n.cells) (sym is) (All-map (IsGiven texts) (missing_mark missing) a.cells (λ k d lt. mark_given missing texts (slice_index_or a.cells k d)))
 
 fill_given : (value : Cell) (texts : List Text) (c : Cell) → IsGiven texts value → IsGiven texts c → IsGiven texts (filled_cell value c)
-fill_given value texts x given here = grind arith
+fill_given = grind arith
 
 abbrev filled_cells : Cell → List Cell → Kind → CellColumn
 filled_cells value cells kind = record { kind = kind; cells = map (filled_cell value) cells }
 
 pub filled_answer : (value : Cell) (texts : List Text) (kind : Kind) (a new : CellColumn) → kind ≡ a.kind → holds kind (datum texts value) ≡ true → new ≡ record { kind = kind; cells = map (filled_cell value) a.cells }
     → filled_column (datum texts value) (column_value texts (table_column a)) ≡ Ok (column_value texts (table_column new))
-filled_answer value texts kind a new same fits is =
+filled_answer value texts kind a _ same fits is =
     ap (λ b. if b then mapped a.kind (filled (datum texts value)) (column_value texts (table_column a)) else Err wrong_kind) (ap (λ k. holds k (datum texts value)) (sym same) ∙ fits)
     ∙ (λ j. Ok record { kind = a.kind; cells = map_values (filled (datum texts value)) (filled_cell value) texts (grind arith) a.cells j })
     ∙ ap (λ n. Ok (column_value texts (table_column n))) (ap (filled_cells value a.cells) (sym same) ∙ sym is)
 
 pub filled_given : (value : Cell) (texts : List Text) (kind : Kind) (a new : CellColumn) → IsGiven texts value → AreGiven texts a.cells → new ≡ record { kind = kind; cells = map (filled_cell value) a.cells } → AreGiven texts new.cells
-filled_given value texts kind a new given all is =
+filled_given value texts _ a _ given all is =
     subst (λ (n : CellColumn). AreGiven texts n.cells) (sym is)
     (All-map (IsGiven texts) (filled_cell value) a.cells (λ k d lt. fill_given value texts (slice_index_or a.cells k d) given (all k d lt)))
 
 -- a shift
 map_same : {A B : Type 0} (f g : A → B) → ((x : A) → f x ≡ g x) → (xs : List A) → map f xs ≡ map g xs
-map_same f g same [] = refl
+map_same f g _ [] = refl
 map_same f g same (x ∷ xs) = λ j. same x j ∷ map_same f g same xs j
 
 either_value : (texts : List Text) (b : Bool) (c : Cell) → (if b then na_cell else datum texts c) ≡ datum texts (if b then cell.Na else c)
-either_value texts x c = grind arith
+either_value = grind arith
 
 shifted_at : (texts : List Text) (cs : List Cell) (z : ℤ) (i : ℕ) → shifted_row na_cell (map (datum texts) cs) z i ≡ datum texts (shifted_row cell.Na cs z i)
 shifted_at texts cs (pos n) i = ap (λ c. if nat_lt i n then na_cell else c) (get_or-map (datum texts) cs (i - n) cell.Na) ∙ either_value texts (nat_lt i n) (slice_index_or cs (i - n) cell.Na)
@@ -70,42 +70,42 @@ shifted_values texts cs z =
     ∙ sym (map-map (datum texts) (shifted_row cell.Na cs z) (range_with_len 0 (length cs)))
 
 pub shifted_answer : (z : ℤ) (texts : List Text) (a new : CellColumn) → new.kind ≡ a.kind → new.cells ≡ shifted cell.Na a.cells z → shifted_column z (column_value texts (table_column a)) ≡ Ok (column_value texts (table_column new))
-shifted_answer z texts a new kind cells = λ j. Ok record { kind = sym kind j; cells = (shifted_values texts a.cells z ∙ ap (map (datum texts)) (sym cells)) j }
+shifted_answer z texts a _ kind cells = λ j. Ok record { kind = sym kind j; cells = (shifted_values texts a.cells z ∙ ap (map (datum texts)) (sym cells)) j }
 
 pub shifted_given : (z : ℤ) (texts : List Text) (a new : CellColumn) → AreGiven texts a.cells → new.cells ≡ shifted cell.Na a.cells z → AreGiven texts new.cells
-shifted_given z texts a new given cells =
+shifted_given z texts a _ given cells =
     subst (AreGiven texts) (sym cells)
     (cells_given texts (shifted cell.Na a.cells z) (settled_by cells_value cells_value (λ vs. shifted na_cell vs z) texts a.cells (shifted cell.Na a.cells z) (λ ts. shifted_values ts a.cells z) (cells_settled texts a.cells given)))
 
 pub shifted_rows : (z : ℤ) (a new : CellColumn) → new.cells ≡ shifted cell.Na a.cells z → length new.cells ≡ length a.cells
-shifted_rows z a new cells = ap length cells ∙ length-map-range_with_len (shifted_row cell.Na a.cells z) 0 (length a.cells)
+shifted_rows z a _ cells = ap length cells ∙ length-map-range_with_len (shifted_row cell.Na a.cells z) 0 (length a.cells)
 
 then_length : {C : Type 0} (o : Option C) (row : ℕ) (rest : Result (List C) ℕ) (n : ℕ) → ((ys : List C) → rest ≡ Ok ys → length ys ≡ n) → (ys : List C) → then_rows o row rest ≡ Ok ys → length ys ≡ suc n
-then_length x row rest n same ys is = grind arith
+then_length = grind arith
 
 each_length : {A C : Type 0} (f : A → Option C) (row : ℕ) (xs : List A) (ys : List C) → try_each f row xs ≡ Ok ys → length ys ≡ length xs
-each_length f row [] ys is = let here : [] ≡ ys = cc in ap length (sym here)
+each_length f _ [] ys is = let here : [] ≡ ys = cc in ap length (sym here)
 each_length f row (x ∷ xs) ys is = then_length (f x) row (try_each f (suc row) xs) (length xs) (each_length f (suc row) xs) ys is
 
 column_cells : (kind : Kind) (refuse : ℕ → ColumnFault) (made : Result (List CellValue) ℕ) (col : ColumnValue) → column_of kind refuse made ≡ Ok col → made ≡ Ok col.cells
-column_cells kind refuse x col is = grind arith
+column_cells = grind arith
 
 pub cast_count : (kind : Kind) (old new : List Text) (a : CellColumn) (made : Result CellColumn ArrayFault) → Answers new made (cast_column kind (kernel.column_value old a)) → IfOk made (λ c. length c.cells ≡ length a.cells)
-cast_count kind old new a (Ok c) is = grind (arith, length-map, each_length, column_cells)
-cast_count kind old new a (Err fault) is = tt
+cast_count _ _ _ a (Ok c) is = grind (arith, length-map, each_length, column_cells)
+cast_count _ _ _ a (Err fault) _ = tt
 
 -- a cumulation
 running_length : (f : List CellValue → CellValue) (before cs : List CellValue) → length (running f before cs) ≡ length cs
-running_length f before [] = refl
+running_length f _ [] = refl
 running_length f before (c ∷ cs) = ap suc (running_length f (before ++ c ∷ []) cs)
 
 cumulated_cells : (op : Cumulation) (takes : Bool) (cells : List CellValue) (col : ColumnValue) → (if takes then Ok record { kind = Int64; cells = running (cumulation_cell op) [] cells } else Err kind_mismatch) ≡ Ok col → col.cells ≡ running (cumulation_cell op) [] cells
-cumulated_cells op x cells col is = grind arith
+cumulated_cells = grind arith
 
 pub cumulated_count : (op : Cumulation) (texts : List Text) (a : CellColumn) (made : Result CellColumn ArrayFault) → Answers texts made (cumulate_column op (kernel.column_value texts a)) → IfOk made (λ c. length c.cells ≡ length a.cells)
-cumulated_count op texts a (Ok c) is = grind (arith, length-map, cumulated_cells, running_length)
-cumulated_count op texts a (Err fault) is = tt
+cumulated_count _ _ a (Ok c) is = grind (arith, length-map, cumulated_cells, running_length)
+cumulated_count _ _ a (Err fault) _ = tt
 
 -- a kernel's answer on the cells of a column is that of a table's
 pub column_made : (texts : List Text) (made : Result CellColumn ArrayFault) (whole : Result ColumnValue ColumnFault) → Answers texts made whole → MakesColumn texts made (made_column whole)
-column_made texts x whole answers = grind arith
+column_made = grind arith

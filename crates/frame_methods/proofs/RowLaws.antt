@@ -20,24 +20,24 @@ abbrev pub run : ℕ → ℕ → Rows
 run start count = record { start = start; step = pos 1; count = count }
 
 same_run : (start start' count count' : ℕ) → start ≡ start' → count ≡ count' → run start count ≡ run start' count'
-same_run start start' count count' s c = search
+same_run _ _ _ _ s c = search
 
 abbrev pub run_result : Table → Rows → Result Entry FaultValue
 run_result t rows = limited (rows_taken t (rows_of rows))
 
 -- `iloc[:n]`
 pub first_meant : (t : Table) (n : ℤ) (count : ℕ) → count ≡ rows_before (length t.labels) n → run_result t (run 0 count) ≡ head_result t n
-first_meant t n count is = grind (arith, same_run)
+first_meant = grind (arith, same_run)
 
 above_zero : (n : ℕ) → int_eq (pos (suc n)) (pos 0) ≡ false
-above_zero n = grind arith
+above_zero = grind arith
 
 abbrev unless_zero : Table → ℤ → Bool → Result Entry FaultValue
 unless_zero t n is_zero = if is_zero then limited (rows_taken t []) else placed_rows t (place_slice (Some (neg_ℤ n)) None None)
 
 -- `iloc[-n:]`
 pub last_meant : (t : Table) (n : ℤ) (count : ℕ) → count ≡ rows_before (length t.labels) n → run_result t (run (length t.labels - count) count) ≡ tail_result t n
-last_meant t (pos zero) count is = grind arith
+last_meant t (pos zero) _ is = grind arith
 last_meant t (pos (suc n)) count is =
     let all = length t.labels in
     let first : all - count ≡ all - suc n = omega (arith, is) in
@@ -51,7 +51,7 @@ last_meant t (negsuc n) count is =
 
 -- the rows of an object that is read
 pub rows_read : (texts : List Text) (object : Option NumberedTable) (source : NumberedTable) (count : ℕ) → object ≡ Some source → count ≡ length source.labels → count ≡ length (table_value texts (table_or object)).labels
-rows_read texts object source count is counted = grind (arith, read_is, length-map)
+rows_read = grind (arith, read_is, length-map)
 
 -- the table of these rows
 abbrev own_headings : NumberedTable → HeadingList
@@ -60,7 +60,7 @@ own_headings t = record { columns_name = t.columns_name; labels = t.headings }
 pub rows_made : (texts : List Text) (t made : NumberedTable) (headings : HeadingList) (rows columns : List ℕ) → headings ≡ own_headings t → columns ≡ range_with_len 0 (length t.columns)
     → made ≡ chosen t.shape headings rows columns t → within_limits (length rows) (length t.columns) ≡ true → IsSettled table_value texts t
     → Makes texts (Ok made) (limited (rows_taken (table_value texts t) rows))
-rows_made texts t made headings rows columns named all is within settled = (
+rows_made texts t _ headings rows columns named all is within settled = (
   limited_within (rows_taken T rows) (length rows) (length t.columns) (length-map rows (λ row. slice_index_or T.labels row [])) (search length-map) within
       ∙ ap (λ v. Ok (table v)) (cc (chosen_rows texts headings rows columns t named all)),
   subst (IsSettled table_value texts) (sym is)
@@ -71,7 +71,7 @@ rows_made texts t made headings rows columns named all is within settled = (
     T = table_value texts t
 
 pub makes_so : (texts : List Text) (r : Result NumberedTable OpFault) (meant meant' : Result Entry FaultValue) → meant ≡ meant' → Makes texts r meant → Makes texts r meant'
-makes_so texts r meant meant' same = grind arith
+makes_so = grind arith
 
 pub all_columns_are : (t : Table) → map (column_at t.columns) (all_places t) ≡ t.columns
 all_columns_are t = list_is (column_at t.columns) t.columns 0 no_column (λ k lt. let e : 0 + k ≡ k = omega arith in ap (column_at t.columns) e)
@@ -88,19 +88,19 @@ abbrev pub complete_before : Table → ℕ → List ℕ
 complete_before t row = rows_where (list_all is_present) 0 (take row (cells_by_row t (all_places t)))
 
 rows_counted : (t : Table) → length (cells_by_row t (all_places t)) ≡ length t.labels
-rows_counted t = search (by_rows, length-map, cells_in, length-range_with_len)
+rows_counted = search (by_rows, length-map, cells_in, length-range_with_len)
 
 pub complete_more : (t : Table) (row : ℕ) (rows rows' : List ℕ) → row < length t.labels → rows ≡ complete_before t row → list_all is_present (row_of na_cell t row).cells ≡ true → rows' ≡ rows ++ row ∷ []
     → rows' ≡ complete_before t (row + 1)
-complete_more t row rows rows' lt before whole pushed = grind (arith, rows_counted, rows_more_yes, row_there)
+complete_more = grind (arith, rows_counted, rows_more_yes, row_there)
 
 pub complete_same : (t : Table) (row : ℕ) (rows : List ℕ) → row < length t.labels → rows ≡ complete_before t row → list_all is_present (row_of na_cell t row).cells ≡ false → rows ≡ complete_before t (row + 1)
-complete_same t row rows lt before whole = grind (arith, rows_counted, rows_more_no, row_there)
+complete_same = grind (arith, rows_counted, rows_more_no, row_there)
 
 pub complete_all : (t : Table) (row : ℕ) (rows : List ℕ) → length t.labels ≤ row → rows ≡ complete_before t row → rows ≡ complete t
-complete_all t row rows end before = grind (arith, rows_counted, take_all)
+complete_all = grind (arith, rows_counted, take_all)
 
 pub complete_below : (texts : List Text) (t : NumberedTable) (rows : List ℕ) → rows ≡ complete (table_value texts t) → All (λ row. row < length t.labels) rows
-complete_below texts t rows is =
+complete_below texts t _ is =
     let T = table_value texts t in
     grind (arith, rows_counted T, length-map t.labels (tuple_value texts), rows_inside (list_all is_present) (cells_by_row T (all_places T)))

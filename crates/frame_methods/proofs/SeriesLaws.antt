@@ -40,15 +40,15 @@ pub frame_answer : (op : Summary) (texts : List Text) (t made : NumberedTable) (
     → try_all (summary_as op kind) (columns_value texts t.columns) ≡ Ok (map (datum texts) cells.cells) → kind ≡ kind_for op (columns_value texts t.columns) → cells.kind ≡ kind
     → within_limits (length t.columns) 1 ≡ true → length t.headings ≡ length t.columns → axis ≡ summaries_axis t → made ≡ summaries_table t axis cells
     → summary_of Frame op (table_value texts t) ≡ Ok (table (table_value texts made))
-frame_answer op texts t made kind axis cells all kinds same within headed axis_is is = grind (arith, limited_within (across_columns (table_value texts t) None kind (map (datum texts) cells.cells)) (length t.columns) 1 (length-map (headings_value texts t.headings) label_tuple ∙ length-map t.headings (heading_value texts) ∙ headed) refl within, series_seen texts t kind cells same)
+frame_answer _ texts t _ kind _ cells all kinds same within headed axis_is is = grind (arith, limited_within (across_columns (table_value texts t) None kind (map (datum texts) cells.cells)) (length t.columns) 1 (length-map (headings_value texts t.headings) label_tuple ∙ length-map t.headings (heading_value texts) ∙ headed) refl within, series_seen texts t kind cells same)
 
 pub frame_refused : (op : Summary) (texts : List Text) (t : NumberedTable) (kind : Kind) (fault : FaultValue)
     → try_all (summary_as op kind) (columns_value texts t.columns) ≡ Err fault → kind ≡ kind_for op (columns_value texts t.columns) → summary_of Frame op (table_value texts t) ≡ Err fault
-frame_refused op texts t kind fault all kinds = cc
+frame_refused _ _ t _ _ all kinds = cc
 
 pub frame_settled : (texts : List Text) (t made : NumberedTable) (axis : AxisValue) (cells : CellColumn) → IsSettled table_value texts t → AreGiven texts cells.cells → axis ≡ summaries_axis t → made ≡ summaries_table t axis cells
     → IsSettled table_value texts made
-frame_settled texts t made axis cells settled given axis_is is =
+frame_settled texts t _ _ cells settled given axis_is is =
     subst (IsSettled table_value texts) (sym (is ∙ ap (λ a. summaries_table t a cells) axis_is))
     (table_settled texts (summaries_table t (summaries_axis t) cells)
     (λ more. refl)

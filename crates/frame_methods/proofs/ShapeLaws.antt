@@ -11,24 +11,24 @@ use Rattle.form_meaning.specs.declared.LabelMethod.TheVariants as label_method
 
 pub rename_of_series : (m : TableMethod) (s : Shape) → m ≡ table_method.RenameSeries → fits_shape (method.Table m) s ≡ true → s ≡ Series
 unfolding method_names
-rename_of_series m s is fits = grind (arith, of_series)
+rename_of_series = grind (arith, of_series)
 
 pub to_frame_of_series : (m : TableMethod) (s : Shape) → m ≡ table_method.ToFrame → fits_shape (method.Table m) s ≡ true → s ≡ Series
 unfolding method_names
-to_frame_of_series m s is fits = grind (arith, of_series)
+to_frame_of_series = grind (arith, of_series)
 
 pub rename_of_frame : (m : TableMethod) (s : Shape) → m ≡ table_method.RenameFrame → fits_shape (method.Table m) s ≡ true → s ≡ Frame
 unfolding method_names
-rename_of_frame m s is fits = grind arith
+rename_of_frame = grind arith
 
 pub drop_of_frame : (m : TableMethod) (s : Shape) → m ≡ table_method.DropColumns → fits_shape (method.Table m) s ≡ true → s ≡ Frame
 unfolding method_names
-drop_of_frame m s is fits = grind arith
+drop_of_frame = grind arith
 
 pub set_index_of_frame : (m : LevelMethod) (s : Shape) → m ≡ level_method.SetIndex → fits_shape (method.Levels m) s ≡ true → s ≡ Frame
 unfolding method_names
-set_index_of_frame m s is fits = grind arith
+set_index_of_frame = grind arith
 
 pub reindex_of_frame : (m : LabelMethod) (s : Shape) → m ≡ label_method.ReindexFrame → fits_shape (method.Labels m) s ≡ true → s ≡ Frame
 unfolding method_names
-reindex_of_frame m s is fits = grind arith
+reindex_of_frame = grind arith

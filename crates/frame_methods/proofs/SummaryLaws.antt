@@ -16,11 +16,11 @@ use Rattle.method_meaning.specs.Methods as meant
 -- a number below 2^64 as what is left of it in 64 bits
 count_wraps : (n : ℕ) → n < 2 ^ 64 → int_wrap w64 (pos n) ≡ cast_signed w64 n
 unfolding int_wrap
-count_wraps n lt = search mod-eq_of_lt
+count_wraps = search mod-eq_of_lt
 
 pub distinct_answer : (texts : List Text) (a : CellColumn) (n : ℕ) (c : Cell) → n < 2 ^ 64 → n ≡ distinct_count (kernel.column_value texts a).cells → c ≡ counted_cell n
     → meant.summary_cell meant.distinct (column_value texts (table_column a)) ≡ Ok (datum texts c)
-distinct_answer texts a n c lt is cell = cc (count_wraps n lt)
+distinct_answer _ a n c lt is cell = cc (count_wraps n lt)
 
 abbrev cells_front : (ColumnOf CellValue → Result CellValue FaultValue) → List CellValue → List (ColumnOf CellValue) → Result (List CellValue) FaultValue
 cells_front f made rest = with_front made (try_all f rest)
@@ -28,7 +28,7 @@ cells_front f made rest = with_front made (try_all f rest)
 pub cells_step : (f : ColumnOf CellValue → Result CellValue FaultValue) (dict : List Text) (columns : List (ColumnOf Cell)) (kind : Kind) (place : ℕ) (made made' a : CellColumn) (x : Cell)
     → AreCells f dict columns kind place made → place < length columns → column_at columns place ≡ table_column a → IsGiven dict x → made' ≡ record { kind = made.kind; cells = made.cells ++ x ∷ [] }
     → f (column_value dict (table_column a)) ≡ Ok (datum dict x) → AreCells f dict columns kind (place + 1) made'
-cells_step f dict columns kind place made made' a x so_far lt at given more is = subst (AreCells f dict columns kind (place + 1)) (sym more) record {
+cells_step f dict columns kind place made _ a x so_far lt at given more is = subst (AreCells f dict columns kind (place + 1)) (sym more) record {
   same = so_far.same;
   count = grind (arith, length-append);
   given = All-append (IsGiven dict) made.cells (x ∷ []) so_far.given (All-cons (IsGiven dict) x [] given (All-nil (IsGiven dict)));
@@ -43,6 +43,6 @@ cells_step f dict columns kind place made made' a x so_far lt at given more is =
 pub cells_refused : (f : ColumnOf CellValue → Result CellValue FaultValue) (dict : List Text) (columns : List (ColumnOf Cell)) (kind : Kind) (place : ℕ) (made a : CellColumn) (fault : FaultValue)
     → AreCells f dict columns kind place made → place < length columns → column_at columns place ≡ table_column a → f (column_value dict (table_column a)) ≡ Err fault
     → try_all f (columns_value dict columns) ≡ Err fault
-cells_refused f dict columns kind place made a fault so_far lt at is =
+cells_refused f dict columns _ place made a fault so_far lt at is =
     front_fails f (map (datum dict) made.cells) (column_value dict (table_column a)) fault (columns_value dict (drop (place + 1) columns)) (try_all f (columns_value dict columns))
     (cc (at_place columns place (table_column a) lt at, so_far.answer)) is

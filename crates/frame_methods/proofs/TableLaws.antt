@@ -13,7 +13,7 @@ use Rattle.method_meaning.specs.Methods as meant
 -- the same table under other columns, at a later dictionary
 pub columns_later : (old new : List Text) (t : NumberedTable) (cs : List (ColumnOf Cell)) → IsLonger old new → IsSettled table_value old t
     → with_columns (table_value old t) (columns_value new cs) ≡ table_value new (record t { columns = cs })
-columns_later old new t cs longer settled = grind (arith, seen_later, columns_name_part, level_names_part, labels_part, headings_part)
+columns_later = grind (arith, seen_later, columns_name_part, level_names_part, labels_part, headings_part)
 
 abbrev then_limited : Table → Result (List (ColumnOf CellValue)) FaultValue → Result Entry FaultValue
 then_limited t r = then_value r (λ columns. limited (with_columns t columns))
@@ -22,11 +22,11 @@ pub made_columns : (f : ColumnOf CellValue → Result (ColumnOf CellValue) Fault
     → IsLonger old new → IsSettled table_value old t → headings ≡ record { columns_name = t.columns_name; labels = t.headings } → made ≡ table_with t.shape (axis_of t) headings (map block_column bs)
     → within_limits (length t.labels) (length bs) ≡ true → try_all f (columns_value old t.columns) ≡ Ok (columns_value new (map block_column bs))
     → meant.each_column f (table_value old t) ≡ Ok (table (table_value new made))
-made_columns f old new t made headings bs longer settled same is within all = grind (arith, length-map, columns_later)
+made_columns = grind (arith, length-map, columns_later)
 
 pub columns_settled_later : (old new : List Text) (t made : NumberedTable) (headings : HeadingList) (bs : List CellBlock)
     → IsLonger old new → IsSettled table_value old t → headings ≡ record { columns_name = t.columns_name; labels = t.headings } → made ≡ table_with t.shape (axis_of t) headings (map block_column bs)
     → All (λ c. AreGiven new c.cells) (map block_column bs) → IsSettled table_value new made
-columns_settled_later old new t made headings bs longer settled same is given =
+columns_settled_later old new t _ _ bs longer settled same is given =
     subst (IsSettled table_value new) (sym (is ∙ ap (λ h. table_with t.shape (axis_of t) h (map block_column bs)) same))
     (with_columns_settled new t (map block_column bs) (settled_later table_value old new t longer settled) given)

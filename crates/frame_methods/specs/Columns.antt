@@ -14,7 +14,8 @@ use Rattle.form_meaning.specs.Finish.{try_all}
 use Rattle.column_core.specs.Blocks.{CellBlock}
 use Rattle.label_methods.specs.Columns.{seen_column, with_front}
 
--- each of these cells was given
+-- Each of these cells was given, one by one: `AreGiven` of the list, but it computes on a list that is written out, so
+-- that of no cell nothing is to be shown, and of one only that this one was given.
 abbrev pub EachGiven : List Text → List Cell → Type 0
 EachGiven texts [] = Unit {0}
 EachGiven texts (c ∷ cs) = IsGiven texts c × EachGiven texts cs

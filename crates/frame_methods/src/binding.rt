@@ -51,7 +51,7 @@ fn is_built(method: Method) -> bool
 }
 
 // The scalar that stands at a place, where the parameter always has one: its text was given, since those of all
-// arguments were. Takes no memory.
+// arguments were. The store and the dictionary serve these clauses alone. Takes no memory.
 pub(crate) fn given_scalar(store: &Store, dict: &TextDict, bound: &Bound<'_>, place: usize) -> Cell
     requires sure { form_at bound.now place ≡ Some Scalar }
     requires no_text { HasNoText (slice_get bound.now.parameters.now place) }

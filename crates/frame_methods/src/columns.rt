@@ -18,7 +18,7 @@ use frame_store::{Blocks, ObjRef};
 use nullable_array::ArrayFault;
 use std::alloc::Global;
 
-// What an operation makes of a column, or a kernel's refusal.
+// What an operation makes of a column, or its refusal, which is one of a kernel's.
 pub(crate) type MadeColumn = Result<Column, ArrayFault>;
 
 // A column that is made of a column with as many cells.

@@ -14,21 +14,21 @@ use Rattle.{
 
 -- a Series has a row, or none
 pub no_row : {K C : Type 0} (op : Binary) (labels : List K) (c : ColumnOf C) → length labels ≡ 0 → true ≡ takes_rows op labels c
-no_row op x c none = grind arith
+no_row = grind arith
 
 pub some_row : {K C : Type 0} (op : Binary) (labels : List K) (c : ColumnOf C) → length labels ≢ 0 → takes_twice op c ≡ takes_rows op labels c
-some_row op x c some = grind arith
+some_row = grind arith
 
 -- the kinds need no texts
 rows_seen : (op : Binary) (texts : List Text) (labels : List (List Label)) (c : ColumnOf CellValue) (d : ColumnOf Cell) → c ≡ column_value texts d → takes_rows op (labels_value texts labels) c ≡ takes_rows op labels d
-rows_seen op texts x c d is = grind arith
+rows_seen = grind arith
 
 takes_seen : (op : Binary) (texts : List Text) (f s : NumberedTable) → takes_each op (table_value texts f) (table_value texts s) ≡ takes_each op f s
-takes_seen op texts f s = grind (arith, list_all-map, rows_seen, first_column)
+takes_seen = grind (arith, list_all-map, rows_seen, first_column)
 
 -- a label is one of the rows' where some rows have it
 any_rows : (p : List Label → Bool) (row : ℕ) (xs : List (List Label)) → are_some (rows_where p row xs) ≡ list_any p xs
-any_rows p row [] = refl
+any_rows p _ [] = refl
 any_rows p row (x ∷ xs) = grind (arith, any_rows p (row + 1) xs)
 
 -- one column more
@@ -45,22 +45,22 @@ module _ (kind : Kind) (labels keys : List (List Label)) (cs : List (ColumnOf Ce
 
   pub one_more_fits : (place : ℕ) (rows : List ℕ) (whole : Bool) → place < length keys → place < length cs → rows ≡ slice_index_or (map (rows_with labels) keys) place [] → (if are_some rows then same_kind (column_at cs place).kind kind else true) ≡ true
       → labels_fit same_numbers kind labels (drop place keys) (drop place cs) ≡ whole → labels_fit same_numbers kind labels (drop (place + 1) keys) (drop (place + 1) cs) ≡ whole
-  one_more_fits place rows whole lt lt' is fits before = cc (fits_from place rows lt lt' is)
+  one_more_fits place rows _ lt lt' is fits before = cc (fits_from place rows lt lt' is)
 
   pub one_unfit : (place : ℕ) (rows : List ℕ) (whole : Bool) → place < length keys → place < length cs → rows ≡ slice_index_or (map (rows_with labels) keys) place [] → (if are_some rows then same_kind (column_at cs place).kind kind else true) ≡ false
       → labels_fit same_numbers kind labels (drop place keys) (drop place cs) ≡ whole → false ≡ whole
-  one_unfit place rows whole lt lt' is unfit before = cc (fits_from place rows lt lt' is)
+  one_unfit place rows _ lt lt' is unfit before = cc (fits_from place rows lt lt' is)
 
 -- with texts
 any_seen : (texts : List Text) (key : List Label) (labels : List (List Label)) → AreDistinct texts → IsSettled tuple_value texts key → All (IsSettled tuple_value texts) labels → list_any (same_tuple (tuple_value texts key)) (labels_value texts labels) ≡ list_any (same_numbers key) labels
-any_seen texts key [] distinct here all = refl
+any_seen _ _ [] _ _ _ = refl
 any_seen texts key (t ∷ ts) distinct here all =
     λ j. tuple_by_number texts key t distinct here (All-head (IsSettled tuple_value texts) t ts all) j || any_seen texts key ts distinct here (All-tail (IsSettled tuple_value texts) t ts all) j
 
 fit_seen : (texts : List Text) (kind : Kind) (labels keys : List (List Label)) (cs : List (ColumnOf Cell)) → AreDistinct texts → All (IsSettled tuple_value texts) labels → All (IsSettled tuple_value texts) keys
     → labels_fit same_tuple kind (labels_value texts labels) (labels_value texts keys) (columns_value texts cs) ≡ labels_fit same_numbers kind labels keys cs
-fit_seen texts kind labels [] cs distinct all each = refl
-fit_seen texts kind labels (k ∷ ks) [] distinct all each = refl
+fit_seen _ _ _ [] _ _ _ _ = refl
+fit_seen _ _ _ (k ∷ ks) [] _ _ _ = refl
 fit_seen texts kind labels (k ∷ ks) (c ∷ cs) distinct all each =
     λ j. (if any_seen texts k labels distinct (All-head (IsSettled tuple_value texts) k ks each) all j then same_kind c.kind kind else true)
     && fit_seen texts kind labels ks cs distinct all (All-tail (IsSettled tuple_value texts) k ks each) j
@@ -90,13 +90,13 @@ module _ (op : Binary) (texts : List Text) (f s : NumberedTable) (left : Bool) w
       ∙ fit_seen texts kind s.labels (map heading_tuple f.headings) f.columns distinct (tuples_settled texts s.labels (labels_part texts s given')) (tuples_settled texts (map heading_tuple f.headings) (labels_given texts (labels_axis f) f refl given))
 
   by_tests : (k l : Bool) → takes_each op f s ≡ k → nat_eq (length s.level_names) 1 ≡ l → across_unequal op left v w ≡ on_levels k l (rest fit_meant (compares op))
-  by_tests k l kinds counted = grind (arith, takes_seen, levels_one)
+  by_tests = grind (arith, takes_seen, levels_one)
 
   equal : (n : ℕ) → n ≡ 1 → nat_eq n 1 ≡ true
-  equal n same = grind (arith, nat_tests)
+  equal = grind (arith, nat_tests)
 
   not_equal : (n : ℕ) → n ≢ 1 → nat_eq n 1 ≡ false
-  not_equal n apart = grind (arith, nat_tests)
+  not_equal = grind (arith, nat_tests)
 
   pub across_kinds : takes_each op f s ≡ false → across_unequal op left v w ≡ Err wrong_kind
   across_kinds kinds = by_tests false (nat_eq (length s.level_names) 1) kinds refl
@@ -107,7 +107,7 @@ module _ (op : Binary) (texts : List Text) (f s : NumberedTable) (left : Bool) w
 
     module _ (one : length s.level_names ≡ 1) (distinct : AreDistinct texts) (given : IsSettled table_value texts f) (given' : IsSettled table_value texts s) where
       by_labels : (fit : Bool) → fit ≡ labels_fit same_numbers kind s.labels (map heading_tuple f.headings) f.columns → across_unequal op left v w ≡ rest fit (compares op)
-      by_labels fit is = cc (by_tests true true kinds (equal (length s.level_names) one), fit_is distinct given given')
+      by_labels _ is = cc (by_tests true true kinds (equal (length s.level_names) one), fit_is distinct given given')
 
       pub across_unfit : false ≡ labels_fit same_numbers kind s.labels (map heading_tuple f.headings) f.columns → across_unequal op left v w ≡ Err wrong_kind
       across_unfit is = by_labels false is

@@ -12,7 +12,7 @@ use Rattle.{
 }
 
 pub columns_later : (old new : List Text) (cs : List (ColumnOf Cell)) → IsLonger old new → All (λ c. AreGiven old c.cells) cs → All (λ c. AreGiven new c.cells) cs
-columns_later old new cs longer given = search (cells_given, settled_later, cells_settled)
+columns_later = search (cells_given, settled_later, cells_settled)
 
 -- two columns that meet are seen alike through more texts
 pair_settled : (texts : List Text) (a b : ColumnOf Cell) → AreGiven texts a.cells → AreGiven texts b.cells → IsSettled meeting_value texts (a, b)
@@ -23,51 +23,51 @@ turned_settled texts true a b f g = pair_settled texts b a g f
 turned_settled texts false a b f g = pair_settled texts a b f g
 
 repeated_given : (texts : List Text) (kind : Kind) (n : ℕ) (c : Cell) → IsGiven texts c → AreGiven texts (repeated kind n c).cells
-repeated_given texts kind n c given = All-replicate (IsGiven texts) n c given
+repeated_given texts _ n c given = All-replicate (IsGiven texts) n c given
 
 met_settled : (texts : List Text) (on : NumberedTable) (other : Other) (place : ℕ) (a : ColumnOf Cell) → place < length on.columns → IsOpposite on other → IsGivenOther texts other → AreGiven texts a.cells
     → IsSettled meeting_value texts (pair_at other place a)
-met_settled texts on (Scalar c left) place a lt opposite given here = search (turned_settled, repeated_given)
-met_settled texts on (Beside t) place a lt opposite given here =
+met_settled _ _ (Scalar c left) _ a lt opposite given here = search (turned_settled, repeated_given)
+met_settled _ _ (Beside t) place a lt opposite given here =
     let inside : place < length t.columns = omega (arith, opposite.0) in
     search pair_settled
-met_settled texts on (Across s left) place a lt opposite given here =
+met_settled _ _ (Across s left) place a lt opposite given here =
     let inside : place < length (column_at s.columns 0).cells = omega (arith, opposite.1) in
     search (turned_settled, repeated_given)
 
 -- the pairs from a place on
 pub pairs_here : (other : Other) (place : ℕ) (cs : List (ColumnOf Cell)) → place < length cs → pairs_from other place (drop place cs) ≡ pair_at other place (column_at cs place) ∷ pairs_from other (place + 1) (drop (place + 1) cs)
-pairs_here other place cs lt = grind (arith, drop-cons, add-one)
+pairs_here = grind (arith, drop-cons, add-one)
 
 both_true : (a b : Bool) → (a && b) ≡ true → (a ≡ true) × (b ≡ true)
-both_true x b e = grind arith
+both_true = grind arith
 
 pub kinds_here : (p : Pair → Bool) (other : Other) (place : ℕ) (cs : List (ColumnOf Cell)) → place < length cs → list_all p (pairs_from other place (drop place cs)) ≡ true
     → (p (pair_at other place (column_at cs place)) ≡ true) × (list_all p (pairs_from other (place + 1) (drop (place + 1) cs)) ≡ true)
-kinds_here p other place cs lt all = grind (arith, both_true, pairs_here)
+kinds_here = grind (arith, both_true, pairs_here)
 
 module _ {A B : Type 0} (f : A → Result B FaultValue) where
   pub nothing_made : (all : List A) → then_value (try_all f all) (λ rest. Ok ([] ++ rest)) ≡ try_all f all
-  nothing_made all = grind arith
+  nothing_made = grind arith
 
   -- one more is made
   pub one_more_made : (x : A) (xs : List A) (done : List B) (y : B) (whole : Result (List B) FaultValue) → f x ≡ Ok y → then_value (try_all f (x ∷ xs)) (λ rest. Ok (done ++ rest)) ≡ whole
       → then_value (try_all f xs) (λ rest. Ok ((done ++ y ∷ []) ++ rest)) ≡ whole
-  one_more_made x xs done y whole here before = grind (arith, append_assoc)
+  one_more_made = grind (arith, append_assoc)
 
   -- one is refused
   pub one_refused : (x : A) (xs : List A) (done : List B) (fault : FaultValue) (whole : Result (List B) FaultValue) → f x ≡ Err fault → then_value (try_all f (x ∷ xs)) (λ rest. Ok (done ++ rest)) ≡ whole → whole ≡ Err fault
-  one_refused x xs done fault whole here before = cc
+  one_refused x _ _ _ _ here before = cc
 
 -- the blocks, with one more
 blocks_more : (mid new : List Text) (made made' : List CellBlock) (block : CellBlock) → IsLonger mid new → All (λ c. AreGiven mid c.cells) (map block_column made) → made' ≡ made ++ block ∷ []
     → blocks_value new made' ≡ blocks_value mid made ++ block_value new block ∷ []
-blocks_more mid new made made' block longer given pushed = grind (arith, map-append, seen_later, columns_settled)
+blocks_more = grind (arith, map-append, seen_later, columns_settled)
 
 -- columns with one more
 pub columns_more : (mid new : List Text) (rows columns : ℕ) (made made' : List CellBlock) (block : CellBlock) → IsLonger mid new → AreColumns mid rows columns made → made' ≡ made ++ block ∷ []
     → IsSingle block → length (block_column block).cells ≡ rows → AreGiven new (block_column block).cells → AreColumns new rows (columns + 1) made'
-columns_more mid new rows columns made made' block longer before pushed single here given =
+columns_more mid new rows columns made _ block longer before pushed single here given =
     subst (AreColumns new rows (columns + 1)) (sym pushed)
     (record {
       single = All-push IsSingle made block before.single single;
@@ -92,7 +92,7 @@ module _ (f : Meeting → Result (ColumnOf CellValue) FaultValue) (old mid new :
       ap f (sym (seen_later meeting_value old mid pair longer (search met_settled)))
 
   split : place < length on.columns → IsWholeSoFar → then_value (try_all f (meeting_value old pair ∷ later)) (λ rest. Ok (blocks_value mid made ++ rest)) ≡ whole
-  split lt before = grind (arith, pairs_here)
+  split = grind (arith, pairs_here)
 
   pub whole_more : (made' : List CellBlock) (block : CellBlock) → place < length on.columns → IsOpposite on other → IsGivenOther old other → All (λ c. AreGiven old c.cells) on.columns → IsLonger old mid → IsLonger mid new
       → All (λ c. AreGiven mid c.cells) (map block_column made) → made' ≡ made ++ block ∷ [] → f (meeting_value mid pair) ≡ Ok (block_value new block) → IsWholeSoFar
@@ -101,4 +101,4 @@ module _ (f : Meeting → Result (ColumnOf CellValue) FaultValue) (old mid new :
 
   pub whole_refused : (fault : OpFault) → place < length on.columns → IsOpposite on other → IsGivenOther old other → All (λ c. AreGiven old c.cells) on.columns → IsLonger old mid
       → MakesBy block_value new (Err fault) (f (meeting_value mid pair)) → IsWholeSoFar → MakesBy blocks_value new (Err fault) whole
-  whole_refused x lt opposite beside given longer is before = grind (arith, one_refused, met_as_before, split)
+  whole_refused = grind (arith, one_refused, met_as_before, split)

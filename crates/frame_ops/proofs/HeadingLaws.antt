@@ -26,7 +26,7 @@ label_settled texts ls l k settled alike lt is =
     ap Some (cc (get_or-map (label_datum (texts ++ more)) t 0 label.Na na inside, tuple more, get_or-map (label_datum texts) t 0 label.Na na inside)))
 
 and_false : (b : Bool) → (b && false) ≡ false
-and_false x = grind arith
+and_false = grind arith
 
 headings_differ : (x y : List (Option LabelValue)) → length x ≢ length y → same_headings x y ≡ false
 headings_differ [] [] n = absurd (n refl)
@@ -36,7 +36,7 @@ headings_differ (a ∷ as') (b ∷ bs) n = search (and_false, headings_differ as
 
 -- tables with columns of different numbers
 pub other_count : (texts : List Text) (a b : List (Option Label)) → length a ≢ length b → false ≡ same_headings (headings_value texts a) (headings_value texts b)
-other_count texts a b n = grind (arith, headings_differ, length-map)
+other_count = grind (arith, headings_differ, length-map)
 
 labels_differ : (x : List (List LabelValue)) (y : List (Option LabelValue)) → length x ≢ length y → are_headings x y ≡ false
 labels_differ [] [] n = absurd (n refl)
@@ -50,17 +50,17 @@ labels_differ ((l ∷ []) ∷ ls) (h ∷ hs) n = search (and_false, labels_diffe
 
 -- another number of rows than of columns
 pub other_rows : (texts : List Text) (ls : List (List Label)) (hs : List (Option Label)) → length ls ≢ length hs → false ≡ are_headings (labels_value texts ls) (headings_value texts hs)
-other_rows texts ls hs n = grind (arith, labels_differ, length-map)
+other_rows = grind (arith, labels_differ, length-map)
 
 -- labels of several levels are no headings, unless there are none
 pub other_levels : (texts : List Text) (levels count : ℕ) (ls : List (List Label)) (hs : List (Option Label)) → HaveLevels levels ls → levels ≢ 1 → count ≡ length ls → length ls ≡ length hs
     → nat_eq count 0 ≡ are_headings (labels_value texts ls) (headings_value texts hs)
-other_levels texts levels count [] [] alike n is same = grind (arith, nat_tests)
-other_levels texts levels count [] (h ∷ hs) alike n is same = search
-other_levels texts levels count (t ∷ ls) [] alike n is same = search
-other_levels texts levels count ([] ∷ ls) (h ∷ hs) alike n is same = grind (arith, nat_tests)
-other_levels texts levels count ((l ∷ []) ∷ ls) (h ∷ hs) alike n is same = absurd (n (sym (alike 0 [] (omega arith))))
-other_levels texts levels count ((l ∷ m ∷ r) ∷ ls) (h ∷ hs) alike n is same = grind (arith, nat_tests)
+other_levels _ _ _ [] [] alike n is same = grind (arith, nat_tests)
+other_levels _ _ _ [] (h ∷ hs) alike n is same = search
+other_levels _ _ _ (t ∷ ls) [] alike n is same = search
+other_levels _ _ _ ([] ∷ ls) (h ∷ hs) alike n is same = grind (arith, nat_tests)
+other_levels _ _ _ ((l ∷ []) ∷ ls) (h ∷ hs) alike n is same = absurd (n (sym (alike 0 [] (omega arith))))
+other_levels _ _ _ ((l ∷ m ∷ r) ∷ ls) (h ∷ hs) alike n is same = grind (arith, nat_tests)
 
 one_label : (t : List Label) → length t ≡ 1 → t ≡ slice_index_or t 0 label.Na ∷ []
 one_label [] e = search
@@ -71,7 +71,7 @@ one_label (l ∷ m ∷ r) e = search
 pub one_more_heading : (texts : List Text) (ls : List (List Label)) (hs : List (Option Label)) (k : ℕ) (l : Label) (h : Option Label) (whole : Bool) → HaveLevels 1 ls → k < length ls → k < length hs
     → l ≡ slice_index_or (slice_index_or ls k []) 0 label.Na → h ≡ slice_index_or hs k None → same_heading (Some (label_datum texts l)) (heading_value texts h) ≡ true
     → are_headings (labels_value texts (drop k ls)) (headings_value texts (drop k hs)) ≡ whole → are_headings (labels_value texts (drop (k + 1) ls)) (headings_value texts (drop (k + 1) hs)) ≡ whole
-one_more_heading texts ls hs k l h whole alike lt lt' is is' same before =
+one_more_heading texts ls hs k l h _ alike lt lt' is is' same before =
     let t = slice_index_or ls k [] in
     let single : t ≡ l ∷ [] = grind (arith, one_label) in
     let rows : drop k ls ≡ (l ∷ []) ∷ drop (suc k) ls = grind (arith, drop-cons) in

@@ -11,7 +11,7 @@ use Rattle.{
 use Rattle.table_meaning.specs.Value as value
 
 pub makes_as : (texts : List Text) (made : Result NumberedTable OpFault) (x y : Result Entry FaultValue) → Makes texts made x → x ≡ y → Makes texts made y
-makes_as texts made x y makes same = grind arith
+makes_as = grind arith
 
 -- the columns that are met, as a table
 abbrev pub met_table : Binary → List Text → NumberedTable → Other → Table → Result Entry FaultValue
@@ -19,10 +19,10 @@ met_table op texts on other t =
     then_value (columns_meant op (length on.labels) (levels_fit on other) (meetings_value texts (pairs_from other 0 on.columns))) (λ columns. Ok (value.table (with_columns t columns)))
 
 equal : (m n : ℕ) → m ≡ n → nat_eq m n ≡ true
-equal m n same = grind (arith, nat_tests)
+equal = grind (arith, nat_tests)
 
 not_equal : (m n : ℕ) → m ≢ n → nat_eq m n ≡ false
-not_equal m n apart = grind (arith, nat_tests)
+not_equal = grind (arith, nat_tests)
 
 -- two tables
 module _ (op : Binary) (texts : List Text) (a b : NumberedTable) (columns : length b.columns ≡ length a.columns) where
@@ -43,7 +43,7 @@ module _ (op : Binary) (texts : List Text) (a b : NumberedTable) (columns : leng
   module _ (rest : Result Entry FaultValue) where
     by_tests : (k l : Bool) → list_all (kinds_meet op) (pairs_from (Beside b) 0 a.columns) ≡ k → nat_eq (length a.level_names) (length b.level_names) ≡ l
         → joined_after op v w rest ≡ on_levels k l (if compares op then Err (bad_value not_aligned) else rest)
-    by_tests k l kinds counted = grind (arith, met, levels_same, kinds_seen)
+    by_tests = grind (arith, met, levels_same, kinds_seen)
 
     pub kinds_differ : list_all (kinds_meet op) (pairs_from (Beside b) 0 a.columns) ≡ false → joined_after op v w rest ≡ Err wrong_kind
     kinds_differ kinds = by_tests false (nat_eq (length a.level_names) (length b.level_names)) kinds refl
@@ -56,13 +56,13 @@ module _ (op : Binary) (texts : List Text) (a b : NumberedTable) (columns : leng
       tests_passed c counted compared = cc (by_tests true true kinds (equal (length a.level_names) (length b.level_names) counted))
 
 first_value : (texts : List Text) (hs : List (Option Label)) → first_heading (headings_value texts hs) ≡ heading_value texts (slice_index_or hs 0 None)
-first_value texts [] = refl
-first_value texts (h ∷ hs) = refl
+first_value _ [] = refl
+first_value _ (h ∷ hs) = refl
 
 -- the frame of the answer, under the name of both
 pub series_named : (texts : List Text) (a b : NumberedTable) (x y name : Option Label) → x ≡ slice_index_or a.headings 0 None → y ≡ slice_index_or b.headings 0 None → heading_value texts name ≡ common_name (heading_value texts x) (heading_value texts y)
     → table_value texts (named_by a (Name name)) ≡ record (table_value texts a) { headings = common_name (first_heading (table_value texts a).headings) (first_heading (table_value texts b).headings) ∷ [] }
-series_named texts a b x y name is is' named = grind (arith, first_value)
+series_named = grind (arith, first_value)
 
 module _ (op : Binary) (texts : List Text) (a b : NumberedTable) where
   abbrev f : Table
@@ -74,7 +74,7 @@ module _ (op : Binary) (texts : List Text) (a b : NumberedTable) where
 -- a frame and a Series across
 pub across_is_meant : (op : Binary) (texts : List Text) (f s : NumberedTable) (left : Bool) → IsWhole f → are_headings (labels_value texts s.labels) (headings_value texts f.headings) ≡ true → length (column_at s.columns 0).cells ≡ length f.columns
     → met_table op texts f (Across s left) (table_value texts (named_by f Kept)) ≡ across_infix op left (table_value texts f) (table_value texts s)
-across_is_meant op texts f s left whole same cells =
+across_is_meant _ texts f s left whole same cells =
     let v = table_value texts f in
     let w = table_value texts s in
     let first = first_column texts s.columns in
@@ -84,7 +84,7 @@ across_is_meant op texts f s left whole same cells =
 
 -- equal lists have one length
 both_true : (a b : Bool) → (a && b) ≡ true → b ≡ true
-both_true x b e = grind arith
+both_true = grind arith
 
 are_count : (x : List (List LabelValue)) (y : List (Option LabelValue)) → are_headings x y ≡ true → length x ≡ length y
 are_count [] [] e = refl
@@ -102,7 +102,7 @@ rows_count texts a b same =
 
 -- the columns of two Series, and of two frames, are as many
 pub series_columns : (a b : NumberedTable) → IsWhole a → IsWhole b → a.shape ≡ Series → b.shape ≡ Series → length b.columns ≡ length a.columns
-series_columns a b whole whole' is is' = grind arith
+series_columns = grind arith
 
 pub frame_columns : (texts : List Text) (a b : NumberedTable) → IsWhole a → IsWhole b → same_headings (headings_value texts a.headings) (headings_value texts b.headings) ≡ true → length b.columns ≡ length a.columns
 frame_columns texts a b whole whole' same =
@@ -112,7 +112,7 @@ frame_columns texts a b whole whole' same =
 
 -- a Series has a cell for each column of the frame
 pub across_opposite : (texts : List Text) (f s : NumberedTable) (left : Bool) → IsWhole f → IsWhole s → s.shape ≡ Series → are_headings (labels_value texts s.labels) (headings_value texts f.headings) ≡ true → IsOpposite f (Across s left)
-across_opposite texts f s left whole whole' is same = grind (arith, length-map, are_count)
+across_opposite = grind (arith, length-map, are_count)
 
 -- the texts of the one column of a Series
 pub series_given : (texts : List Text) (s : NumberedTable) → IsWhole s → s.shape ≡ Series → IsSettled table_value texts s → AreGiven texts (column_at s.columns 0).cells
@@ -121,7 +121,7 @@ series_given texts s whole is settled =
     columns_given texts s.columns (columns_part texts s settled) 0 no_column (omega (arith, one))
 
 pub table_given : (texts : List Text) (t : NumberedTable) → IsSettled table_value texts t → All (λ c. AreGiven texts c.cells) t.columns
-table_given texts t settled = search (columns_given, columns_part)
+table_given = search (columns_given, columns_part)
 
 -- the name of a Series
 pub name_settled : (texts : List Text) (s : NumberedTable) (name : Option Label) → IsWhole s → s.shape ≡ Series → IsSettled table_value texts s → name ≡ slice_index_or s.headings 0 None → IsSettled heading_value texts name
@@ -130,4 +130,4 @@ name_settled texts s name whole is settled here =
     heading_settled texts s.headings name 0 (headings_part texts s settled) (omega (arith, one)) here
 
 pub columns_name_settled : (texts : List Text) (t : NumberedTable) (name : Option Label) → IsSettled table_value texts t → name ≡ t.columns_name → IsSettled heading_value texts name
-columns_name_settled texts t name settled is = rw is (columns_name_part texts t settled)
+columns_name_settled texts t _ settled is = rw is (columns_name_part texts t settled)

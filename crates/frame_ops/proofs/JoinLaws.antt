@@ -1,6 +1,6 @@
 -- Rows that are joined, and the sides of two tables on them.
 use Rattle.{
-  std.{proofs.{Common.{◌≡◌, ◌∙◌, ◌<◌, ◌+◌, ℕ, suc, Bool, List, [], ◌∷◌, length, map, refl, ap, sym, arith, All, Option, Some, None, Result, Ok, Err, slice_index_or, if◌then◌else◌, below_more, get_or-set_other, get_or-set_same}, Math.ListN.{get_or-map}, lemmas.List.{length-map, Elements.{All-map}}}, specs.{Prelude.{slice_set}, List.{list_all}}},
+  std.{proofs.{Common.{◌≡◌, ◌<◌, ◌+◌, ℕ, suc, Bool, List, [], ◌∷◌, length, map, refl, ap, sym, arith, All, Option, Some, None, Result, Ok, Err, slice_index_or, if◌then◌else◌, below_more, get_or-set_other, get_or-set_same}, Math.ListN.{get_or-map}, lemmas.List.{length-map, Elements.{All-map}}}, specs.{Prelude.{slice_set}, List.{list_all}}},
   cell_core.specs.{declared.cell.{Cell.{Cell, TheVariants.{Na}}, Label.{Label}}, Texts.{AreDistinct, AreGiven, IsGiven}},
   meaning.specs.{Text.{Text}, Cell.{CellValue, na_cell, datum}, Column.{gap_cell, taken}, Symbol.{Binary}},
   column_core.specs.Moves.{IsPlaceOf},
@@ -34,29 +34,29 @@ module _ (texts : List Text) (a b : List (List Label)) (distinct : AreDistinct t
   meant_as r is = cc seen
 
   pub rows_meant : (rows : Joined) → numbers ≡ Ok (lists_seen rows) → joined_rows (labels_value texts a) (labels_value texts b) ≡ Ok (joined_value texts rows)
-  rows_meant rows is = search meant_as
+  rows_meant _ is = search meant_as
 
   no_duplicate : (key : List Label) (b : Bool) (es : List (Entry (List Label))) → (if b then Err too_large else Ok (lists_of es)) ≡ Err (duplicate_labels key) → ⊥
-  no_duplicate key x es is = grind arith
+  no_duplicate = grind arith
 
   pub rows_refused : (fault : AlignFault) → AlignsBy lists_seen (Err fault) numbers → MakesBy joined_value texts (Err (align_refusal fault)) (joined_rows (labels_value texts a) (labels_value texts b))
   rows_refused (DuplicateLabels key) is = search no_duplicate
   rows_refused TooLarge is = search meant_as
-  rows_refused NoMemory is = tt
+  rows_refused NoMemory _ = tt
 
   pub rows_inside : (levels : ℕ) → HaveLevels levels a → HaveLevels levels b → (rows : Joined) → numbers ≡ Ok (lists_seen rows) → AreInside (IsKept texts levels) (length a) (length b) (lists_seen rows)
-  rows_inside levels alike alike' rows is = search (joined_inside, tuples_settled)
+  rows_inside = search (joined_inside, tuples_settled)
 
 pub is_joined : (texts : List Text) (x y : AxisValue) (rows : Joined) → AreInside (IsKept texts (length x.names)) (length x.tuples) (length y.tuples) (lists_seen rows) → IsJoined x y rows
-is_joined texts x y rows h = grind arith
+is_joined = grind arith
 
 pub joined_given : (texts : List Text) (levels m n : ℕ) (rows : Joined) → AreInside (IsKept texts levels) m n (lists_seen rows) → IsSettled labels_value texts rows.axis.tuples
-joined_given texts levels m n rows h = settled_tuples texts rows.axis.tuples (λ k d lt. (h.keyed k d lt).1)
+joined_given texts _ m n rows h = settled_tuples texts rows.axis.tuples (λ k d lt. (h.keyed k d lt).1)
 
 -- the names of levels, one more of them
 pub one_named : (P : ℕ → Option Label → Type 0) (names names' : List (Option Label)) (level : ℕ) (name : Option Label) → names' ≡ slice_set names level name → level < length names
     → ((k : ℕ) → k < level → P k (slice_index_or names k None)) → P level name → (k : ℕ) → k < level + 1 → P k (slice_index_or names' k None)
-one_named P names names' level name is inside before here = grind (arith, below_more, get_or-set_other, get_or-set_same)
+one_named P = grind (arith, below_more, get_or-set_other, get_or-set_same)
 
 module _ (texts : List Text) where
   -- all names are those that both sides have
@@ -65,58 +65,58 @@ module _ (texts : List Text) where
       → headings_value texts names ≡ common_names (headings_value texts as') (headings_value texts bs)
   all_named [] [] [] same same' each = refl
   all_named [] [] (b ∷ bs) same same' each = search
-  all_named [] (a ∷ as') bs same same' each = search
-  all_named (n ∷ names) [] bs same same' each = search
+  all_named [] (a ∷ as') _ same same' each = search
+  all_named (n ∷ names) [] _ same same' each = search
   all_named (n ∷ names) (a ∷ as') [] same same' each = search
   all_named (n ∷ names) (a ∷ as') (b ∷ bs) same same' each =
       let here = each 0 (omega arith) in
       search (all_named names as' bs (omega (arith, same)) (omega (arith, same')) (λ k lt. each (suc k) (omega arith)))
 
   pub names_given : (names : List (Option Label)) → ((k : ℕ) → k < length names → IsSettled heading_value texts (slice_index_or names k None)) → IsSettled headings_value texts names
-  names_given [] each = λ more. refl
+  names_given [] _ = λ more. refl
   names_given (n ∷ names) each = λ more j. each 0 (omega arith) more j ∷ names_given names (λ k lt. each (suc k) (omega arith)) more j
 
   -- cells on other rows, with texts
   cell_on : (cells : List Cell) (gap : Option ℕ) → datum texts (gap_cell Na cells gap) ≡ gap_cell na_cell (map (datum texts) cells) gap
-  cell_on cells None = refl
+  cell_on _ None = refl
   cell_on cells (Some place) = sym (get_or-map (datum texts) cells place Na)
 
   cells_on : (cells : List Cell) (rows : List (Option ℕ)) → map (datum texts) (taken Na cells rows) ≡ taken na_cell (map (datum texts) cells) rows
-  cells_on cells [] = refl
+  cells_on _ [] = refl
   cells_on cells (gap ∷ rows) = λ i. cell_on cells gap i ∷ cells_on cells rows i
 
   pub on_rows_seen : (rows : List (Option ℕ)) (cs : List (ColumnOf Cell)) → columns_value texts (on_rows Na rows cs) ≡ on_rows na_cell rows (columns_value texts cs)
-  on_rows_seen rows [] = refl
+  on_rows_seen _ [] = refl
   on_rows_seen rows (c ∷ cs) = search (cells_on, on_rows_seen rows cs)
 
   -- their texts were given
   gap_given : (cells : List Cell) (gap : Option ℕ) → AreGiven texts cells → IsPlaceOf (length cells) gap → IsGiven texts (gap_cell Na cells gap)
-  gap_given cells x given inside = grind arith
+  gap_given = grind arith
 
   pub on_rows_given : (count : ℕ) (rows : List (Option ℕ)) (cs : List (ColumnOf Cell)) → HaveRows count cs → All (IsPlaceOf count) rows → All (λ c. AreGiven texts c.cells) cs → All (λ c. AreGiven texts c.cells) (on_rows Na rows cs)
-  on_rows_given count rows cs filled inside given =
+  on_rows_given _ rows cs filled inside given =
       All-map (λ c. AreGiven texts c.cells) (λ c. record { kind = c.kind; cells = taken Na c.cells rows }) cs
       (λ k d lt. let c = slice_index_or cs k d in
-      All-map (IsGiven texts) (gap_cell Na c.cells) rows (λ j e within. gap_given c.cells (slice_index_or rows j e) (given k d lt) (grind arith)))
+      All-map (IsGiven texts) (gap_cell Na c.cells) rows (λ j e within. grind (arith, gap_given)))
 
 -- the kinds stay on other rows
 pub kinds_on : (op : Binary) (l r : List (Option ℕ)) (as' bs : List (ColumnOf CellValue)) → list_all (meets op) (beside (on_rows na_cell l as') (on_rows na_cell r bs)) ≡ list_all (meets op) (beside as' bs)
-kinds_on op l r [] bs = refl
-kinds_on op l r (a ∷ as') [] = refl
+kinds_on _ l r [] _ = refl
+kinds_on _ l r (a ∷ as') [] = refl
 kinds_on op l r (a ∷ as') (b ∷ bs) = cc (kinds_on op l r as' bs)
 
 pub length-beside : (as' bs : List (ColumnOf CellValue)) → length bs ≡ length as' → length (beside as' bs) ≡ length as'
-length-beside [] bs same = refl
+length-beside [] _ _ = refl
 length-beside (a ∷ as') [] same = search
 length-beside (a ∷ as') (b ∷ bs) same = ap suc (length-beside as' bs (omega (arith, same)))
 
 pub rows_numbered : (count : ℕ) → length (range_axis count).tuples ≡ count
-rows_numbered count = grind (arith, length-map, length-range_labels)
+rows_numbered = grind (arith, length-map, length-range_labels)
 
 -- a side on other rows is a whole table
 pub side_is_whole : (t : NumberedTable) (rows : List (Option ℕ)) → IsWhole t → IsWhole (side_on t rows)
 side_is_whole t rows whole = record {
   headed = search length-map;
-  filled = All-map (λ c. length c.cells ≡ length (range_axis (length rows)).tuples) _ t.columns (λ k d lt. length-map rows _ ∙ sym (rows_numbered (length rows)));
+  filled = All-map (λ c. length c.cells ≡ length (range_axis (length rows)).tuples) _ t.columns (λ k d lt. grind (arith, length-map, rows_numbered));
   headings = whole.headings;
 }

@@ -10,7 +10,7 @@ use Rattle.{
   form_meaning.specs.{Finish.{within_limits, with_columns}, Infix.{Meeting, meets, common_names, joined_rows, joined_columns, with_joined, joined_infix}},
   frame_store.{specs.{declared.fault.OpFault.{OpFault}, Parts.{HeadingList, table_with, headings_of, axis_of, block_column}, Shown.{Makes, headings_value, labels_value, columns_value}}, proofs.Settling.{table_settled, columns_part, columns_name_part, headings_part, labels_part, level_names_part, columns_given}},
   form_parts.{specs.Makes.{MakesBy, blocks_value, AreColumns}, proofs.TableMade.{made_is_meant, made_is_settled, refused_on}},
-  frame_ops.{specs.{declared.{naming.Naming.{Naming}, other.Other.TheVariants.{Beside}}, Joining.{joined_value, side_on}, Namings.{headings_by, named_by, IsSettledNaming}, Pairs.{all_met, kinds_meet, columns_meant, columns_for, IsOpposite}}, proofs.{JoinLaws.{on_rows_seen, on_rows_given, kinds_on, length-beside, rows_numbered}, Meanings.{kinds_seen, table_meant}, MeetingLaws.{beside_meetings}, NamingLaws.{named_settled}}},
+  frame_ops.{specs.{declared.{naming.Naming.{Naming}, other.Other.TheVariants.{Beside}}, Joining.{joined_value, side_on}, Namings.{headings_by, named_by, IsSettledNaming}, Pairs.{all_met, kinds_meet, columns_meant, columns_for}}, proofs.{JoinLaws.{on_rows_seen, on_rows_given, kinds_on, length-beside, rows_numbered}, Meanings.{kinds_seen, table_meant}, MeetingLaws.{beside_meetings}, NamingLaws.{named_settled}}},
 }
 use Rattle.table_meaning.specs.Value as value
 
@@ -25,9 +25,6 @@ module _ (op : Binary) (texts : List Text) (a b : NumberedTable) (rows : Joined)
   abbrev right : NumberedTable
   right = side_on b rows.right
 
-  sides_many : length right.columns ≡ length left.columns
-  sides_many = search length-map
-
   -- too many cells
   pub sides_beyond : list_all (kinds_meet op) (all_met a (Beside b)) ≡ true → within_limits (length rows.axis.tuples) (length a.columns) ≡ false → columns_meant op (length rows.axis.tuples) true met_columns ≡ Err limit
   sides_beyond kinds beyond =
@@ -36,18 +33,15 @@ module _ (op : Binary) (texts : List Text) (a b : NumberedTable) (rows : Joined)
 
   -- the same of tables that are the sides
   module _ (l r : NumberedTable) (is : l ≡ left) (is' : r ≡ right) (count : length rows.left ≡ length rows.axis.tuples) where
-    pub opposite_of : length rows.right ≡ length rows.axis.tuples → IsOpposite l (Beside r)
-    opposite_of count' = grind (arith, sides_many, rows_numbered)
-
     pub meant_of : columns_for op texts l (Beside r) ≡ columns_meant op (length rows.axis.tuples) true met_columns
-    meant_of = grind (arith, rows_numbered, beside_meetings, sides_many, on_rows_seen)
+    meant_of = grind (arith, rows_numbered, beside_meetings, length-map, on_rows_seen)
 
     pub columns_of : (new : List Text) (result : Result (List CellBlock) OpFault) → IfOk result (AreColumns new (length l.labels) (length l.columns)) → IfOk result (AreColumns new (length rows.axis.tuples) (length a.columns))
-    columns_of new result made = grind (arith, length-map, rows_numbered)
+    columns_of = grind (arith, length-map, rows_numbered)
 
 -- the texts of a side were given
 pub side_given : (texts : List Text) (t l : NumberedTable) (rows : List (Option ℕ)) → l ≡ side_on t rows → IsWhole t → IsSettled table_value texts t → All (IsPlaceOf (length t.labels)) rows → All (λ c. AreGiven texts c.cells) l.columns
-side_given texts t l rows is whole settled inside = subst (λ x. All (λ c. AreGiven texts c.cells) x.columns) (sym is) (search (on_rows_given, columns_given, columns_part))
+side_given texts t l _ is whole settled inside = subst (λ x. All (λ c. AreGiven texts c.cells) x.columns) (sym is) (search (on_rows_given, columns_given, columns_part))
 
 module _ (old new : List Text) (a b : NumberedTable) (naming : Naming) (rows : Joined) (axis : AxisValue) (headings : HeadingList) where
   abbrev v : Table
@@ -73,12 +67,12 @@ module _ (old new : List Text) (a b : NumberedTable) (naming : Naming) (rows : J
   meant op = then_value (joined_rows v.labels w.labels) (joined_infix op v w t)
 
   columns_as : (op : Binary) → joined_rows v.labels w.labels ≡ Ok (joined_value old rows) → then_value (met_meant op) (λ columns. Ok (value.table (with_columns u columns))) ≡ meant op
-  columns_as op is = grind (arith, table_meant, length-map)
+  columns_as = grind (arith, table_meant, length-map)
 
   -- a refusal
   pub joined_refused : (op : Binary) (made : Result (List CellBlock) OpFault) (fault : OpFault) → joined_rows v.labels w.labels ≡ Ok (joined_value old rows) → made ≡ Err fault → MakesBy blocks_value new made (met_meant op)
       → Makes new (Err fault) (meant op)
-  joined_refused op made fault is was makes =
+  joined_refused op _ fault is was makes =
       subst (Makes new (Err fault)) (columns_as op is) (search refused_on)
 
   module _ (tuples : axis.tuples ≡ rows.axis.tuples) (same : headings ≡ headings_by a naming) where
@@ -105,13 +99,13 @@ module _ (old new : List Text) (a b : NumberedTable) (naming : Naming) (rows : J
 -- the axes of two tables
 pub axes_joined : (texts : List Text) (x y : AxisValue) (a b : NumberedTable) → x ≡ axis_of a → y ≡ axis_of b
     → joined_rows (labels_value texts x.tuples) (labels_value texts y.tuples) ≡ joined_rows (labels_value texts a.labels) (labels_value texts b.labels)
-axes_joined texts x y a b e f = grind arith
+axes_joined = grind arith
 
 pub axis_labels : (texts : List Text) (x : AxisValue) (a : NumberedTable) → x ≡ axis_of a → IsSettled table_value texts a → IsSettled labels_value texts x.tuples
-axis_labels texts x a e settled = grind (arith, labels_part)
+axis_labels = grind (arith, labels_part)
 
 pub axis_names : (texts : List Text) (x : AxisValue) (a : NumberedTable) → x ≡ axis_of a → IsSettled table_value texts a → IsSettled headings_value texts x.names
-axis_names texts x a e settled = grind (arith, level_names_part)
+axis_names = grind (arith, level_names_part)
 
 pub axes_levels : (x y : AxisValue) (a b : NumberedTable) → x ≡ axis_of a → y ≡ axis_of b → length a.level_names ≡ length b.level_names → length x.names ≡ length y.names
 axes_levels x y a b e f same = cc

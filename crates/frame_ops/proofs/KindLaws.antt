@@ -13,4 +13,4 @@ record NoneTakes (a b : Kind) : Type 0 where
 
 -- two kinds that an operator takes are one
 pub one_kind : (op : Binary) (a b : Kind) → is_some (operator_kind op a b) ≡ true → a ≡ b
-one_kind op x x1 takes = grind arith
+one_kind = grind arith

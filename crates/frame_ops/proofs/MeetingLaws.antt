@@ -6,72 +6,69 @@ use Rattle.{
   table_meaning.specs.Table.{ColumnOf, NumberedTable, column_at, column_value},
   form_meaning.specs.{Finish.{value_of_column}, Infix.{swapped, with_scalar, beside, spread, across, turned, same_count, has_one}},
   frame_store.specs.{Parts.{HaveRows}, Shown.{columns_value}},
-  frame_ops.{specs.{declared.other.Other.TheVariants.{Scalar, Beside, Across}, Pairs.{pairs_from, kind_beside, repeated, series_cell, meetings_value}}, proofs.AnswerLaws.{map-replicate, repeated_value}},
+  frame_ops.{specs.{declared.other.Other.TheVariants.{Scalar, Beside, Across}, Pairs.{pairs_from, repeated, series_cell, meetings_value}}, proofs.AnswerLaws.{map-replicate, repeated_value}},
 }
 
 -- a scalar
 scalar_on_right : (texts : List Text) (c : Cell) (place : ℕ) (cs : List (ColumnOf Cell)) → meetings_value texts (pairs_from (Scalar c false) place cs) ≡ map (with_scalar (datum texts c)) (columns_value texts cs)
-scalar_on_right texts c place [] = refl
-scalar_on_right texts c place (a ∷ as') =
-    λ i. (value_of_column (column_value texts a), repeated_value texts a (kind_beside a.kind c) c refl i) ∷ scalar_on_right texts c (suc place) as' i
+scalar_on_right _ c _ [] = refl
+scalar_on_right texts c place (a ∷ as') = search (repeated_value, scalar_on_right texts c (suc place) as')
 
 scalar_turned : (texts : List Text) (c : Cell) (place : ℕ) (cs : List (ColumnOf Cell)) → meetings_value texts (pairs_from (Scalar c true) place cs) ≡ map swapped (meetings_value texts (pairs_from (Scalar c false) place cs))
-scalar_turned texts c place [] = refl
+scalar_turned _ c _ [] = refl
 scalar_turned texts c place (a ∷ as') = cc (scalar_turned texts c (suc place) as')
 
 pub scalar_meetings : (texts : List Text) (c : Cell) (left : Bool) (cs : List (ColumnOf Cell)) → meetings_value texts (pairs_from (Scalar c left) 0 cs) ≡ turned left (map (with_scalar (datum texts c)) (columns_value texts cs))
-scalar_meetings texts c x cs = grind (arith, scalar_on_right, scalar_turned)
+scalar_meetings = grind (arith, scalar_on_right, scalar_turned)
 
 -- another table
 beside_from : (texts : List Text) (t : NumberedTable) (place : ℕ) (cs : List (ColumnOf Cell)) → length cs + place ≡ length t.columns
     → meetings_value texts (pairs_from (Beside t) place cs) ≡ beside (columns_value texts cs) (columns_value texts (drop place t.columns))
-beside_from texts t place [] same = refl
+beside_from _ t _ [] _ = refl
 beside_from texts t place (a ∷ as') same =
-    let lt : place < length t.columns = omega arith in
     let less : length as' + suc place ≡ length t.columns = omega arith in
     grind (arith, drop-cons, beside_from texts t (suc place) as' less)
 
 pub beside_meetings : (texts : List Text) (t : NumberedTable) (cs : List (ColumnOf Cell)) → length t.columns ≡ length cs → meetings_value texts (pairs_from (Beside t) 0 cs) ≡ beside (columns_value texts cs) (columns_value texts t.columns)
-beside_meetings texts t cs same = grind (arith, beside_from)
+beside_meetings = grind (arith, beside_from)
 
 -- a Series across
 spread_value : (texts : List Text) (kind : Kind) (count n : ℕ) (c : Cell) → n ≡ count → value_of_column (column_value texts (repeated kind n c)) ≡ spread kind count (datum texts c)
-spread_value texts kind count n c same = grind (arith, map-replicate)
+spread_value = grind (arith, map-replicate)
 
 across_from : (texts : List Text) (s : NumberedTable) (place count : ℕ) (cs : List (ColumnOf Cell)) → HaveRows count cs → length cs + place ≡ length (column_at s.columns 0).cells
     → meetings_value texts (pairs_from (Across s false) place cs) ≡ across count (column_at s.columns 0).kind (columns_value texts cs) (map (datum texts) (drop place (column_at s.columns 0).cells))
-across_from texts s place count [] rows same = refl
+across_from _ s _ _ [] _ _ = refl
 across_from texts s place count (a ∷ as') rows same =
     let cells = (column_at s.columns 0).cells in
     let lt : place < length cells = omega arith in
     let less : length as' + suc place ≡ length cells = omega arith in
-    let here = rows 0 a (omega arith) in
     let later : HaveRows count as' = λ k d inside. rows (suc k) d (omega arith) in
-    (λ i. (value_of_column (column_value texts a), spread_value texts (column_at s.columns 0).kind count (length a.cells) (series_cell s place) here i) ∷ across_from texts s (suc place) count as' later less i)
+    (λ i. (value_of_column (column_value texts a), spread_value texts (column_at s.columns 0).kind count (length a.cells) (series_cell s place) (rows 0 a (omega arith)) i) ∷ across_from texts s (suc place) count as' later less i)
     ∙ ap (λ l. across count (column_at s.columns 0).kind (columns_value texts (a ∷ as')) (map (datum texts) l)) (sym (drop-cons cells place Na lt))
 
 across_turned : (texts : List Text) (s : NumberedTable) (place : ℕ) (cs : List (ColumnOf Cell)) → meetings_value texts (pairs_from (Across s true) place cs) ≡ map swapped (meetings_value texts (pairs_from (Across s false) place cs))
-across_turned texts s place [] = refl
+across_turned _ s _ [] = refl
 across_turned texts s place (a ∷ as') = cc (across_turned texts s (suc place) as')
 
 pub across_meetings : (texts : List Text) (s : NumberedTable) (left : Bool) (count : ℕ) (cs : List (ColumnOf Cell)) → HaveRows count cs → length (column_at s.columns 0).cells ≡ length cs
     → meetings_value texts (pairs_from (Across s left) 0 cs) ≡ turned left (across count (column_at s.columns 0).kind (columns_value texts cs) (map (datum texts) (column_at s.columns 0).cells))
-across_meetings texts s left count cs rows same = grind (arith, across_from, across_turned)
+across_meetings = grind (arith, across_from, across_turned)
 
 -- the one column of a Series
 pub first_column : (texts : List Text) (cs : List (ColumnOf Cell)) → column_at (columns_value texts cs) 0 ≡ column_value texts (column_at cs 0)
-first_column texts [] = refl
-first_column texts (c ∷ cs) = refl
+first_column _ [] = refl
+first_column _ (c ∷ cs) = refl
 
 -- levels of one number
 nat_eq_next : (m n : ℕ) → nat_eq m n ≡ nat_eq (suc m) (suc n)
-nat_eq_next m n = grind (arith, nat_tests)
+nat_eq_next = grind (arith, nat_tests)
 
 nat_eq_none : (n : ℕ) → false ≡ nat_eq (suc n) 0
-nat_eq_none n = grind (arith, nat_tests)
+nat_eq_none = grind (arith, nat_tests)
 
 nat_eq_zero : (n : ℕ) → false ≡ nat_eq 0 (suc n)
-nat_eq_zero n = grind (arith, nat_tests)
+nat_eq_zero = grind (arith, nat_tests)
 
 count_same : {A B : Type 0} (xs : List A) (ys : List B) → same_count xs ys ≡ nat_eq (length xs) (length ys)
 count_same [] [] = refl
@@ -80,10 +77,10 @@ count_same (x ∷ xs) [] = nat_eq_none (length xs)
 count_same (x ∷ xs) (y ∷ ys) = count_same xs ys ∙ nat_eq_next (length xs) (length ys)
 
 pub levels_same : {A B C D : Type 0} (f : A → C) (g : B → D) (xs : List A) (ys : List B) → nat_eq (length xs) (length ys) ≡ same_count (map f xs) (map g ys)
-levels_same f g xs ys = search (count_same, nat_eq, length-map)
+levels_same = search (count_same, nat_eq, length-map)
 
 one_counted : {A : Type 0} (xs : List A) → has_one xs ≡ nat_eq (length xs) 1
-one_counted x1 = grind (arith, nat_eq_zero, nat_eq_none, nat_eq_next)
+one_counted = grind (arith, nat_eq_zero, nat_eq_none, nat_eq_next)
 
 pub levels_one : {A C : Type 0} (f : A → C) (xs : List A) → nat_eq (length xs) 1 ≡ has_one (map f xs)
-levels_one f xs = search (one_counted, nat_eq, length-map)
+levels_one = search (one_counted, nat_eq, length-map)

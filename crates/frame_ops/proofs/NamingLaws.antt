@@ -14,26 +14,26 @@ use Rattle.table_meaning.specs.Value as value
 
 -- a Series under a name, and a frame under a name of its columns
 series_headings : (shape : Shape) (columns_name : Option Label) (headings : List (Option Label)) (name : Option Label) → shape ≡ Series → AreHeadings shape columns_name headings → AreHeadings shape columns_name (name ∷ [])
-series_headings x columns_name headings name is fits = grind arith
+series_headings = grind arith
 
 frame_headings : (shape : Shape) (columns_name : Option Label) (headings : List (Option Label)) (name : Option Label) → shape ≡ Frame → AreHeadings shape columns_name headings → AreHeadings shape name headings
-frame_headings x columns_name headings name is fits = grind arith
+frame_headings = grind arith
 
 -- the headings that an operator gives are as many as the table has, and fit its shape
 pub counted_by : (t : NumberedTable) (naming : Naming) → IsWhole t → IsNaming t naming → length (headings_by t naming).labels ≡ length t.headings
-counted_by t x whole is = grind arith
+counted_by = grind arith
 
 pub fits_by : (t : NumberedTable) (naming : Naming) → IsWhole t → IsNaming t naming → AreHeadings t.shape (headings_by t naming).columns_name (headings_by t naming).labels
-fits_by t x whole is = grind (arith, series_headings, frame_headings)
+fits_by = grind (arith, series_headings, frame_headings)
 
 whole_by : (texts : List Text) (t : NumberedTable) (naming : Naming) (blocks : List CellBlock) → IsWhole t → IsNaming t naming → AreColumns texts (length t.labels) (length t.columns) blocks
     → IsWhole (table_with t.shape (axis_of t) (headings_by t naming) (map block_column blocks))
-whole_by texts t naming blocks whole is made = search (whole_under, counted_by, fits_by)
+whole_by = search (whole_under, counted_by, fits_by)
 
 pub named_settled : (texts : List Text) (t : NumberedTable) (naming : Naming) → IsSettled table_value texts t → IsSettledNaming texts naming → IsSettled table_value texts (named_by t naming)
-named_settled texts t Kept settled name = search (under_settled, columns_name_part, headings_part)
-named_settled texts t (Name n) settled name = search (under_settled, columns_name_part)
-named_settled texts t (ColumnsName n) settled name = search (under_settled, headings_part)
+named_settled _ t Kept = search (under_settled, columns_name_part, headings_part)
+named_settled _ t (Name n) = search (under_settled, columns_name_part)
+named_settled _ t (ColumnsName n) = search (under_settled, headings_part)
 
 -- the table may be made
 pub whole_named : (texts : List Text) (t : NumberedTable) (naming : Naming) (h : HeadingList) (blocks : List CellBlock) → IsWhole t → IsNaming t naming → AreColumns texts (length t.labels) (length t.columns) blocks → h ≡ headings_by t naming
@@ -47,9 +47,9 @@ module _ (old new : List Text) (t made : NumberedTable) (naming : Naming) (h : H
   -- it is settled, and it is what is meant
   pub named_is_settled : IsLonger old new → IsSettled table_value old t → IsSettledNaming old naming → AreColumns new (length t.labels) (length t.columns) blocks → h ≡ headings_by t naming
       → made ≡ table_with t.shape (axis_of t) h (map block_column blocks) → IsSettled table_value new made
-  named_is_settled longer settled name columns same is = search (made_by, made_is_settled, named_settled)
+  named_is_settled = search (made_by, made_is_settled, named_settled)
 
   pub named_is_meant : (meant : Result (List (ColumnOf CellValue)) FaultValue) → IsLonger old new → IsSettled table_value old t → IsSettledNaming old naming → h ≡ headings_by t naming
       → made ≡ table_with t.shape (axis_of t) h (map block_column blocks) → meant ≡ Ok (blocks_value new blocks)
       → then_value meant (λ columns. Ok (value.table (with_columns (table_value old (named_by t naming)) columns))) ≡ Ok (value.table (table_value new made))
-  named_is_meant meant longer settled name same is columns = grind (arith, made_is_meant, named_settled, made_by)
+  named_is_meant = grind (arith, made_is_meant, named_settled, made_by)

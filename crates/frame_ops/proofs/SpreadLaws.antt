@@ -7,7 +7,7 @@ use Rattle.{
   multi_index.specs.Axes.{HaveLevels},
   table_meaning.specs.{Settled.{IsSettled}, Table.{NumberedTable, Table, column_at, heading_value, table_value}, Valid.{AreHeadings, IsWhole, within_limits}},
   form_meaning.specs.{Finish.{unless_repeated, limited_table, column_of_value}, Infix.{tuple_heading, spread, spread_series, spread_frame}},
-  frame_store.{specs.{declared.fault.OpFault.{OpFault, TheVariants.{Refused, NoMemory}}, Parts.{block_column}, Shown.{labels_value, headings_value, columns_value}, World.{IsKnownTable}}, proofs.Settling.{settled_by, table_settled, columns_settled, columns_name_part, level_names_part, labels_part}},
+  frame_store.{specs.{declared.fault.OpFault.{OpFault, TheVariants.{Refused, NoMemory}}, Parts.{block_column}, Shown.{headings_value, columns_value}, World.{IsKnownTable}}, proofs.Settling.{settled_by, table_settled, columns_settled, columns_name_part, level_names_part, labels_part}},
   form_parts.specs.Makes.{MakesBy},
   selections.{specs.Headings.{repeated_heading, NamesRepeated}, proofs.{HeadingLaws.{different, repeated_seen}, RefusalLaws.{repeated_settled}}},
   frame_ops.{specs.{Pairs.{repeated}, Widening.{spread_table}}, proofs.{AnswerLaws.{map-replicate}, InfixLaws.{series_given}, MeetingLaws.{first_column}, WideLaws.{keys_seen}}},
@@ -16,11 +16,11 @@ use Rattle.cell_core.specs.declared.cell.Label.TheVariants as label
 
 -- the labels of rows as headings, one more of them
 label_of : (t : List Label) → length t ≡ 1 → tuple_heading t ≡ Some (slice_index_or t 0 label.Na)
-label_of x one = grind arith
+label_of = grind arith
 
 pub one_more_label : (labels : List (List Label)) (row : ℕ) (l : Label) (made made' : List (Option Label)) → HaveLevels 1 labels → row < length labels → l ≡ slice_index_or (slice_index_or labels row []) 0 label.Na
     → made ≡ map tuple_heading (take row labels) → made' ≡ made ++ Some l ∷ [] → made' ≡ map tuple_heading (take (row + 1) labels)
-one_more_label labels row l made made' alike lt is before pushed =
+one_more_label labels row l _ _ alike lt is before pushed =
     let here : tuple_heading (slice_index_or labels row []) ≡ Some l = grind (arith, label_of) in
     pushed ∙ (λ i. before i ++ sym here i ∷ [])
     ∙ sym (search map-append)
@@ -30,7 +30,7 @@ one_more_label labels row l made made' alike lt is before pushed =
 pub one_more_spread : (kind : Kind) (rows : ℕ) (cells : List Cell) (place : ℕ) (cell : Cell) (made made' : List CellBlock) (block : CellBlock) (column : CellColumn) → place < length cells → slice_get cells place ≡ Some cell
     → map block_column made ≡ map (repeated kind rows) (take place cells) → made' ≡ made ++ block ∷ [] → block ≡ record { kind = column.kind; rows = length column.cells; columns = column.cells ∷ [] }
     → column ≡ record { kind = kind; cells = replicate rows cell } → map block_column made' ≡ map (repeated kind rows) (take (place + 1) cells)
-one_more_spread kind rows cells place cell made made' block column lt at before pushed is made_is =
+one_more_spread kind rows cells place _ made _ block _ lt at before pushed is made_is =
     let here : block_column block ≡ repeated kind rows (slice_index_or cells place Na) = grind (arith, get_or_from_slice_get) in
     ap (map block_column) pushed ∙ map-append block_column made (block ∷ [])
     ∙ (λ i. before i ++ here i ∷ [])
@@ -39,21 +39,21 @@ one_more_spread kind rows cells place cell made made' block column lt at before 
 
 -- with texts
 spread_seen_columns : (texts : List Text) (kind : Kind) (rows : ℕ) (cells : List Cell) → columns_value texts (map (repeated kind rows) cells) ≡ map (λ c. column_of_value (spread kind rows c)) (map (datum texts) cells)
-spread_seen_columns texts kind rows [] = refl
+spread_seen_columns _ _ _ [] = refl
 spread_seen_columns texts kind rows (c ∷ cs) = search (map-replicate, spread_seen_columns texts kind rows cs)
 
 filled_one : (s : NumberedTable) → IsWhole s → s.shape ≡ Series → length (column_at s.columns 0).cells ≡ length s.labels
-filled_one s whole is = grind arith
+filled_one = grind arith
 
 headings_some : (labels : List (List Label)) → HaveLevels 1 labels → All IsSome (map tuple_heading labels)
 headings_some labels alike = All-map IsSome tuple_heading labels (λ k d lt. some (slice_index_or labels k d) (alike k d lt))
   where
     some : (t : List Label) → length t ≡ 1 → IsSome (tuple_heading t)
     some [] one = search
-    some (l ∷ ls) one = refl
+    some (l ∷ ls) _ = refl
 
 frame_head : (shape : Shape) → shape ≡ Frame → (name : Option Label) (hs : List (Option Label)) → All IsSome hs → repeated_heading hs ≡ None → AreHeadings shape name hs
-frame_head x frame name hs some none = grind (arith, different)
+frame_head = grind (arith, different)
 
 module _ (texts : List Text) (f s : NumberedTable) where
   abbrev cells : List Cell
@@ -72,15 +72,11 @@ module _ (texts : List Text) (f s : NumberedTable) where
   labels = map tuple_heading s.labels
 
   pub spread_seen : table_value texts (spread_table f s) ≡ spread_series v w
-  spread_seen =
-      let first = first_column texts s.columns in
-      let rows : length f.labels ≡ length v.labels = search length-map in
-      let columns : columns_value texts (map (repeated kind (length f.labels)) cells) ≡ map (λ c. column_of_value (spread (column_at w.columns 0).kind (length v.labels) c)) (column_at w.columns 0).cells = grind (arith, spread_seen_columns) in
-      λ i. record v { headings = keys_seen texts s.labels i; columns = columns i }
+  spread_seen = search (first_column, length-map, spread_seen_columns, keys_seen)
 
   module _ (known : IsKnownTable texts f) (known' : IsKnownTable texts s) (frame : f.shape ≡ Frame) (series : s.shape ≡ Series) where
     headings_given : IsSettled headings_value texts labels
-    headings_given = settled_by labels_value headings_value (map tuple_heading) texts s.labels labels (λ more. sym (keys_seen more s.labels)) (labels_part texts s known'.given)
+    headings_given = search (settled_by, keys_seen, labels_part)
 
     pub spread_known : HaveLevels 1 s.labels → repeated_heading labels ≡ None → IsKnownTable texts (spread_table f s)
     spread_known alike none = record {
@@ -97,21 +93,21 @@ module _ (texts : List Text) (f s : NumberedTable) where
 
     -- unless a label stands twice, by numbers
     frame_by : (found : Option Label) → AreDistinct texts → repeated_heading labels ≡ found → spread_frame v w ≡ unless_repeated (heading_value texts found) (limited_table (spread_series v w))
-    frame_by found distinct is = cc (keys_seen texts s.labels, repeated_seen texts labels distinct headings_given)
+    frame_by _ distinct is = cc (keys_seen texts s.labels, repeated_seen texts labels distinct headings_given)
 
     pub spread_refused : (fault : OpFault) → AreDistinct texts → NamesRepeated fault (repeated_heading labels) → MakesBy table_value texts (Err fault) (spread_frame v w)
     spread_refused (Refused code) distinct named = (
       frame_by (Some named.0) distinct named.1 ∙ ap (λ c. Err (fault_of texts c)) (sym named.2),
       search (repeated_settled, headings_given),
     )
-    spread_refused NoMemory distinct named = tt
+    spread_refused NoMemory _ _ = tt
 
     -- within the limits, and beyond them
     many : length (spread_series v w).columns ≡ length s.labels
     many = search (length-map, first_column, filled_one)
 
     limited_by : (b : Bool) → within_limits (length f.labels) (length s.labels) ≡ b → limited_table (spread_series v w) ≡ (if b then Ok (spread_series v w) else Err limit)
-    limited_by b within = grind (arith, length-map, many)
+    limited_by = grind (arith, length-map, many)
 
     pub spread_made : AreDistinct texts → repeated_heading labels ≡ None → within_limits (length f.labels) (length s.labels) ≡ true → spread_frame v w ≡ Ok (table_value texts (spread_table f s))
     spread_made distinct none within = frame_by None distinct none ∙ limited_by true within ∙ ap Ok (sym spread_seen)

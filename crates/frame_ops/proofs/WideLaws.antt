@@ -1,8 +1,8 @@
 -- Frames under joined labels of columns.
 use Rattle.{
   std.{proofs.{Common.{◌≡◌, ◌≢◌, ◌∙◌, ◌<◌, ◌+◌, ◌++◌, ℕ, zero, suc, pos, List, [], ◌∷◌, length, map, take, replicate, refl, ap, sym, subst, arith, add-one, All, Option, Some, None, Result, slice_index_or}, Math.ListN.{get_or-map}, lemmas.{List.{length-map, length-replicate, map-append, take_more, Elements.{All-nil, All-cons, All-head, All-tail, All-map, All-replicate}}, Option.{get_or_from_slice_get}}}, specs.Prelude.{slice_get, IsSome, IfOk, unwrap_or}},
-  cell_core.specs.{declared.{cell.{Cell.{Cell, TheVariants.{Na}}, Kind.TheVariants.{Int64}, Label.{Label}}, grid.Shape.{Shape, TheVariants.{Frame}}}, Texts.{AreGiven, IsGiven}},
-  meaning.specs.{Text.{Text}, Cell.{LabelValue, int, na_cell, datum}},
+  cell_core.specs.{declared.{cell.{Cell.{Cell, TheVariants.{Na}}, Label.{Label}}, grid.Shape.{Shape, TheVariants.{Frame}}}, Texts.{AreGiven, IsGiven}},
+  meaning.specs.{Text.{Text}, Cell.{LabelValue, int, na_cell}},
   column_core.specs.{Blocks.{CellBlock}, Columns.{CellColumn}, Moves.{IsPlaceOf}},
   multi_index.specs.Axes.{AxisValue, HaveLevels},
   table_meaning.specs.{Settled.{IsSettled}, Table.{ColumnOf, NumberedTable, column_at, column_value, heading_value, tuple_value, table_value, no_column}, Valid.{AreHeadings, IsWhole}},
@@ -13,7 +13,7 @@ use Rattle.{
 
 -- labels of columns as tuples
 single : (h : Option Label) → length (heading_tuple h) ≡ 1
-single x = grind arith
+single = grind arith
 
 pub tuples_alike : (hs : List (Option Label)) → HaveLevels 1 (map heading_tuple hs)
 tuples_alike hs = All-map (λ tuple. length tuple ≡ 1) heading_tuple hs (λ k d lt. single (slice_index_or hs k d))
@@ -22,21 +22,21 @@ abbrev label_tuple : Option LabelValue → List LabelValue
 label_tuple h = unwrap_or h (int (pos 0)) ∷ []
 
 tuple_seen : (texts : List Text) (h : Option Label) → label_tuple (heading_value texts h) ≡ tuple_value texts (heading_tuple h)
-tuple_seen texts x = grind arith
+tuple_seen = grind arith
 
 pub tuples_seen : (texts : List Text) (hs : List (Option Label)) → map label_tuple (headings_value texts hs) ≡ labels_value texts (map heading_tuple hs)
-tuples_seen texts [] = refl
+tuples_seen _ [] = refl
 tuples_seen texts (h ∷ hs) = λ j. tuple_seen texts h j ∷ tuples_seen texts hs j
 
 pub labels_seen : (texts : List Text) (x : AxisValue) (t : NumberedTable) → x ≡ labels_axis t → labels_value texts x.tuples ≡ column_labels (table_value texts t)
-labels_seen texts x t is = grind (arith, tuples_seen)
+labels_seen = grind (arith, tuples_seen)
 
 pub labels_given : (texts : List Text) (x : AxisValue) (t : NumberedTable) → x ≡ labels_axis t → IsSettled table_value texts t → IsSettled labels_value texts x.tuples
 labels_given texts x t is settled = rw is (settled_by headings_value labels_value (map label_tuple) texts t.headings (map heading_tuple t.headings) (λ more. tuples_seen more t.headings) (headings_part texts t settled))
 
 -- headings that differ are tuples that differ
 tuple_apart : (g h : Option Label) → IsSome g → IsSome h → g ≢ h → heading_tuple g ≢ heading_tuple h
-tuple_apart x h some some' apart = grind arith
+tuple_apart = grind arith
 
 pub labels_apart : (x : AxisValue) (t : NumberedTable) → x ≡ labels_axis t → IsWhole t → t.shape ≡ Frame → AreApart x.tuples
 labels_apart x t is whole frame =
@@ -48,43 +48,43 @@ labels_apart x t is whole frame =
   where
     at_heading : (hs : List (Option Label)) (k : ℕ) (d : List Label) → k < length hs → slice_index_or (map heading_tuple hs) k d ≡ heading_tuple (slice_index_or hs k None)
     at_heading [] k d inside = grind arith
-    at_heading (h ∷ hs) zero d inside = refl
+    at_heading (h ∷ hs) zero d _ = refl
     at_heading (h ∷ hs) (suc k) d inside = at_heading hs k d (omega (arith, inside))
 
 pub if_both : {A E : Type 0} (P Q R : A → Type 0) → ((x : A) → P x → Q x → R x) → (r : Result A E) → IfOk r P → IfOk r Q → IfOk r R
-if_both x1 x2 x3 so x4 p q = grind arith
+if_both P Q R = grind arith
 
 -- the headings of keys, one more of them
 first_label : (tuple : List Label) (l : Label) → slice_get tuple 0 ≡ Some l → tuple_heading tuple ≡ Some l
-first_label x1 l e = grind arith
+first_label = grind arith
 
 pub one_more_key : (name : Option Label) (keys : List (List Label)) (place : ℕ) (tuple : List Label) (l : Label) (h h' : HeadingList) → place < length keys → h ≡ headings_of_keys name (take place keys)
     → slice_get keys place ≡ Some tuple → slice_get tuple 0 ≡ Some l → h' ≡ with_heading h (Some l) → h' ≡ headings_of_keys name (take (place + 1) keys)
-one_more_key name keys place tuple l h h' lt before at first pushed =
+one_more_key _ keys place _ l h _ lt before at first pushed =
     let here : tuple_heading (slice_index_or keys place []) ≡ Some l = grind (arith, get_or_from_slice_get, first_label) in
     let all : map tuple_heading (take (place + 1) keys) ≡ map tuple_heading (take place keys) ++ Some l ∷ [] = cc (take_more keys place [] lt, map-append tuple_heading (take place keys) (slice_index_or keys place [] ∷ [])) in
     search
 
 pub no_keys : (name : Option Label) (keys : List (List Label)) → headings_of_keys name (take 0 keys) ≡ record { columns_name = name; labels = [] }
-no_keys name keys = refl
+no_keys _ _ = refl
 
 -- columns at places, or missing
 module _ (na : Cell) (count : ℕ) (own other : List (ColumnOf Cell)) where
   one_more_column : (k : ℕ) (ps os : List (Option ℕ)) → k < length ps → length os ≡ length ps
       → columns_or_missing na count own other (take (suc k) ps) (take (suc k) os) ≡ columns_or_missing na count own other (take k ps) (take k os) ++ column_or_missing na count own other (slice_index_or ps k None) (slice_index_or os k None) ∷ []
-  one_more_column k [] os lt same = grind arith
+  one_more_column k [] _ lt same = grind arith
   one_more_column k (p ∷ ps) [] lt same = search
-  one_more_column zero (p ∷ ps) (o ∷ os) lt same = refl
+  one_more_column zero (p ∷ ps) (o ∷ os) _ _ = refl
   one_more_column (suc k) (p ∷ ps) (o ∷ os) lt same = cc (one_more_column k ps os (omega (arith, lt)) (omega (arith, same)))
 
 pub length-wide : {C : Type 0} (na : C) (count : ℕ) (own other : List (ColumnOf C)) (ps os : List (Option ℕ)) → length os ≡ length ps → length (columns_or_missing na count own other ps os) ≡ length ps
-length-wide na count own other [] os same = refl
-length-wide na count own other (p ∷ ps) [] same = search
+length-wide _ _ _ _ [] _ _ = refl
+length-wide _ _ _ _ (p ∷ ps) [] same = search
 length-wide na count own other (p ∷ ps) (o ∷ os) same = ap suc (length-wide na count own other ps os (omega (arith, same)))
 
 all_wide : (P : ColumnOf Cell → Type 0) (count : ℕ) (own other : List (ColumnOf Cell)) → ((p o : Option ℕ) → IsPlaceOf (length own) p → P (column_or_missing Na count own other p o)) → (ps os : List (Option ℕ)) → All (IsPlaceOf (length own)) ps → All P (columns_or_missing Na count own other ps os)
-all_wide P count own other each [] os all = All-nil P
-all_wide P count own other each (p ∷ ps) [] all = All-nil P
+all_wide P _ _ _ _ [] _ _ = All-nil P
+all_wide P _ _ _ _ (p ∷ ps) [] _ = All-nil P
 all_wide P count own other each (p ∷ ps) (o ∷ os) all =
     All-cons P (column_or_missing Na count own other p o) (columns_or_missing Na count own other ps os) (each p o (All-head (IsPlaceOf (length own)) p ps all)) (all_wide P count own other each ps os (All-tail (IsPlaceOf (length own)) p ps all))
 
@@ -95,45 +95,43 @@ module _ (texts : List Text) (count : ℕ) (own other : List (ColumnOf Cell)) wh
 
   wide_column_seen : (p o : Option ℕ) → column_value texts (column_or_missing Na count own other p o) ≡ column_or_missing na_cell count (columns_value texts own) (columns_value texts other) p o
   wide_column_seen (Some p) o = column_seen own p
-  wide_column_seen None (Some o) =
-      let kind = ap (λ c. c.kind) (column_seen other o) in
-      λ i. record { kind = kind i; cells = map-replicate (datum texts) count Na i }
-  wide_column_seen None None = λ i. record { kind = Int64; cells = map-replicate (datum texts) count Na i }
+  wide_column_seen None (Some o) = grind (arith, column_seen, map-replicate)
+  wide_column_seen None None = search map-replicate
 
   pub wide_seen : (ps os : List (Option ℕ)) → columns_value texts (columns_or_missing Na count own other ps os) ≡ columns_or_missing na_cell count (columns_value texts own) (columns_value texts other) ps os
-  wide_seen [] os = refl
+  wide_seen [] _ = refl
   wide_seen (p ∷ ps) [] = refl
   wide_seen (p ∷ ps) (o ∷ os) = λ i. wide_column_seen p o i ∷ wide_seen ps os i
 
 key_seen : (texts : List Text) (tuple : List Label) → heading_value texts (tuple_heading tuple) ≡ tuple_heading (tuple_value texts tuple)
-key_seen texts x = grind arith
+key_seen = grind arith
 
 pub keys_seen : (texts : List Text) (keys : List (List Label)) → headings_value texts (map tuple_heading keys) ≡ map tuple_heading (labels_value texts keys)
-keys_seen texts [] = refl
+keys_seen _ [] = refl
 keys_seen texts (k ∷ keys) = λ i. key_seen texts k i ∷ keys_seen texts keys i
 
 module _ (own other : NumberedTable) (keys : List (List Label)) (places opposites : List (Option ℕ)) where
   pub widened_seen : (texts : List Text) → table_value texts (widened own other keys places opposites) ≡ on_columns (table_value texts own) (table_value texts other) (labels_value texts keys) places opposites
-  widened_seen texts = search (wide_seen, length-map, keys_seen)
+  widened_seen = search (wide_seen, length-map, keys_seen)
 
   -- it is whole
   heading_some : (tuple : List Label) → length tuple ≡ 1 → IsSome (tuple_heading tuple)
-  heading_some x e = grind arith
+  heading_some = grind arith
 
   heading_apart : (s t : List Label) → length s ≡ 1 → length t ≡ 1 → s ≢ t → tuple_heading s ≢ tuple_heading t
-  heading_apart [] t one one' apart = grind arith
-  heading_apart (l ∷ m ∷ ls) t one one' apart = grind arith
-  heading_apart (l ∷ []) [] one one' apart = grind arith
-  heading_apart (l ∷ []) (k ∷ m ∷ ms) one one' apart = grind arith
-  heading_apart (l ∷ []) (k ∷ []) one one' apart = grind arith
+  heading_apart [] t = grind arith
+  heading_apart (l ∷ m ∷ ls) t = grind arith
+  heading_apart (l ∷ []) [] = grind arith
+  heading_apart (l ∷ []) (k ∷ m ∷ ms) = grind arith
+  heading_apart (l ∷ []) (k ∷ []) = grind arith
 
   at_key : (ks : List (List Label)) (k : ℕ) (d : Option Label) → k < length ks → slice_index_or (map tuple_heading ks) k d ≡ tuple_heading (slice_index_or ks k [])
   at_key [] k d inside = grind arith
-  at_key (t ∷ ks) zero d inside = refl
+  at_key (t ∷ ks) zero d _ = refl
   at_key (t ∷ ks) (suc k) d inside = at_key ks k d (omega (arith, inside))
 
   keys_head : (shape : Shape) → shape ≡ Frame → (name : Option Label) → AreColumnKeys keys → AreHeadings shape name (map tuple_heading keys)
-  keys_head x frame name are = grind (arith, single, heading_some, length-map, at_key, heading_apart)
+  keys_head = grind (arith, single, heading_some, length-map, at_key, heading_apart)
 
   pub widened_whole : IsWhole own → own.shape ≡ Frame → AreColumnKeys keys → length places ≡ length keys → length opposites ≡ length places → All (IsPlaceOf (length own.columns)) places → IsWhole (widened own other keys places opposites)
   widened_whole whole frame are many many' inside = record {
@@ -163,11 +161,11 @@ module _ (own other : NumberedTable) (keys : List (List Label)) (places opposite
 
 -- rows of the labels of columns are places of columns
 pub side_places : (t : NumberedTable) (count : ℕ) (rows : List (Option ℕ)) → IsWhole t → AreSideRows count (labels_axis t) rows → All (IsPlaceOf (length t.columns)) rows
-side_places t count rows whole side = grind (arith, length-map)
+side_places = grind (arith, length-map)
 
 pub known_wide : (texts : List Text) (own other : NumberedTable) (keys : List (List Label)) (places opposites : List (Option ℕ)) → IsKnownTable texts own → own.shape ≡ Frame → AreColumnKeys keys → IsSettled labels_value texts keys
     → AreSideRows (length keys) (labels_axis own) places → AreSideRows (length keys) (labels_axis other) opposites → IsKnownTable texts (widened own other keys places opposites)
-known_wide texts own other keys places opposites known frame are given side side' =
+known_wide _ own other keys places opposites known frame are given side side' =
     let inside = side_places own (length keys) places known.whole side in
     record {
       whole = widened_whole own other keys places opposites known.whole frame are side.count_is (side'.count_is ∙ sym side.count_is) inside;
@@ -177,16 +175,16 @@ known_wide texts own other keys places opposites known frame are given side side
 -- a column of a side, or a missing one
 pub own_column : {E : Type 0} (r : Result CellColumn E) (a : CellColumn) (count : ℕ) (own other : List (ColumnOf Cell)) (place opposite : Option ℕ) (p : ℕ) → place ≡ Some p → column_at own p ≡ table_column a → IfOk r (λ c. c ≡ a)
     → IfOk r (λ made. table_column made ≡ column_or_missing Na count own other place opposite)
-own_column x a count own other place opposite p is at made = grind arith
+own_column = grind arith
 
 pub place_at : (count : ℕ) (ps : List (Option ℕ)) (k : ℕ) (p : Option ℕ) → All (IsPlaceOf count) ps → k < length ps → slice_get ps k ≡ Some p → IsPlaceOf count p
-place_at count ps k p all lt at = grind (arith, get_or_from_slice_get)
+place_at = grind (arith, get_or_from_slice_get)
 
 pub wide_step : (count : ℕ) (own other : List (ColumnOf Cell)) (ps os : List (Option ℕ)) (k : ℕ) (p o : Option ℕ) (made made' : List CellBlock) (block : CellBlock) (column : CellColumn)
     → k < length ps → length os ≡ length ps → slice_get ps k ≡ Some p → slice_get os k ≡ Some o
     → map block_column made ≡ columns_or_missing Na count own other (take k ps) (take k os) → made' ≡ made ++ block ∷ [] → block ≡ record { kind = column.kind; rows = length column.cells; columns = column.cells ∷ [] }
     → table_column column ≡ column_or_missing Na count own other p o → map block_column made' ≡ columns_or_missing Na count own other (take (k + 1) ps) (take (k + 1) os)
-wide_step count own other ps os k p o made made' block column lt same at at' before pushed is here =
+wide_step _ _ _ ps os k p o _ _ _ _ lt same at at' before pushed is here =
     let place = get_or_from_slice_get ps k p None at in
     let opposite = get_or_from_slice_get os k o None at' in
     grind (arith, map-append, add-one, one_more_column)

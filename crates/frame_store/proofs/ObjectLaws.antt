@@ -1,69 +1,58 @@
 -- The tables of objects.
 use Rattle.{
-  std.{proofs.{Common.{◌≡◌, ◌∙◌, ℕ, zero, suc, ◌<◌, List, [], ◌∷◌, length, refl, ap, sym, arith, nat_eq, Bool, true, false, if◌then◌else◌, Option, Some, None, IsSome}, lemmas.{List.{length-set}, Bool.Decides.{nat_tests}}}, specs.Prelude.{◌≢◌, Result, Ok, Err, IfOk, is_some, slice_index_or, slice_set}},
-  slab.specs.Slab.{Slab, Updates, get},
+  std.{proofs.{Common.{◌≡◌, ◌∙◌, ℕ, zero, suc, ◌<◌, List, [], ◌∷◌, length, refl, ap, sym, arith, nat_eq, Bool, true, false, if◌then◌else◌, Option, Some, None, IsSome}, lemmas.{List.{length-set}, Bool.Decides.{nat_tests}}}, specs.Prelude.{◌≢◌, Result, IfOk, is_some, slice_index_or, slice_set}},
   table_meaning.specs.Table.{NumberedTable},
   frame_store.specs.{declared.object.ObjId.{ObjId}, Objects.{Tables, with_object, table_or}},
 }
 
 nat_same : (a b : ℕ) → nat_eq a b ≡ true → a ≡ b
-nat_same a b e = grind (arith, nat_tests)
+nat_same = grind (arith, nat_tests)
 
 nat_eq_self : (n : ℕ) → nat_eq n n ≡ true
-nat_eq_self n = grind (arith, nat_tests)
+nat_eq_self = grind (arith, nat_tests)
 
 nat_eq_next : (i k : ℕ) → nat_eq (suc i) (suc k) ≡ nat_eq i k
-nat_eq_next i k = grind (arith, nat_tests)
+nat_eq_next = grind (arith, nat_tests)
 
 nat_eq_zero : (k : ℕ) → nat_eq 0 (suc k) ≡ false
-nat_eq_zero k = grind (arith, nat_tests)
+nat_eq_zero = grind (arith, nat_tests)
 
 nat_eq_none : (k : ℕ) → nat_eq (suc k) 0 ≡ false
-nat_eq_none k = grind (arith, nat_tests)
+nat_eq_none = grind (arith, nat_tests)
 
 -- an item of a list in which one is replaced
 get-set : {X : Type 0} (xs : List X) (d x : X) (i k : ℕ) → i < length xs → slice_index_or (slice_set xs i x) k d ≡ (if nat_eq i k then x else slice_index_or xs k d)
 get-set [] d x i k lt = absurd (omega arith)
-get-set (y ∷ xs) d x zero zero lt = refl
-get-set (y ∷ xs) d x zero (suc k) lt = ap (λ t. if t then x else slice_index_or xs k d) (sym (nat_eq_zero k))
-get-set (y ∷ xs) d x (suc i) zero lt = ap (λ t. if t then x else y) (sym (nat_eq_none i))
-get-set (y ∷ xs) d x (suc i) (suc k) lt = get-set xs d x i k (omega arith) ∙ ap (λ t. if t then x else slice_index_or xs k d) (sym (nat_eq_next i k))
+get-set (y ∷ xs) d x zero zero _ = refl
+get-set (y ∷ xs) d x zero (suc k) lt = search nat_eq_zero
+get-set (y ∷ xs) d x (suc i) zero lt = search nat_eq_none
+get-set (y ∷ xs) d x (suc i) (suc k) lt = grind (arith, nat_eq_next, get-set xs d x)
 
 -- an item that is put where it stands
 set_same : {X : Type 0} (xs : List X) (i : ℕ) (x d : X) → i < length xs → slice_index_or xs i d ≡ x → slice_set xs i x ≡ xs
-set_same [] i x d lt is = refl
-set_same (y ∷ ys) zero x d lt is = ap (λ z. z ∷ ys) (sym is)
-set_same (y ∷ ys) (suc i) x d lt is = ap (λ l. y ∷ l) (set_same ys i x d (omega (arith, lt)) is)
+set_same [] i x d _ _ = refl
+set_same (y ∷ ys) zero x d lt is = cc
+set_same (y ∷ ys) (suc i) x d lt is = grind (arith, set_same ys)
 
 -- two changes at different numbers
 either_first : {X : Type 0} (a b : Bool) (x y z : X) → (a ≡ true → b ≡ true → ⊥) → (if a then x else (if b then y else z)) ≡ (if b then y else (if a then x else z))
-either_first true true x y z apart = absurd (apart refl refl)
-either_first true false x y z apart = refl
-either_first false b x y z apart = refl
+either_first = grind arith
 
 some_within : {X : Type 0} (xs : List (Option X)) (i : ℕ) → IsSome (slice_index_or xs i None) → i < length xs
 some_within [] i live = cc
 some_within (y ∷ xs) zero live = omega arith
-some_within (y ∷ xs) (suc i) live = let later : i < length xs = some_within xs i live in omega arith
+some_within (y ∷ xs) (suc i) live = grind (arith, some_within xs)
 
 -- the table of one object is changed
 pub table_changed : (slots : List (Option NumberedTable)) (on : ℕ) (old new : NumberedTable) (change : NumberedTable → NumberedTable)
     → IsSome (slice_index_or slots on None) → slice_index_or slots on None ≡ Some old → new ≡ change old
     → (λ id. slice_index_or (slice_set slots on (Some new)) id None) ≡ with_object (λ id. slice_index_or slots id None) on (Some (change (table_or (slice_index_or slots on None))))
-table_changed slots on old new change live at is = λ j id. same id j
-  where
-    same : (id : ℕ) → slice_index_or (slice_set slots on (Some new)) id None ≡ (if nat_eq on id then Some (change (table_or (slice_index_or slots on None))) else slice_index_or slots id None)
-    same id =
-        get-set slots None (Some new) on id (some_within slots on live)
-        ∙ ap (λ t. if nat_eq on id then Some t else slice_index_or slots id None) (is ∙ ap change (sym (ap table_or at)))
+table_changed = grind (arith, nat_eq, get-set, some_within)
 
 -- an object ends
 pub table_ended : (old mid : List (Option NumberedTable)) (on : ℕ) → IsSome (slice_index_or old on None) → mid ≡ slice_set old on None
     → (λ id. slice_index_or mid id None) ≡ with_object (λ id. slice_index_or old id None) on None
-table_ended old mid on live removed = λ j id. same id j
-  where
-    same : (id : ℕ) → slice_index_or mid id None ≡ (if nat_eq on id then None else slice_index_or old id None)
-    same id = ap (λ (l : List (Option NumberedTable)). slice_index_or l id None) removed ∙ get-set old None None on id (some_within old on live)
+table_ended = grind (arith, nat_eq, get-set, some_within)
 
 -- an object gets the table of another one, which ended
 pub table_moved : (old mid : List (Option NumberedTable)) (on by : ℕ) (table : NumberedTable)
@@ -72,10 +61,10 @@ pub table_moved : (old mid : List (Option NumberedTable)) (on by : ℕ) (table :
 table_moved old mid on by table live there different at removed = λ j id. same id j
   where
     here : on < length mid
-    here = omega (arith, some_within old on live, ap (λ (l : List (Option NumberedTable)). length l) removed, length-set old by None)
+    here = omega (arith, some_within old on live, ap (λ l. length l) removed, length-set old by None)
 
     kept : (id : ℕ) → slice_index_or mid id None ≡ (if nat_eq by id then None else slice_index_or old id None)
-    kept id = ap (λ (l : List (Option NumberedTable)). slice_index_or l id None) removed ∙ get-set old None None by id (some_within old by there)
+    kept id = ap (λ l. slice_index_or l id None) removed ∙ get-set old None None by id (some_within old by there)
 
     same : (id : ℕ) → slice_index_or (slice_set mid on (Some table)) id None ≡ (if nat_eq by id then None else (if nat_eq on id then slice_index_or old by None else slice_index_or old id None))
     same id =
@@ -85,20 +74,16 @@ table_moved old mid on by table live there different at removed = λ j id. same 
         ∙ ap (λ t. if nat_eq by id then None else (if nat_eq on id then t else slice_index_or old id None)) (sym at)
 
 nat_other : (a b : ℕ) → a ≢ b → nat_eq a b ≡ false
-nat_other a b apart = go (nat_eq a b) refl
-  where
-    go : (r : Bool) → nat_eq a b ≡ r → nat_eq a b ≡ false
-    go true is = absurd (apart (nat_same a b is))
-    go false is = is
+nat_other = grind (arith, nat_eq, nat_same)
 
 -- an object ended, and the table of another one was changed by its table
 module _ (old mid : List (Option NumberedTable)) (on from : ℕ) (t source : NumberedTable) (different : on ≢ from) (at : slice_index_or old from None ≡ Some source) (removed : mid ≡ slice_set old from None)
     (now : slice_index_or mid on None ≡ Some t) where
   kept_by : (id : ℕ) → slice_index_or mid id None ≡ (if nat_eq from id then None else slice_index_or old id None)
-  kept_by id = ap (λ (l : List (Option NumberedTable)). slice_index_or l id None) removed ∙ get-set old None None from id (some_within old from (ap is_some at))
+  kept_by id = cc (removed, get-set old None None from id (some_within old from (ap is_some at)))
 
   pub still_at : slice_index_or old on None ≡ Some t
-  still_at = sym (ap (λ b. if b then None else slice_index_or old on None) (nat_other from on (λ e. different (sym e)))) ∙ sym (kept_by on) ∙ now
+  still_at = grind (arith, nat_other, kept_by)
 
   pub table_taken : (u : NumberedTable) (change : NumberedTable → NumberedTable → NumberedTable) → u ≡ change t source
       → (λ id. slice_index_or (slice_set mid on (Some u)) id None)
@@ -106,7 +91,7 @@ module _ (old mid : List (Option NumberedTable)) (on from : ℕ) (t source : Num
   table_taken u change is = λ j id. same id j
     where
       made : u ≡ change (table_or (slice_index_or old on None)) (table_or (slice_index_or old from None))
-      made = is ∙ (λ j. change (table_or (sym still_at j)) (table_or (sym at j)))
+      made = search still_at
 
       same : (id : ℕ) → slice_index_or (slice_set mid on (Some u)) id None
           ≡ (if nat_eq on id then Some (change (table_or (slice_index_or old on None)) (table_or (slice_index_or old from None))) else (if nat_eq from id then None else slice_index_or old id None))
@@ -114,21 +99,8 @@ module _ (old mid : List (Option NumberedTable)) (on from : ℕ) (t source : Num
 
   -- or it was left as it was, and the object that ended came back
   pub left_as_it_was : (u : NumberedTable) → u ≡ t → slice_set mid on (Some u) ≡ mid
-  left_as_it_was u is = set_same mid on (Some u) None (some_within mid on (ap is_some now)) (now ∙ ap (λ (v : NumberedTable). Some v) (sym is))
-
-  pub put_back : (left new : Slab NumberedTable) (key : ℕ) (back : NumberedTable) → left.slots ≡ mid → key ≡ from → back ≡ source → Updates left new key (Some back)
-      → ◌≡◌ {A = Tables} (λ id. get new id) (λ id. slice_index_or old id None)
-  put_back left new key back as_before here is updates = λ j id. (same id (nat_eq from id) refl) j
-    where
-      same : (id : ℕ) (b : Bool) → nat_eq from id ≡ b → get new id ≡ slice_index_or old id None
-      same id true e =
-          let there : from ≡ id = nat_same from id e in
-          ap (get new) (sym there ∙ sym here) ∙ updates.changed ∙ ap (λ (v : NumberedTable). Some v) is ∙ sym at ∙ ap (λ k. slice_index_or old k None) there
-      same id false e =
-          updates.others id (λ h. let wrong : true ≡ false = sym (nat_eq_self from) ∙ ap (nat_eq from) (sym here ∙ sym h) ∙ e in cc)
-          ∙ ap (λ (l : List (Option NumberedTable)). slice_index_or l id None) as_before ∙ kept_by id ∙ ap (λ b. if b then None else slice_index_or old id None) e
+  left_as_it_was u is = set_same mid on (Some u) None (some_within mid on (ap is_some now)) (now ∙ ap (λ v. Some v) (sym is))
 
 -- an object that has got a table is live
 pub added_is_live : {E : Type 0} (r : Result ObjId E) (old new : Tables) (t : NumberedTable) → IfOk r (λ id. new ≡ with_object old id.0 (Some t)) → IfOk r (λ id. IsSome (new id.0))
-added_is_live (Err e) old new t added = added
-added_is_live (Ok id) old new t added = ap is_some (ap (λ (f : Tables). f id.0) added ∙ ap (λ b. if b then Some t else old id.0) (nat_eq_self id.0))
+added_is_live = grind (arith, nat_eq_self)

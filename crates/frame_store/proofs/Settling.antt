@@ -1,6 +1,6 @@
 -- Laws of what is settled.
 use Rattle.{
-  std.proofs.{Common.{◌≡◌, ◌∙◌, ◌<◌, ◌≤◌, refl, ap, sym, subst, List, [], ◌∷◌, ◌++◌, length, replicate, append_assoc, append-nil, Option, Some, None, option_map, ℕ, suc, zero, nat_eq, Bool, true, false, if◌then◌else◌, All, slice_index_or, nat_lt, arith}, lemmas.{Bool.Decides.{nat_tests}, List.{get_or-map, Elements.{All-cons, All-nil}}}},
+  std.proofs.{Common.{◌≡◌, ◌∙◌, ◌<◌, ◌≤◌, refl, ap, sym, subst, List, [], ◌∷◌, ◌++◌, length, replicate, append_assoc, append-nil, Option, Some, None, option_map, ℕ, suc, zero, nat_eq, Bool, true, false, if◌then◌else◌, All, slice_index_or, nat_lt, arith}, lemmas.{Bool.Decides.{nat_tests}, List.{get_or-map}}},
   cell_core.specs.{Texts.{AreGiven, IsLonger, IsGiven}, declared.cell.Cell.{Cell}, Values.{CellValue, text_cell, datum}},
   meaning.specs.Text.{Text},
   table_meaning.specs.{Settled.{IsSettled}, Table.{ColumnOf, NumberedTable, Table, table_value, heading_value, column_value, no_column}},
@@ -10,23 +10,22 @@ use Rattle.cell_core.specs.declared.cell.Cell.TheVariants as cell
 
 -- what is settled stays so
 pub settled_later : {X Y : Type 0} (view : List Text → X → Y) (old new : List Text) (x : X) → IsLonger old new → IsSettled view old x → IsSettled view new x
-settled_later view old new x longer settled =
-    subst (λ texts. IsSettled view texts x) (sym longer.1) (λ more. ap (λ texts. view texts x) (append_assoc old longer.0 more) ∙ settled (longer.0 ++ more) ∙ sym (settled longer.0))
+settled_later = grind (arith, append_assoc)
 
 -- and is seen as before
 pub seen_later : {X Y : Type 0} (view : List Text → X → Y) (old new : List Text) (x : X) → IsLonger old new → IsSettled view old x → view new x ≡ view old x
-seen_later view old new x longer settled = ap (λ texts. view texts x) longer.1 ∙ settled longer.0
+seen_later = grind arith
 
 -- what is made of settled things by a law that holds for all texts is settled
 pub settled_by : {X X' Y Y' : Type 0} (view : List Text → X → Y) (view' : List Text → X' → Y') (f : Y → Y') (texts : List Text) (x : X) (x' : X')
     → ((texts : List Text) → f (view texts x) ≡ view' texts x') → IsSettled view texts x → IsSettled view' texts x'
-settled_by view view' f texts x x' law settled = λ more. sym (law (texts ++ more)) ∙ ap f (settled more) ∙ law texts
+settled_by = grind arith
 
 pub longer_self : (texts : List Text) → IsLonger texts texts
 longer_self texts = ([], sym (append-nil texts))
 
 pub longer_twice : (a b c : List Text) → IsLonger a b → IsLonger b c → IsLonger a c
-longer_twice a b c f g = (f.0 ++ g.0, g.1 ∙ ap (λ l. l ++ g.0) f.1 ∙ append_assoc a f.0 g.0)
+longer_twice = grind (arith, append_assoc)
 
 abbrev table_or_none : Option Table → Table → Table
 table_or_none None t = t
@@ -36,44 +35,37 @@ table_or_none (Some t) other = t
 pub object_settled : (texts : List Text) (tables : Tables) (id : ℕ) (t : NumberedTable) → tables id ≡ Some t → IsSettled shown texts tables → IsSettled table_value texts t
 object_settled texts tables id t is settled = λ more.
     let same : option_map (table_value (texts ++ more)) (tables id) ≡ option_map (table_value texts) (tables id) = λ j. settled more j id in
-    let both : Some (table_value (texts ++ more) t) ≡ Some (table_value texts t) =
-    ap (option_map (table_value (texts ++ more))) (sym is) ∙ same ∙ ap (option_map (table_value texts)) is in
+    let both : Some (table_value (texts ++ more) t) ≡ Some (table_value texts t) = cc in
     ap (λ o. table_or_none o (table_value texts t)) both
 
 -- one table more or another, and the others as they were
 pub shown_with : (old new : List Text) (tables tables' : Tables) (id : ℕ) (t : NumberedTable) → IsLonger old new → IsSettled shown old tables → tables' ≡ with_object tables id (Some t)
     → shown new tables' ≡ with_shown (shown old tables) id (Some (table_value new t))
-shown_with old new tables tables' id t longer settled is = ap (shown new) is ∙ (λ j other. at other (nat_eq id other) j)
+shown_with old new tables _ id t longer settled is = ap (shown new) is ∙ (λ j other. at other (nat_eq id other) j)
   where
     before : (other : ℕ) → option_map (table_value new) (tables other) ≡ option_map (table_value old) (tables other)
     before other = λ j. seen_later shown old new tables longer settled j other
 
     at : (other : ℕ) (b : Bool) → option_map (table_value new) (if b then Some t else tables other) ≡ (if b then Some (table_value new t) else option_map (table_value old) (tables other))
-    at other true = refl
+    at _ true = refl
     at other false = before other
 
 pub settled_with : (texts : List Text) (tables tables' : Tables) (id : ℕ) (t : NumberedTable) → IsSettled shown texts tables → IsSettled table_value texts t → tables' ≡ with_object tables id (Some t)
     → IsSettled shown texts tables'
-settled_with texts tables tables' id t settled here is = subst (IsSettled shown texts) (sym is) (λ more j other. at more other (nat_eq id other) j)
+settled_with texts tables _ id t settled here is = subst (IsSettled shown texts) (sym is) (λ more j other. at more other (nat_eq id other) j)
   where
     at : (more : List Text) (other : ℕ) (b : Bool) → option_map (table_value (texts ++ more)) (if b then Some t else tables other) ≡ option_map (table_value texts) (if b then Some t else tables other)
-    at more other true = ap (λ t. Some t) (here more)
+    at _ _ true = search
     at more other false = λ j. settled more j other
 
 -- a number that was given keeps its text
 text_kept : (texts more : List Text) (i : ℕ) → i < length texts → slice_index_or (texts ++ more) i [] ≡ slice_index_or texts i []
-text_kept [] more i lt = absurd (omega arith)
-text_kept (t ∷ ts) more zero lt = refl
+text_kept [] _ i lt = absurd (omega arith)
+text_kept (t ∷ ts) _ zero _ = refl
 text_kept (t ∷ ts) more (suc i) lt = text_kept ts more i (omega arith)
 
 pub cell_settled : (texts : List Text) (c : Cell) → IsGiven texts c → IsSettled datum texts c
-cell_settled texts cell.Na given = λ more. refl
-cell_settled texts (cell.Int z) given = λ more. refl
-cell_settled texts (cell.Bool b) given = λ more. refl
-cell_settled texts (cell.Text id) given = λ more. ap datum_text (text_kept texts more id.0 given)
-  where
-    datum_text : Text → CellValue
-    datum_text t = text_cell t
+cell_settled = grind (arith, text_kept)
 
 replicate_at : (i : ℕ) (t : Text) → slice_index_or (replicate (suc i) t) i [] ≡ t
 replicate_at zero t = refl
@@ -81,7 +73,7 @@ replicate_at (suc i) t = replicate_at i t
 
 -- a number that wasn't given would be seen otherwise among further texts
 beyond : (texts : List Text) (i : ℕ) → length texts ≤ i → (more : List Text) × (slice_index_or (texts ++ more) i [] ≡ 0 ∷ []) × (slice_index_or texts i [] ≡ [])
-beyond [] i le = (replicate (suc i) (0 ∷ []), replicate_at i (0 ∷ []), refl)
+beyond [] i _ = (replicate (suc i) (0 ∷ []), replicate_at i (0 ∷ []), refl)
 beyond (t ∷ ts) zero le = absurd (omega arith)
 beyond (t ∷ ts) (suc i) le = beyond ts i (omega arith)
 
@@ -90,9 +82,9 @@ text_in (text_cell t) = t
 text_in c = []
 
 pub cell_given : (texts : List Text) (c : Cell) → IsSettled datum texts c → IsGiven texts c
-cell_given texts cell.Na settled = tt
-cell_given texts (cell.Int z) settled = tt
-cell_given texts (cell.Bool b) settled = tt
+cell_given _ cell.Na settled = tt
+cell_given _ (cell.Int z) settled = tt
+cell_given _ (cell.Bool b) settled = tt
 cell_given texts (cell.Text id) settled = go (nat_lt id.0 (length texts)) refl
   where
     go : (b : Bool) → nat_lt id.0 (length texts) ≡ b → id.0 < length texts
@@ -100,9 +92,7 @@ cell_given texts (cell.Text id) settled = go (nat_lt id.0 (length texts)) refl
     go false e =
         let le : length texts ≤ id.0 = grind (arith, nat_tests) in
         let far = beyond texts id.0 le in
-        let same : slice_index_or (texts ++ far.0) id.0 [] ≡ slice_index_or texts id.0 [] = ap text_in (settled far.0) in
-        let wrong : 0 ∷ [] ≡ [] = sym far.1 ∙ same ∙ far.2 in
-        cc
+        grind arith
 
 abbrev tail_of : List CellValue → List CellValue
 tail_of [] = []
@@ -113,60 +103,51 @@ cells_in c = c.cells
 
 -- the cells of a column
 pub cells_settled : (texts : List Text) (cs : List Cell) → AreGiven texts cs → IsSettled cells_value texts cs
-cells_settled texts [] given = λ more. refl
+cells_settled _ [] _ = λ more. refl
 cells_settled texts (c ∷ cs) given = λ more j.
     cell_settled texts c (given 0 c (omega arith)) more j ∷ cells_settled texts cs (λ k d lt. given (suc k) d (omega arith)) more j
 
 pub cells_given : (texts : List Text) (cs : List Cell) → IsSettled cells_value texts cs → AreGiven texts cs
-cells_given texts [] settled = All-nil (IsGiven texts)
-cells_given texts (c ∷ cs) settled =
-    All-cons (IsGiven texts) c cs (cell_given texts c (λ more. ap (λ l. slice_index_or l 0 (text_cell [])) (settled more))) (cells_given texts cs (λ more. ap (λ l. tail_of l) (settled more)))
+cells_given _ [] settled = grind arith
+cells_given texts (c ∷ cs) settled = grind (arith, cell_given, cells_given texts cs (λ more. ap (λ l. tail_of l) (settled more)))
 
 pub column_settled : (texts : List Text) (c : ColumnOf Cell) → AreGiven texts c.cells → IsSettled column_value texts c
-column_settled texts c given = λ more j. record { kind = c.kind; cells = cells_settled texts c.cells given more j }
+column_settled = search cells_settled
 
 pub columns_settled : (texts : List Text) (cs : List (ColumnOf Cell)) → All (λ c. AreGiven texts c.cells) cs → IsSettled columns_value texts cs
-columns_settled texts [] given = λ more. refl
+columns_settled _ [] _ = λ more. refl
 columns_settled texts (c ∷ cs) given = λ more j.
     column_settled texts c (given 0 c (omega arith)) more j ∷ columns_settled texts cs (λ k d lt. given (suc k) d (omega arith)) more j
 
 pub columns_given : (texts : List Text) (cs : List (ColumnOf Cell)) → IsSettled columns_value texts cs → All (λ c. AreGiven texts c.cells) cs
 columns_given texts cs settled k d lt =
     cells_given texts (slice_index_or cs k d).cells (λ more.
-    sym (ap cells_in (get_or-map (column_value (texts ++ more)) cs k d no_column lt))
+    sym (grind (arith, get_or-map))
     ∙ ap (λ l. cells_in (slice_index_or l k no_column)) (settled more)
     ∙ ap cells_in (get_or-map (column_value texts) cs k d no_column lt))
 
 -- the parts of a table
 pub columns_part : (texts : List Text) (t : NumberedTable) → IsSettled table_value texts t → IsSettled columns_value texts t.columns
-columns_part texts t settled = λ more. ap (λ (v : Table). v.columns) (settled more)
+columns_part = grind arith
 
 pub headings_part : (texts : List Text) (t : NumberedTable) → IsSettled table_value texts t → IsSettled headings_value texts t.headings
-headings_part texts t settled = λ more. ap (λ (v : Table). v.headings) (settled more)
+headings_part = grind arith
 
 pub labels_part : (texts : List Text) (t : NumberedTable) → IsSettled table_value texts t → IsSettled labels_value texts t.labels
-labels_part texts t settled = λ more. ap (λ (v : Table). v.labels) (settled more)
+labels_part = grind arith
 
 pub level_names_part : (texts : List Text) (t : NumberedTable) → IsSettled table_value texts t → IsSettled headings_value texts t.level_names
-level_names_part texts t settled = λ more. ap (λ (v : Table). v.level_names) (settled more)
+level_names_part = grind arith
 
 pub columns_name_part : (texts : List Text) (t : NumberedTable) → IsSettled table_value texts t → IsSettled heading_value texts t.columns_name
-columns_name_part texts t settled = λ more. ap (λ (v : Table). v.columns_name) (settled more)
+columns_name_part _ t settled = λ more. ap (λ v. v.columns_name) (settled more)
 
 pub table_settled : (texts : List Text) (t : NumberedTable) → IsSettled heading_value texts t.columns_name → IsSettled headings_value texts t.level_names → IsSettled labels_value texts t.labels
     → IsSettled headings_value texts t.headings → IsSettled columns_value texts t.columns → IsSettled table_value texts t
-table_settled texts t name levels labels headings columns = λ more j.
+table_settled _ t name levels labels headings columns = λ more j.
     record { shape = t.shape; columns_name = name more j; level_names = levels more j; labels = labels more j; headings = headings more j; columns = columns more j }
 
 -- a table with other columns
 pub with_columns_settled : (texts : List Text) (t : NumberedTable) (cs : List (ColumnOf Cell)) → IsSettled table_value texts t → All (λ c. AreGiven texts c.cells) cs
     → IsSettled table_value texts (record t { columns = cs })
-with_columns_settled texts t cs settled given = λ more j.
-    record {
-      shape = t.shape;
-      columns_name = columns_name_part texts t settled more j;
-      level_names = level_names_part texts t settled more j;
-      labels = labels_part texts t settled more j;
-      headings = headings_part texts t settled more j;
-      columns = columns_settled texts cs given more j;
-    }
+with_columns_settled = search (columns_name_part, level_names_part, labels_part, headings_part, columns_settled)

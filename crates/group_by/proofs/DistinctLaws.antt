@@ -13,18 +13,18 @@ use Rattle.{
 
 -- one more at the end, which is new or not
 distinct_push : {X : Type 0} (eq : X → X → Bool) (xs : List X) (x : X) → distinct eq (xs ++ x ∷ []) ≡ distinct eq xs ++ cond (list_any (eq x) xs) [] (x ∷ [])
-distinct_push eq [] x = refl
+distinct_push _ [] x = refl
 distinct_push eq (k ∷ ks) x = grind (arith, filter-append, distinct_push eq ks x)
 
 counted_push : {X : Type 0} (eq : X → X → Bool) (xs : List X) (x : X) → length (distinct eq (xs ++ x ∷ [])) ≡ length (distinct eq xs) + cond (list_any (eq x) xs) 0 1
-counted_push eq xs x = grind (arith, distinct_push, length-append)
+counted_push = grind (arith, distinct_push, length-append)
 
 filter_few : {X : Type 0} (p : X → Bool) (xs : List X) → length (filter p xs) ≤ length xs
 filter_few p [] = omega arith
 filter_few p (x ∷ xs) = grind (arith, filter_few p xs)
 
 distinct_few : {X : Type 0} (eq : X → X → Bool) (xs : List X) → length (distinct eq xs) ≤ length xs
-distinct_few eq [] = omega arith
+distinct_few _ [] = omega arith
 distinct_few eq (x ∷ xs) = omega (arith, filter_few (λ q. not (eq q x)) (distinct eq xs), distinct_few eq xs)
 
 pub few_distinct : (cells : List CellValue) → distinct_count cells ≤ length cells
@@ -32,11 +32,11 @@ few_distinct cells = omega (arith, distinct_few same_cell (present cells), filte
 
 -- a cell that is missing is not present, and the others are
 missing_value : (texts : List (List ℕ)) (c : Cell) → is_present (datum texts c) ≡ not (is_missing c)
-missing_value texts x = grind arith
+missing_value = grind arith
 
 -- given cells that are present are told apart by number as they are by what they hold
 cells_apart : (texts : List (List ℕ)) → AreDistinct texts → (x y : Cell) → IsGiven texts x → IsGiven texts y → is_missing x ≡ false → is_missing y ≡ false → same_cell (datum texts x) (datum texts y) ≡ same_by_number x y
-cells_apart texts apart x1 y hx hy px py = grind (arith, false≢true, numbers_apart, truths_apart, texts_apart)
+cells_apart = grind (arith, false≢true, numbers_apart, truths_apart, texts_apart)
 
 member_laws : IsEquivalence same_member
 member_laws = and_equiv (on_equiv (λ (p : ℕ × Cell). p.0) nat_eq_equiv) (on_equiv (λ (p : ℕ × Cell). p.1) laws-law)
@@ -45,7 +45,7 @@ member_more : (seen : List (ℕ × Cell)) (k q : ℕ × Cell) → list_any (same
 member_more seen k q = covers_more same_member member_laws k seen seen (λ p. refl) q ∙ list_any-append (same_member q) seen (k ∷ [])
 
 or_false : (b : Bool) → (b || false) ≡ b
-or_false x = grind arith
+or_false = grind arith
 
 module _ (texts : List (List ℕ)) (apart : AreDistinct texts) (codes : List (Option ℕ)) (cells : List CellValue) (row count : ℕ) (inside : row < length codes) (cell : Cell) (given : IsGiven texts cell) (here : slice_index_or cells row na_cell ≡ datum texts cell) (seen : List (ℕ × Cell)) where
   -- the present cells of a group in the rows below this one
@@ -60,13 +60,13 @@ module _ (texts : List (List ℕ)) (apart : AreDistinct texts) (codes : List (Op
   code = slice_index_or codes row None
 
   same_so_far : (group : ℕ) → is_in group code ≡ false → so_far (row + 1) group ≡ so_far row group
-  same_so_far group other = search cells_same
+  same_so_far = search cells_same
 
   more_so_far : (group : ℕ) → code ≡ Some group → so_far (row + 1) group ≡ so_far row group ++ cond (not (is_missing cell)) (datum texts cell ∷ []) []
   more_so_far group is = cc (cells_more codes row inside cells group is, here, filter-append is_present (cells_of_group group (take row codes) cells) (datum texts cell ∷ []), missing_value texts cell)
 
   no_more : (group : ℕ) → code ≡ Some group → is_missing cell ≡ true → so_far (row + 1) group ≡ so_far row group
-  no_more group is missing = grind (arith, more_so_far, append-nil)
+  no_more = grind (arith, more_so_far, append-nil)
 
   one_more : (group : ℕ) → code ≡ Some group → is_missing cell ≡ false → so_far (row + 1) group ≡ so_far row group ++ datum texts cell ∷ []
   one_more group is present' = cc (more_so_far group is)
@@ -87,7 +87,7 @@ module _ (texts : List (List ℕ)) (apart : AreDistinct texts) (codes : List (Op
         ] refl)
 
     by_group : (g : ℕ) (o : Option ℕ) → code ≡ o → is_missing cell ≡ true → so_far (row + 1) g ≡ so_far row g
-    by_group g None is missing = same_so_far g (ap (is_in g) is)
+    by_group g None is _ = same_so_far g (ap (is_in g) is)
     by_group g (Some group) is missing = elim (g == group) as (λ b. (g == group) ≡ b → so_far (row + 1) g ≡ so_far row g) [
       | true ↦ grind (arith, no_more, eqb-true)
       | false ↦ λ e. same_so_far g (ap (is_in g) is ∙ e)
@@ -122,7 +122,7 @@ module _ (texts : List (List ℕ)) (apart : AreDistinct texts) (codes : List (Op
 
     pub distinct_more : (before after : List ℕ) (new : Option ℕ) → new ≡ new_in seen code cell → IsCounted new before after → length before ≡ count
         → ((g : ℕ) → g < count → slice_index_or before g 0 ≡ distinct_count (cells_of_group g (take row codes) cells)) → (g : ℕ) → g < count → slice_index_or after g 0 ≡ distinct_count (cells_of_group g (take (row + 1) codes) cells)
-    distinct_more before after new is counted size was g lt = grind (arith, count_more)
+    distinct_more = grind (arith, count_more)
 
 -- what is noted of a cell
 module _ (seen : List (ℕ × Cell)) (group : Option ℕ) (cell : Cell) (g : ℕ) (is : group ≡ Some g) where
@@ -135,17 +135,13 @@ module _ (seen : List (ℕ × Cell)) (group : Option ℕ) (cell : Cell) (g : ℕ
   pub new_there : is_missing cell ≡ false → new_in seen group cell ≡ cond (list_any (same_member (g, cell)) seen) None (Some g)
   new_there there = cc is
 
-  pub new_missing : is_missing cell ≡ true → new_in seen group cell ≡ None
-  new_missing missing = cc is
-
 -- there is room to count a cell more
 pub room : (codes : List (Option ℕ)) (cells : List CellValue) (row count : ℕ) (counts : List ℕ) → row < length codes → length codes < 2 ^ 64 → length counts ≡ count → ((g : ℕ) → g < count → slice_index_or counts g 0 ≡ distinct_count (cells_of_group g (take row codes) cells))
     → All (λ n. n + 1 < 2 ^ 64) counts
-room codes cells row count counts inside small size are k d lt =
+room codes cells row _ counts inside small size are k d lt =
     let here : slice_index_or counts k d ≡ distinct_count (cells_of_group k (take row codes) cells) = grind (arith, get_or_default) in
-    let rows = rows_of_group k (take row codes) in
-    let long : length (cells_of_group k (take row codes) cells) ≡ length rows = search length-map in
+    let long : length (cells_of_group k (take row codes) cells) ≡ length (rows_of_group k (take row codes)) = search length-map in
     omega (arith, here, few_distinct (cells_of_group k (take row codes) cells), long, rows_few k row codes (omega (arith, inside)), inside, small)
 
 pub new_below : (seen : List (ℕ × Cell)) (count : ℕ) (code new : Option ℕ) (cell : Cell) → new ≡ new_in seen code cell → IsPlaceOf count code → IsPlaceOf count new
-new_below seen count code new cell is below = grind arith
+new_below = grind arith

@@ -10,24 +10,24 @@ use Rattle.{
 
 -- the group of a code
 pub is_in_some : (group : ℕ) (code : Option ℕ) → is_in group code ≡ true → code ≡ Some group
-is_in_some group x h = grind (arith, false≢true, eqb-true)
+is_in_some = grind (arith, false≢true, eqb-true)
 
 module _ (codes : List (Option ℕ)) (row : ℕ) (inside : row < length codes) where
   pub rows_more : (group : ℕ) → slice_index_or codes row None ≡ Some group → rows_of_group group (take (row + 1) codes) ≡ rows_of_group group (take row codes) ++ row ∷ []
-  rows_more group here = grind (arith, rows_more_yes, eq-eqb)
+  rows_more = grind (arith, rows_more_yes, eq-eqb)
 
   -- no row more, where the row is in another group or in none
   pub rows_same : (group : ℕ) → is_in group (slice_index_or codes row None) ≡ false → rows_of_group group (take (row + 1) codes) ≡ rows_of_group group (take row codes)
-  rows_same group other = sym (search rows_more_no)
+  rows_same _ other = sym (search rows_more_no)
 
   module _ (cells : List CellValue) where
     pub cells_more : (group : ℕ) → slice_index_or codes row None ≡ Some group → cells_of_group group (take (row + 1) codes) cells ≡ cells_of_group group (take row codes) cells ++ slice_index_or cells row na_cell ∷ []
-    cells_more group here = search (rows_more, map-append)
+    cells_more = search (rows_more, map-append)
 
     pub cells_same : (group : ℕ) → is_in group (slice_index_or codes row None) ≡ false → cells_of_group group (take (row + 1) codes) cells ≡ cells_of_group group (take row codes) cells
-    cells_same group other = search rows_same
+    cells_same = search rows_same
 
     -- what is gathered of each group with the row
     pub taken_in : (op : GroupReduction) (texts : List (List ℕ)) (code : Option ℕ) (c : Cell) (before after : List Cell) → slice_index_or codes row None ≡ code → slice_index_or cells row na_cell ≡ datum texts c → TakesIn op texts code c before after
         → (g : ℕ) → datum texts (slice_index_or before g Na) ≡ group_cell op (cells_of_group g (take row codes) cells) → datum texts (slice_index_or after g Na) ≡ group_cell op (cells_of_group g (take (row + 1) codes) cells)
-    taken_in op texts code c before after is here takes g was = grind (arith, is_in_some, cells_more, cells_same)
+    taken_in = grind (arith, is_in_some, cells_more, cells_same)

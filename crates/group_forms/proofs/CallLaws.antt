@@ -14,14 +14,14 @@ use Rattle.method_meaning.specs.Groups as meant
 
 -- arguments that aren't bound, and those that are
 pub unbound : {A : Type 0} (w : World) (ps : List Parameter) (args : List Named) (read : List Given → Result A FaultValue) (why : Unbound) → IsBound w ps args (Err why) → Refuses w.texts (code_of why) (of_bound read (bound_of ps (arguments_in w args)))
-unbound w ps args read x is = grind arith
+unbound = grind arith
 
 pub bound_reads : {A : Type 0} (w : World) (ps : List Parameter) (args : List Named) (read : List Given → Result A FaultValue) (b : Bound) → IsBound w ps args (Ok b) → of_bound read (bound_of ps (arguments_in w args)) ≡ read (given_in w b)
-bound_reads w ps args read b is = search
+bound_reads w _ _ _ b is = search
 
 -- the name that `transform` is told
 pub no_text : (ps : List Parameter) → ps ≡ transform_parameters → HasNoText (slice_get ps 0)
-no_text ps is = rw is tt
+no_text _ is = rw is tt
 
 abbrev by_text : Option Text → Result meant.GroupCall FaultValue
 by_text o = on o (λ t. transform_of (reduction_named t))
@@ -30,7 +30,7 @@ abbrev no_id : Option TextId
 no_id = None
 
 pub told_none : (w : World) (b : Bound) → IsTransform b → ((live : Tables) (texts : List Text) → option_map (text_of texts) no_id ≡ text_in (stands_at live texts b 0)) → Refuses w.texts WrongKind (transform_in (given_in w b))
-told_none w b is told = grind arith
+told_none = grind arith
 
 module _ (w : World) (b : Bound) (is : IsTransform b) (id : TextId) (told : (live : Tables) (texts : List Text) → option_map (text_of texts) (Some id) ≡ text_in (stands_at live texts b 0)) (name : Text) (named : name ≡ text_of w.texts id) where
   by_name : transform_in (given_in w b) ≡ transform_of (reduction_named name)

@@ -25,25 +25,25 @@ abbrev made_if : Bool → Kind → List CellValue → Result ColumnValue ColumnF
 made_if b kind cells = if b then Ok record { kind = kind; cells = cells } else Err kind_mismatch
 
 made_is : (b : Bool) (kind : Kind) (cells : List CellValue) → made_column (made_if b kind cells) ≡ if_taken b (record { kind = kind; cells = cells })
-made_is x kind cells = grind arith
+made_is = grind arith
 
 one_meant : (call : ColumnCall) (g : GroupsValue) (c : ColumnOf CellValue) → made_column (made_of call g (value_of_column c)) ≡ if_taken (takes call c.kind) (column_made call g c)
-one_meant x g c = grind (arith, made_is)
+one_meant = grind (arith, made_is)
 
 -- and of all, by whether all are taken
 abbrev takes_seen : ColumnCall → Table → ℕ → Bool
 takes_seen call t place = takes call (column_at t.columns place).kind
 
 first_then : {A : Type 0} (b : Bool) (x : A) (c : Bool) (xs : List A) → then_value (if_taken b x) (λ y. then_value (if_taken c xs) (λ ys. Ok (y ∷ ys))) ≡ if_taken (b && c) (x ∷ xs)
-first_then x1 x c xs = grind arith
+first_then = grind arith
 
 each_meant : (call : ColumnCall) (g : GroupsValue) (t : Table) (places : List ℕ) → each_of t (made_of call g) places ≡ if_taken (list_all (takes_seen call t) places) (map (made_at call g t) places)
-each_meant call g t [] = refl
+each_meant _ g t [] = refl
 each_meant call g t (p ∷ ps) = search (one_meant, first_then, each_meant call g t ps)
 
 -- kinds don't depend on texts
 all_seen : (texts : List Text) (call : ColumnCall) (t : NumberedTable) (places : List ℕ) → list_all (takes_seen call (table_value texts t)) places ≡ list_all (takes_at call t) places
-all_seen texts call t [] = refl
+all_seen _ _ t [] = refl
 all_seen texts call t (p ∷ ps) = search (column_seen, all_seen texts call t ps)
 
 pub each_is : (texts : List Text) (call : ColumnCall) (g : GroupsValue) (t : NumberedTable) (places : List ℕ) (b : Bool) → list_all (takes_at call t) places ≡ b
@@ -51,7 +51,7 @@ pub each_is : (texts : List Text) (call : ColumnCall) (g : GroupsValue) (t : Num
 each_is texts call g t places b is = cc (each_meant call g (table_value texts t) places, all_seen texts call t places)
 
 pub all_taken : (call : ColumnCall) (t : NumberedTable) (places : List ℕ) → AreColumnsOf t places → list_all (takes_at call t) places ≡ true → AreTaken call t places
-all_taken call t [] below is = grind arith
+all_taken _ t [] below is = grind arith
 all_taken call t (p ∷ ps) below is =
     let both = both_true (takes_at call t p) (list_all (takes_at call t) ps) is in
     All-cons (λ place. (place < length t.columns) × (takes_at call t place ≡ true)) p ps (All-head (λ place. place < length t.columns) p ps below, both.0) (all_taken call t ps (All-tail (λ place. place < length t.columns) p ps below) both.1)
@@ -68,14 +68,14 @@ ok_same : (a b : ColumnValue) → the_answer (Ok a) ≡ the_answer (Ok b) → a 
 ok_same a b e = cc
 
 pub made_taken : (call : ColumnCall) (g : GroupsValue) (a : ColumnValue) → takes call a.kind ≡ true → made_of call g a ≡ Ok (value_of_column (column_made call g (column_of_value a)))
-made_taken x g a e = grind arith
+made_taken = grind arith
 
 pub never_mismatch : (texts : List Text) (call : ColumnCall) (g : GroupsValue) (a : ColumnValue) (r : Result CellColumn GroupFault) → takes call a.kind ≡ true → Answers texts r (made_of call g a) → r ≢ Err KindMismatch
-never_mismatch texts call g a x e answers = grind (arith, made_taken)
+never_mismatch = grind (arith, made_taken)
 
 -- how many cells it has
 pub made_count : (call : ColumnCall) (g : GroupsValue) (c : ColumnOf CellValue) → length (column_made call g c).cells ≡ rows_made call g
-made_count x g c = grind (arith, length-map-range_with_len, length-map)
+made_count = grind (arith, length-map-range_with_len, length-map)
 
 pub count_is : (texts : List Text) (call : ColumnCall) (g : GroupsValue) (a c : CellColumn) → column_value texts (table_column c) ≡ column_made call g (column_value texts (table_column a)) → length c.cells ≡ rows_made call g
 count_is texts call g a c is = cc (length-map c.cells (datum texts), made_count call g (column_value texts (table_column a)))
@@ -85,7 +85,7 @@ abbrev pub boxed : CellColumn → CellBlock
 boxed c = record { kind = c.kind; rows = length c.cells; columns = c.cells ∷ [] }
 
 pub one_more_block : (texts : List Text) (rows : ℕ) (c : CellColumn) (block : CellBlock) (blocks blocks' : List CellBlock) → block ≡ boxed c → blocks' ≡ blocks ++ block ∷ [] → length c.cells ≡ rows → AreGiven texts c.cells → AreBlocks texts rows blocks → AreBlocks texts rows blocks'
-one_more_block texts rows c block blocks blocks' is pushed counted given before =
+one_more_block texts rows c _ blocks _ is pushed counted given before =
     subst (AreBlocks texts rows) (sym (pushed ∙ ap (λ b. blocks ++ b ∷ []) is))
     record {
       single = All-push IsSingle blocks (boxed c) before.single refl;
@@ -94,12 +94,12 @@ one_more_block texts rows c block blocks blocks' is pushed counted given before 
     }
 
 pub one_more_value : (texts : List Text) (c : CellColumn) (block : CellBlock) (blocks blocks' : List CellBlock) → block ≡ boxed c → blocks' ≡ blocks ++ block ∷ [] → blocks_value texts blocks' ≡ blocks_value texts blocks ++ column_value texts (table_column c) ∷ []
-one_more_value texts c block blocks blocks' is pushed = grind (arith, map-append)
+one_more_value = grind (arith, map-append)
 
 -- the columns so far, with one more
 pub one_more_column : {X : Type 0} (f : ℕ → X) (places : List ℕ) (k place : ℕ) (x : X) (before made made' : List X) → k < length places → slice_get places k ≡ Some place → x ≡ f place → made' ≡ made ++ x ∷ []
     → made ≡ before ++ map f (take k places) → made' ≡ before ++ map f (take (k + 1) places)
-one_more_column f places k place x before made made' lt at is pushed so_far =
+one_more_column f places k place x before _ _ lt at is pushed so_far =
     pushed
     ∙ (λ i. so_far i ++ is i ∷ [])
     ∙ append_assoc before (map f (take k places)) (f place ∷ [])
@@ -109,15 +109,15 @@ one_more_column f places k place x before made made' lt at is pushed so_far =
 -- what was made of a kind that is taken
 module _ (made : Result CellColumn GroupFault) where
   pub through : {E : Type 0} (P : CellColumn → Type 0) (r : Result CellColumn E) → IfOk r (λ c. made ≡ Ok c) → IfOk made P → IfOk r P
-  through x x1 is h = grind arith
+  through P = grind arith
 
   module _ {E : Type 0} (texts : List Text) (call : ColumnCall) (g : GroupsValue) (a : CellColumn) (e : takes call a.kind ≡ true) (answers : Answers texts made (made_of call g (kernel.column_value texts a))) where
     pub column_by : (r : Result CellColumn E) → IfOk r (λ c. made ≡ Ok c) → IfOk r (λ c. column_value texts (table_column c) ≡ column_made call g (column_value texts (table_column a)))
-    column_by x is = grind (arith, ok_same, made_taken)
+    column_by = grind (arith, ok_same, made_taken)
 
     pub count_by : (r : Result CellColumn E) → IfOk r (λ c. made ≡ Ok c) → IfOk r (λ c. length c.cells ≡ rows_made call g)
     count_by (Ok c) is = count_is texts call g a c (grind (arith, ok_same, made_taken))
-    count_by (Err f) is = tt
+    count_by (Err f) _ = tt
 
 -- a column of the table
 pub place_given : (texts : List Text) (t : NumberedTable) (place : ℕ) (c : CellColumn) → IsSettled table_value texts t → place < length t.columns → column_at t.columns place ≡ table_column c → AreGiven texts c.cells
@@ -125,7 +125,7 @@ place_given texts t place c settled lt here = rw here at (columns_given texts t.
 
 pub place_seen : (texts : List Text) (call : ColumnCall) (g : GroupsValue) (t : NumberedTable) (place : ℕ) (a c : CellColumn) → column_at t.columns place ≡ table_column a → column_value texts (table_column c) ≡ column_made call g (column_value texts (table_column a))
     → column_value texts (table_column c) ≡ made_at call g (table_value texts t) place
-place_seen texts call g t place a c here is = grind (arith, column_seen)
+place_seen = grind (arith, column_seen)
 
 pub place_inside : (call : ColumnCall) (t : NumberedTable) (places : List ℕ) (k place : ℕ) → AreTaken call t places → k < length places → slice_get places k ≡ Some place → place < length t.columns
-place_inside call t places k place taken lt at = grind (arith, get_or_from_slice_get)
+place_inside = grind (arith, get_or_from_slice_get)

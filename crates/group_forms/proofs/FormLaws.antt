@@ -15,7 +15,7 @@ use Rattle.method_meaning.specs.Groups as meant
 
 -- a table that is read
 pub known_table : (w : World) (id : ℕ) (t : NumberedTable) → w.tables id ≡ Some t → IsWhole t → IsSettledWorld w → IsKnownTable w.texts t
-known_table w id t at whole settled = search object_settled
+known_table = search object_settled
 
 pub seen_before : (w : World) (texts : List Text) (id : ℕ) (t : NumberedTable) → w.tables id ≡ Some t → IsLonger w.texts texts → IsSettledWorld w → table_value texts t ≡ table_value w.texts (table_or (w.tables id))
 seen_before w texts id t at longer settled = cc (seen_later table_value w.texts texts t longer (object_settled w.texts w.tables id t at settled))
@@ -29,33 +29,33 @@ abbrev refused : {X : Type 0} → OpFault → Result X OpFault
 refused fault = Err fault
 
 pub refused_by : {X Y : Type 0} (view : List Text → X → Y) (w : World) (m : Result Y FaultValue) (go : Y → Result Entry FaultValue) (fault : OpFault) → MakesBy view w.texts (refused {X = X} fault) m → IsSettledWorld w → Forms (Err fault) (then_value m go) w w
-refused_by view w m go x refuses settled = grind (arith, longer_self)
+refused_by = grind (arith, longer_self)
 
 pub forms_so : (r : Result Value OpFault) (meant meant' : Result Entry FaultValue) (old new : World) → meant ≡ meant' → Forms r meant old new → Forms r meant' old new
-forms_so r meant meant' old new same = grind arith
+forms_so r meant = grind arith
 
 -- the cells of a list of scalars alone
 some_if : (b : Bool) (a x : List CellValue) → Some a ≡ (if b then Some x else None) → a ≡ x
-some_if x1 a x e = grind (arith, some_same)
+some_if = grind (arith, some_same)
 
 abbrev no_tables : Tables
 no_tables = λ id. None
 
 cells_are : (texts : List Text) (items : List Item) (cells : List Cell) → Some (cells_value texts cells) ≡ scalars_in (items_of no_tables texts items) → cells_value texts cells ≡ scalars texts items
-cells_are texts items cells is = search some_if
+cells_are = search some_if
 
 pub listed_settled : (texts : List Text) (items : List Item) (cells : List Cell) → ((live : Tables) (ts : List Text) → Some (cells_value ts cells) ≡ scalars_in (items_of live ts items)) → IsSettled scalars texts items → IsSettled cells_value texts cells
 listed_settled texts items cells is settled = λ more. cells_are (texts ++ more) items cells (is no_tables (texts ++ more)) ∙ settled more ∙ sym (cells_are texts items cells (is no_tables texts))
 
 pub items_known : (w : World) (a : Argument) (items : List Item) → ((live : Tables) (ts : List Text) → Some (items_of live ts items) ≡ list_in (argument_of live ts a)) → IsKnownArgument w a → IsSettled scalars w.texts items
-items_known w a items told known = grind (arith, scalars_are, some_same)
+items_known = grind (arith, scalars_are, some_same)
 
 -- several columns
 not_single : {P : Type 0} → false ≡ true → P
 not_single e = cc
 
 pub many_values : (t : NumberedTable) (places : List ℕ) → AreColumnsOf t places → AreValues t (record { places = places; single = false })
-many_values t places below = search not_single
+many_values t _ below = search not_single
 
 -- what is meant, where the arguments of `groupby`, the brackets and the last call are taken
 module _ (t : Table) (by gs : List NamedGiven) (brackets : Option Given) (name : Text) where
@@ -71,4 +71,4 @@ module _ (t : Table) (by gs : List NamedGiven) (brackets : Option Given) (name :
 
     module _ (v : meant.Values) (valued : values_in t g.keys brackets ≡ Ok v) where
       pub frame_called : (call : meant.GroupCall) → group_call_of name gs ≡ Ok call → group_answer t g v call ≡ grouped_frame t by brackets name gs
-      frame_called call called = grind (arith, frame_grouped)
+      frame_called = grind (arith, frame_grouped)

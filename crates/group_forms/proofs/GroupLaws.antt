@@ -55,7 +55,7 @@ module _ (t : Table) (g : meant.Grouping) (single : Bool) (hs : List (Option Lab
 
 -- how many rows it has
 pub rows_counted : (t : Table) (g : meant.Grouping) → length (group_labels t g) ≡ length (keys_of t g)
-rows_counted t g = grind (arith, length-map-range_with_len)
+rows_counted = grind (arith, length-map-range_with_len)
 
 -- its headings, as they are seen
 module _ (texts : List Text) (t : NumberedTable) (g : Grouping) where
@@ -70,10 +70,10 @@ module _ (texts : List Text) (t : NumberedTable) (g : Grouping) where
       by false = cc (headings_are texts t g.keys (headings_at t g.keys) refl, map-append (heading_value texts) (headings_at t g.keys) own)
 
   pub group_headings_settled : (own : List (Option Label)) → IsSettled table_value texts t → IsSettled headings_value texts own → IsSettled headings_value texts (group_headings t g own)
-  group_headings_settled own settled given = grind (arith, map-append, own_settled)
+  group_headings_settled = grind (arith, map-append, own_settled)
 
   pub group_headings_counted : (own : List (Option Label)) (columns : List (ColumnOf CellValue)) → length columns ≡ length own → length (group_keys T (grouping_seen texts g) ++ columns) ≡ length (group_headings t g own)
-  group_headings_counted own columns counted = grind (arith, length-append, length-map)
+  group_headings_counted = grind (arith, length-append, length-map)
 
 -- what is meant of a reduction, by whether the kinds are taken
 module _ (texts : List Text) (t : NumberedTable) (g : Grouping) (v : Values) (op : GroupOp) where
@@ -96,7 +96,7 @@ module _ (texts : List Text) (t : NumberedTable) (g : Grouping) (v : Values) (op
   reduced_shown is = reduced_meant true is ∙ grouped_is U gs v.single (headings_of U v.places) reduced_columns
 
   pub reduced_headings : (own labels : List (Option Label)) (count : ℕ) → own ≡ headings_at t v.places → labels ≡ group_headings t g own → count ≡ length (keys_of U gs) → HasHeadings texts labels count (group_table U gs (headings_of U v.places) reduced_columns)
-  reduced_headings own labels count owned is counted = record {
+  reduced_headings own _ _ owned is counted = record {
     headings = cc (headings_are texts t v.places own owned, group_headings_seen texts t g own);
     headed = group_headings_counted texts t g own reduced_columns (grind (arith, length-map)) ∙ ap (λ l. length l) (sym is);
     rows = rows_counted U gs ∙ sym counted;
@@ -110,12 +110,11 @@ group_labelled t g own whole frame below some = by g.as_index
     by false = All-append IsSome (headings_at t g.keys) own (grind (arith, labelled)) some
 
 both : (a b : Bool) → (a && b) ≡ true → (a ≡ true) × (b ≡ true)
-both x b e = grind arith
+both = grind arith
 
 pub reduced_one : (t : NumberedTable) (g : Grouping) (v : Values) (own labels : List (Option Label)) → AreValues t v → own ≡ headings_at t v.places → labels ≡ group_headings t g own → (v.single && g.as_index) ≡ true → length labels ≡ 1
-reduced_one t g v own labels values owned is single =
-    let s = both v.single g.as_index single in
-    grind (arith, labels_counted t v.places own owned, values.one s.0)
+reduced_one t g v own _ values owned is single =
+    grind (arith, labels_counted t v.places own owned, values.one (both v.single g.as_index single).0)
 
 module _ (texts : List Text) (t : NumberedTable) (g : Grouping) (v : Values) (heading : Option Label) (named : heading_value texts heading ≡ meant.size_heading g.as_index) where
   abbrev S : Table
@@ -131,21 +130,21 @@ module _ (texts : List Text) (t : NumberedTable) (g : Grouping) (v : Values) (he
   size_table = group_table S s (meant.size_heading g.as_index ∷ []) size_column
 
   pub size_headings : (labels : List (Option Label)) (count : ℕ) → labels ≡ group_headings t g (heading ∷ []) → count ≡ length (keys_of S s) → HasHeadings texts labels count size_table
-  size_headings labels count is counted = record {
+  size_headings _ _ is counted = record {
     headings = cc (named, group_headings_seen texts t g (heading ∷ []));
     headed = cc (group_headings_counted texts t g (heading ∷ []) size_column refl);
     rows = rows_counted S s ∙ sym counted;
   }
 
   pub sizes_labelled : (labels : List (Option Label)) → labels ≡ group_headings t g (heading ∷ []) → IsWhole t → t.shape ≡ Frame → AreColumnsOf t g.keys → g.as_index ≡ false → All IsSome labels
-  sizes_labelled labels is whole frame below e = grind (arith, group_labelled)
+  sizes_labelled = grind (arith, group_labelled)
 
 -- the table that is made of groups
 pub group_made : (texts : List Text) (t : NumberedTable) (g : Grouping) (hs : List (Option LabelValue)) (columns : List (ColumnOf CellValue)) (axis : AxisValue) (name : Option Label) (labels : List (Option Label)) (blocks : List CellBlock) (rows : ℕ)
     → IsSettled table_value texts t → name ≡ t.columns_name → IsAxis texts (group_labels (table_value texts t) (grouping_seen texts g)) (group_names (table_value texts t) (grouping_seen texts g)) axis
     → headings_by g.as_index (table_value texts t) g.keys hs ≡ headings_value texts labels → IsSettled headings_value texts labels → blocks_value texts blocks ≡ group_keys (table_value texts t) (grouping_seen texts g) ++ columns → AreBlocks texts rows blocks
     → IsMade texts (group_table (table_value texts t) (grouping_seen texts g) hs columns) axis name labels blocks
-group_made texts t g hs columns axis name labels blocks rows settled named axis_is headed given made filled = record {
+group_made texts t g _ columns _ _ _ _ _ settled named axis_is headed given made filled = record {
   frame = refl;
   named = cc;
   axis_is = axis_is;
@@ -159,26 +158,26 @@ group_made texts t g hs columns axis name labels blocks rows settled named axis_
 -- a block more, of the sizes of the groups
 pub sizes_boxed : (texts : List Text) (groups : GroupsValue) (c : CellColumn) (block : CellBlock) (before blocks : List CellBlock) → block ≡ boxed c → blocks ≡ before ++ block ∷ [] → kernel.column_value texts c ≡ group_sizes groups → AreGiven texts c.cells
     → AreBlocks texts groups.count before → AreBlocks texts groups.count blocks
-sizes_boxed texts groups c block before blocks box pushed sized given filled =
+sizes_boxed _ groups c _ _ _ box pushed sized given filled =
     let counted : length c.cells ≡ groups.count = grind (arith, length-map, length-map-range_with_len) in
     search one_more_block
 
 pub sizes_seen : (texts : List Text) (t : NumberedTable) (g : Grouping) (groups : GroupsValue) (c : CellColumn) (block : CellBlock) (before blocks : List CellBlock) → block ≡ boxed c → blocks ≡ before ++ block ∷ [] → kernel.column_value texts c ≡ group_sizes groups
     → groups ≡ groups_of (table_value texts t) (grouping_seen texts g) → blocks_value texts before ≡ group_keys (table_value texts t) (grouping_seen texts g)
     → blocks_value texts blocks ≡ group_keys (table_value texts t) (grouping_seen texts g) ++ column_of_value (group_sizes (groups_of (table_value texts t) (grouping_seen texts g))) ∷ []
-sizes_seen texts t g groups c block before blocks box pushed sized is keys =
+sizes_seen texts t g _ c _ _ _ box pushed sized is keys =
     let own : column_value texts (table_column c) ≡ column_of_value (group_sizes (groups_of (table_value texts t) (grouping_seen texts g))) = grind arith in
     grind (arith, one_more_value)
 
 pub one_settled : (texts : List Text) (h : Option Label) → IsSettled heading_value texts h → IsSettled headings_value texts (h ∷ [])
-one_settled texts h settled = search
+one_settled = search
 
 -- as many rows and columns
 pub axis_counted : (texts : List Text) (t : Table) (g : meant.Grouping) (axis : AxisValue) → IsAxis texts (group_labels t g) (group_names t g) axis → length axis.tuples ≡ length (keys_of t g)
-axis_counted texts t g axis is = grind (arith, length-map, rows_counted)
+axis_counted = grind (arith, length-map, rows_counted)
 
 pub blocks_counted : (texts : List Text) (blocks : List CellBlock) (columns : List (ColumnOf CellValue)) → blocks_value texts blocks ≡ columns → length blocks ≡ length columns
-blocks_counted texts blocks columns is = grind (arith, length-map)
+blocks_counted = grind (arith, length-map)
 
 -- the axis of keys, or of numbers
 abbrev labels_by : Bool → Table → meant.Grouping → List (List LabelValue)
@@ -196,7 +195,7 @@ module _ (texts : List Text) (t : NumberedTable) (g : Grouping) (axis : AxisValu
 
   pub keys_axis : (firsts : List ℕ) → IsSettled table_value texts t → g.as_index ≡ true → labels_value texts (map (row_labels t g.keys) firsts) ≡ keys_of A (grouping_seen texts g)
       → axis ≡ record { tuples = map (row_labels t g.keys) firsts; names = headings_at t g.keys } → IsAxis texts (group_labels A (grouping_seen texts g)) (group_names A (grouping_seen texts g)) axis
-  keys_axis firsts settled by_keys labelled is =
+  keys_axis _ settled by_keys labelled is =
       let seen : IsAxisBy true = record {
         labels_seen = cc;
         names_seen = grind (arith, headings_seen);
@@ -206,14 +205,14 @@ module _ (texts : List Text) (t : NumberedTable) (g : Grouping) (axis : AxisValu
       search
 
   pub numbers_axis : (count : ℕ) → g.as_index ≡ false → count ≡ length (keys_of A (grouping_seen texts g)) → axis ≡ range_axis count → IsAxis texts (group_labels A (grouping_seen texts g)) (group_names A (grouping_seen texts g)) axis
-  numbers_axis count by_numbers counted is = grind (arith, default_seen)
+  numbers_axis = grind (arith, default_seen)
 
 pub keys_some : (t : Table) (g : meant.Grouping) → g.as_index ≡ false → group_keys t g ≡ map (key_column t g) g.keys
 keys_some t g is = cc
 
 pub first_taken : (t : NumberedTable) (places : List ℕ) → AreColumnsOf t places → AreTaken (Reduced First) t places
-first_taken t places below = search
+first_taken = search
 
 pub keys_are_made : (texts : List Text) (t : NumberedTable) (g : Grouping) (groups : GroupsValue) (before made : List CellBlock) → g.as_index ≡ false → groups ≡ groups_of (table_value texts t) (grouping_seen texts g) → before ≡ []
     → blocks_value texts made ≡ blocks_value texts before ++ map (made_at (Reduced First) groups (table_value texts t)) g.keys → blocks_value texts made ≡ group_keys (table_value texts t) (grouping_seen texts g)
-keys_are_made texts t g groups before made is grouped none made_is = grind (arith, keys_some)
+keys_are_made = grind (arith, keys_some)

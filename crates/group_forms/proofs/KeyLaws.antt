@@ -19,7 +19,7 @@ use Rattle.method_meaning.specs.Groups as meant
 
 -- a group for each row
 pub codes_counted : (texts : List Text) (t : NumberedTable) (g : Grouping) (groups : GroupsValue) → groups ≡ meant.groups_of (table_value texts t) (grouping_seen texts g) → length groups.codes ≡ length t.labels
-codes_counted texts t g groups is = grind (arith, length-map, tuples_seen, numbered_keys, all_rows, length-range_with_len)
+codes_counted = grind (arith, length-map, tuples_seen, numbered_keys, all_rows, length-range_with_len)
 
 module _ (texts : List Text) (t : NumberedTable) (g : Grouping) (distinct : AreDistinct texts) (settled : IsSettled table_value texts t) where
   abbrev T : Table
@@ -41,17 +41,17 @@ module _ (texts : List Text) (t : NumberedTable) (g : Grouping) (distinct : AreD
   codes_with_texts = cc (seen, codes_seen (IsSettled tuple_value texts) (tuple_value texts) (seen_rules texts) tuple_rules (λ a b f h. tuple_by_number texts a b distinct f h) (λ a b f h. refl) (λ a f. refl) g.sorted g.dropna K rows_settled)
 
   pub groups_are : (groups : GroupsValue) → groups.count ≡ length (group_keys (seen_rules texts) g.sorted g.dropna K) → groups.codes ≡ group_codes (seen_rules texts) g.sorted g.dropna K → groups ≡ meant.groups_of T (grouping_seen texts g)
-  groups_are groups counted coded = grind (arith, length-map, keys_with_texts, codes_with_texts)
+  groups_are = grind (arith, length-map, keys_with_texts, codes_with_texts)
 
   -- the first row of each group
   rows_counted : length K ≡ length t.labels
   rows_counted = search (length-map, all_rows, length-range_with_len)
 
   pub firsts_inside : (firsts : List ℕ) → firsts ≡ map (place_among same_tuple K) (group_keys (seen_rules texts) g.sorted g.dropna K) → AreRowsOf t firsts
-  firsts_inside firsts is = grind (arith, rows_counted, rows_inside)
+  firsts_inside = grind (arith, rows_counted, rows_inside)
 
   tuple_there : (row : ℕ) → row < length t.labels → row_labels t g.keys row ≡ slice_index_or K row []
-  tuple_there row lt = grind (arith, get_or-map-range_with_len, zero-add)
+  tuple_there = grind (arith, get_or-map-range_with_len, zero-add)
 
   pub labels_are : (firsts : List ℕ) → firsts ≡ map (place_among same_tuple K) (group_keys (seen_rules texts) g.sorted g.dropna K) → labels_value texts (map (row_labels t g.keys) firsts) ≡ meant.keys_of T (grouping_seen texts g)
   labels_are firsts is = cc (map_on (λ row. row < length t.labels) (row_labels t g.keys) (λ row. slice_index_or K row []) tuple_there firsts (firsts_inside firsts is), tuples_there texts K g.sorted g.dropna, keys_with_texts)
@@ -72,25 +72,25 @@ module _ (texts : List Text) (t : NumberedTable) (g : Grouping) (distinct : AreD
     pub groups_found : {E : Type 0} (r : Result KeyGroups E) → IfOk r (λ found. found.groups.count ≡ length (group_keys (seen_rules texts) g.sorted g.dropna keys)) → IfOk r (λ found. found.groups.codes ≡ group_codes (seen_rules texts) g.sorted g.dropna keys)
         → IfOk r (λ found. found.groups ≡ meant.groups_of T (grouping_seen texts g))
     groups_found (Ok found) counted coded = search groups_by
-    groups_found (Err e) counted coded = tt
+    groups_found (Err e) _ _ = tt
 
     pub rows_found : {E : Type 0} (r : Result KeyGroups E) → IfOk r (λ found. found.firsts ≡ map (place_among same_tuple keys) (group_keys (seen_rules texts) g.sorted g.dropna keys)) → IfOk r (λ found. AreRowsOf t found.firsts)
-    rows_found x is = grind (arith, inside_by)
+    rows_found = grind (arith, inside_by)
 
     pub labels_found : {E : Type 0} (r : Result KeyGroups E) → IfOk r (λ found. found.firsts ≡ map (place_among same_tuple keys) (group_keys (seen_rules texts) g.sorted g.dropna keys))
         → IfOk r (λ found. labels_value texts (map (row_labels t g.keys) found.firsts) ≡ meant.keys_of T (grouping_seen texts g))
-    labels_found x is = grind (arith, labels_by)
+    labels_found = grind (arith, labels_by)
 
 -- what holds of an answer
 pub if_ok : {A E : Type 0} (P Q : A → Type 0) (r : Result A E) → ((a : A) → P a → Q a) → IfOk r P → IfOk r Q
-if_ok x x1 x2 f h = grind arith
+if_ok P Q = grind arith
 
 pub if_both : {A E : Type 0} (P Q R : A → Type 0) (r : Result A E) → ((a : A) → P a → Q a → R a) → IfOk r P → IfOk r Q → IfOk r R
-if_both x x1 x2 x3 f h k = grind arith
+if_both P Q R = grind arith
 
 -- one more of what is made of places
 one_more_of : {X : Type 0} (f : ℕ → X) (places : List ℕ) (k place : ℕ) (x : X) (made made' : List X) → k < length places → slice_get places k ≡ Some place → x ≡ f place → made' ≡ made ++ x ∷ [] → made ≡ map f (take k places) → made' ≡ map f (take (k + 1) places)
-one_more_of f places k place x made made' lt at is pushed so_far =
+one_more_of f places k place x _ _ lt at is pushed so_far =
     pushed
     ∙ (λ i. so_far i ++ is i ∷ [])
     ∙ ap (λ p. map f (take k places) ++ f p ∷ []) (sym (get_or_from_slice_get places k place 0 at))
@@ -99,15 +99,15 @@ one_more_of f places k place x made made' lt at is pushed so_far =
 -- one tuple more
 pub one_more_tuple : (t : NumberedTable) (keys rows : List ℕ) (k row : ℕ) (tuple : List Label) (tuples tuples' : List (List Label)) → k < length rows → slice_get rows k ≡ Some row → tuple ≡ row_labels t keys row → tuples' ≡ tuples ++ tuple ∷ []
     → tuples ≡ map (row_labels t keys) (take k rows) → tuples' ≡ map (row_labels t keys) (take (k + 1) rows)
-one_more_tuple t keys rows k row tuple tuples tuples' lt at is pushed before = search one_more_of
+one_more_tuple = search one_more_of
 
 -- all of them
 pub all_of : {X : Type 0} (f : ℕ → X) (places : List ℕ) (k : ℕ) (made : List X) → length places ≤ k → made ≡ map f (take k places) → made ≡ map f places
-all_of f places k made end before = grind (arith, take_all)
+all_of = grind (arith, take_all)
 
 -- the texts of keys were given
 pub key_labels_settled : (texts : List Text) (t : NumberedTable) (keys rows : List ℕ) → IsSettled table_value texts t → IsSettled labels_value texts (map (row_labels t keys) rows)
-key_labels_settled texts t keys [] settled = λ more. refl
+key_labels_settled _ t _ [] _ = λ more. refl
 key_labels_settled texts t keys (r ∷ rs) settled = λ more i. row_settled keys more i ∷ key_labels_settled texts t keys rs settled more i
   where
     cell_seen : (ts : List Text) (place : ℕ) → label_datum ts (label_of (cell_across t r place)) ≡ cell_label (slice_index_or (column_at (table_value ts t).columns place).cells r na_cell)

@@ -6,11 +6,11 @@ use Rattle.{
 
 -- where one passes, the rest decides
 pub passed_on : (p : ℕ → Bool) (xs : List ℕ) (k x : ℕ) (whole : Bool) → slice_get xs k ≡ Some x → p x ≡ true → list_all p (drop k xs) ≡ whole → list_all p (drop (k + 1) xs) ≡ whole
-passed_on p xs k x whole at passes rest = cc (add-one k, drop_next xs k x at)
+passed_on p xs k x _ at passes rest = cc (add-one k, drop_next xs k x at)
 
 -- where one doesn't, not all do
 pub not_passed : (p : ℕ → Bool) (xs : List ℕ) (k x : ℕ) (whole : Bool) → slice_get xs k ≡ Some x → p x ≡ false → list_all p (drop k xs) ≡ whole → false ≡ whole
-not_passed p xs k x whole at fails rest = cc (drop_next xs k x at)
+not_passed p xs k x _ at fails rest = cc (drop_next xs k x at)
 
 pub all_passed : (p : ℕ → Bool) (xs : List ℕ) (k : ℕ) (whole : Bool) → length xs ≤ k → list_all p (drop k xs) ≡ whole → true ≡ whole
-all_passed p xs k whole end rest = cc (drop_all k xs end)
+all_passed p xs k _ end rest = cc (drop_all k xs end)

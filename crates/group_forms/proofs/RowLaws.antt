@@ -19,13 +19,13 @@ use Rattle.method_meaning.specs.Groups as meant
 
 -- the headings of columns, as they are seen
 pub headings_are : (texts : List Text) (t : NumberedTable) (places : List ℕ) (labels : List (Option Label)) → labels ≡ headings_at t places → headings_of (table_value texts t) places ≡ headings_value texts labels
-headings_are texts t places labels is = cc (headings_seen texts t places)
+headings_are texts t places _ is = cc (headings_seen texts t places)
 
 pub own_settled : (texts : List Text) (t : NumberedTable) (places : List ℕ) (labels : List (Option Label)) → labels ≡ headings_at t places → IsSettled table_value texts t → IsSettled headings_value texts labels
-own_settled texts t places labels is settled = grind (arith, headings_settled, headings_part)
+own_settled = grind (arith, headings_settled, headings_part)
 
 pub labels_counted : (t : NumberedTable) (places : List ℕ) (labels : List (Option Label)) → labels ≡ headings_at t places → length labels ≡ length places
-labels_counted t places labels is = grind (arith, length-map)
+labels_counted = grind (arith, length-map)
 
 -- what is meant, by whether the kinds are taken
 module _ (texts : List Text) (t : NumberedTable) (g : Grouping) (v : Values) (call : ColumnCall) (by_row : IsByRow call) where
@@ -51,7 +51,7 @@ module _ (texts : List Text) (t : NumberedTable) (g : Grouping) (v : Values) (ca
   along_table = record T { headings = headings_of T v.places; columns = map (made_at call G T) v.places }
 
   pub along_headings : (labels : List (Option Label)) (rows : ℕ) → labels ≡ headings_at t v.places → rows ≡ length t.labels → HasHeadings texts labels rows along_table
-  along_headings labels rows is counted = record {
+  along_headings _ rows is counted = record {
     headings = search headings_are;
     headed = grind (arith, length-map, labels_counted);
     rows = grind (arith, length-map);
@@ -59,18 +59,18 @@ module _ (texts : List Text) (t : NumberedTable) (g : Grouping) (v : Values) (ca
 
 -- no block yet
 pub no_blocks : (texts : List Text) (rows : ℕ) → AreBlocks texts rows []
-no_blocks texts rows = grind arith
+no_blocks = grind arith
 
 pub blocks_begin : (texts : List Text) (rows : ℕ) (blocks : List CellBlock) → blocks ≡ [] → AreBlocks texts rows blocks
-blocks_begin texts rows blocks is = grind (arith, no_blocks)
+blocks_begin = grind (arith, no_blocks)
 
 -- how many cells a call by rows makes
 pub rows_by_row : (call : ColumnCall) (g : GroupsValue) → IsByRow call → rows_made call g ≡ length g.codes
-rows_by_row x g h = grind arith
+rows_by_row = grind arith
 
 -- as many blocks as places
 pub blocks_placed : (texts : List Text) (f : ℕ → ColumnOf CellValue) (places : List ℕ) (before blocks : List CellBlock) → before ≡ [] → blocks_value texts blocks ≡ blocks_value texts before ++ map f places → blocks_value texts blocks ≡ map f places
-blocks_placed texts f places before blocks none is = cc
+blocks_placed _ f _ _ _ none is = cc
 
 -- the places in groups
 module _ (texts : List Text) (t : NumberedTable) (g : Grouping) where
@@ -81,11 +81,11 @@ module _ (texts : List Text) (t : NumberedTable) (g : Grouping) where
   counts_table = record (table_value texts t) { headings = None ∷ []; columns = column_of_value (group_places C) ∷ [] }
 
   pub counts_headings : (rows : ℕ) → rows ≡ length t.labels → HasHeadings texts (None ∷ []) rows counts_table
-  counts_headings rows counted = grind (arith, length-map)
+  counts_headings = grind (arith, length-map)
 
   module _ (groups : GroupsValue) (is : groups ≡ C) (c : CellColumn) (block : CellBlock) (before blocks : List CellBlock) (none : before ≡ []) (box : block ≡ boxed c) (pushed : blocks ≡ before ++ block ∷ []) (placed : kernel.column_value texts c ≡ group_places groups) where
     pub counts_boxed : AreGiven texts c.cells → AreBlocks texts (length t.labels) blocks
-    counts_boxed given = grind (arith, length-map, length-map-range_with_len, one_more_block, blocks_begin)
+    counts_boxed = grind (arith, length-map, length-map-range_with_len, one_more_block, blocks_begin)
 
     pub counts_seen : blocks_value texts blocks ≡ column_of_value (group_places C) ∷ []
     counts_seen = grind (arith, one_more_value)

@@ -20,26 +20,26 @@ abbrev within_then : Table → Bool → Result Entry FaultValue
 within_then t b = then_value (if b then Ok t else Err limit) (λ t. Ok (table t))
 
 limited_beyond : (t : Table) (rows columns : ℕ) → length t.labels ≡ rows → length t.columns ≡ columns → within_limits rows columns ≡ false → limited t ≡ Err limit
-limited_beyond t rows columns counted headed beyond = search
+limited_beyond t _ _ counted headed beyond = search
 
 module _ (texts : List Text) (labels : List (Option Label)) (rows : ℕ) (t : Table) (h : HasHeadings texts labels rows t) where
   pub series_beyond : length labels ≡ 1 → within_limits rows 1 ≡ false → MayShow {X = HeadingList} texts (Err (Refused Limit)) true t
-  series_beyond one beyond = grind (arith, limited_beyond)
+  series_beyond = grind (arith, limited_beyond)
 
   -- a frame
   module _ (distinct : AreDistinct texts) (settled : IsSettled headings_value texts labels) where
     again : (found : Option Label) → repeated_heading labels ≡ found → finished t ≡ unless_repeated (heading_value texts found) (limited t)
-    again found is = grind (arith, repeated_seen)
+    again = grind (arith, repeated_seen)
 
     pub frame_shows : repeated_heading labels ≡ None → within_limits rows (length labels) ≡ true → shown_as false false t ≡ Ok (table t)
-    frame_shows none within = grind (arith, again, limited_within)
+    frame_shows = grind (arith, again, limited_within)
 
     pub frame_beyond : repeated_heading labels ≡ None → within_limits rows (length labels) ≡ false → MayShow {X = HeadingList} texts (Err (Refused Limit)) false t
-    frame_beyond none beyond = grind (arith, again, limited_beyond)
+    frame_beyond = grind (arith, again, limited_beyond)
 
     pub frame_repeated : (why : OpFault) → NamesRepeated why (repeated_heading labels) → MayShow {X = HeadingList} texts (Err why) false t
     frame_repeated (Refused code) named = (again (Some named.0) named.1 ∙ ap (λ c. Err (fault_of texts c)) (sym named.2), search repeated_settled)
-    frame_repeated NoMemory named = tt
+    frame_repeated NoMemory _ = tt
 
 -- the table that was made is the one that is meant
 abbrev pub made_table : Bool → AxisValue → Option Label → List (Option Label) → List CellBlock → NumberedTable
@@ -56,18 +56,18 @@ pub record IsMade (texts : List Text) (t : Table) (axis : AxisValue) (name : Opt
   pub blocks_given : All (λ c. AreGiven texts c.cells) (map block_column blocks)
 
 made_value : (texts : List Text) (single : Bool) (t : Table) (axis : AxisValue) (name : Option Label) (labels : List (Option Label)) (blocks : List CellBlock) → IsMade texts t axis name labels blocks → shown_if single t ≡ table_value texts (made_table single axis name labels blocks)
-made_value texts x t axis name labels blocks m = grind arith
+made_value = grind arith
 
 name_settled : (texts : List Text) (single : Bool) (name : Option Label) → IsSettled heading_value texts name → IsSettled heading_value texts (name_if single name)
-name_settled texts true name settled = λ more. refl
-name_settled texts false name settled = settled
+name_settled _ true _ _ = λ more. refl
+name_settled _ false _ settled = settled
 
 made_settled : (texts : List Text) (single : Bool) (t : Table) (axis : AxisValue) (name : Option Label) (labels : List (Option Label)) (blocks : List CellBlock) → IsMade texts t axis name labels blocks → IsSettled table_value texts (made_table single axis name labels blocks)
-made_settled texts single t axis name labels blocks m = search (table_settled, name_settled, columns_settled)
+made_settled _ _ t _ _ _ _ m = search (table_settled, name_settled, columns_settled)
 
 pub made_is : (texts : List Text) (single : Bool) (t : Table) (meant : Result Entry FaultValue) (axis : AxisValue) (name : Option Label) (labels : List (Option Label)) (blocks : List CellBlock) (headings : HeadingList) (made : NumberedTable) → IsMade texts t axis name labels blocks
     → meant ≡ shown_as false single t → shown_as false single t ≡ Ok (table (shown_if single t)) → headings ≡ headings_if single name labels → made ≡ table_of (shape_if single) axis headings blocks → Makes texts (Ok made) meant
-made_is texts single t meant axis name labels blocks headings made m is shows headed tabled =
+made_is texts single t _ axis name labels blocks _ made m is shows headed tabled =
     let whole : made ≡ made_table single axis name labels blocks = cc in (
       grind (arith, made_value),
       subst (IsSettled table_value texts) (sym whole) (made_settled texts single t axis name labels blocks m),
@@ -75,8 +75,8 @@ made_is texts single t meant axis name labels blocks headings made m is shows he
 
 -- why no table is made
 pub refused_is : (texts : List Text) (single : Bool) (t : Table) (meant : Result Entry FaultValue) (why : OpFault) → meant ≡ shown_as false single t → MayShow {X = HeadingList} texts (Err why) single t → Makes texts (Err why) meant
-refused_is texts single t meant x is shows = grind arith
+refused_is = grind arith
 
 -- few rows
 pub within_few : (rows columns : ℕ) → within_limits rows columns ≡ true → rows ≤ 2 ^ 26
-within_few rows columns is = grind (arith, nat_tests)
+within_few = grind (arith, nat_tests)

@@ -7,18 +7,18 @@ map_map g f (x ∷ xs) = ap (λ l. g (f x) ∷ l) (map_map g f xs)
 
 module _ {X : Type 0} (P : X → Type 0) where
   pub map_on : {Y : Type 0} (f g : X → Y) → ((x : X) → P x → f x ≡ g x) → (xs : List X) → All P xs → map f xs ≡ map g xs
-  map_on f g same [] all = refl
+  map_on f g _ [] _ = refl
   map_on f g same (x ∷ xs) all = λ i. same x (All-head P x xs all) i ∷ map_on f g same xs (All-tail P x xs all) i
 
   module _ {Y : Type 0} (f : X → Y) (p : Y → Bool) (q : X → Bool) (agree : (x : X) → P x → p (f x) ≡ q x) where
     pub filter_seen : (xs : List X) → All P xs → filter p (map f xs) ≡ map f (filter q xs)
-    filter_seen [] all = refl
+    filter_seen [] _ = refl
     filter_seen (x ∷ xs) all =
         (λ i. cond (agree x (All-head P x xs all) i) (f x ∷ filter_seen xs (All-tail P x xs all) i) (filter_seen xs (All-tail P x xs all) i))
         ∙ (elim (q x) as (λ b. cond b (f x ∷ map f (filter q xs)) (map f (filter q xs)) ≡ map f (cond b (x ∷ filter q xs) (filter q xs))) [ true ↦ refl | false ↦ refl ])
 
     place_seen : (xs : List X) → All P xs → position_or_len p (map f xs) ≡ position_or_len q xs
-    place_seen [] all = refl
+    place_seen [] _ = refl
     place_seen (x ∷ xs) all = λ i. cond (not (agree x (All-head P x xs all) i)) (1 + place_seen xs (All-tail P x xs all) i) 0
 
     -- the first place that passes

@@ -15,7 +15,7 @@ module _ {X Y : Type 0} (P : X → Type 0) (f : X → Y) (rules : KeyRules X) (r
       All-cons P x (filter (λ q. not (rules.same q x)) (distinct rules.same xs)) (All-head P x xs all) (All-filter (λ q. not (rules.same q x)) P (distinct rules.same xs) (all_distinct xs (All-tail P x xs all)))
 
   distinct_seen : (xs : List X) → All P xs → distinct rules'.same (map f xs) ≡ map f (distinct rules.same xs)
-  distinct_seen [] all = refl
+  distinct_seen [] _ = refl
   distinct_seen (x ∷ xs) all =
       ap (λ l. f x ∷ filter (λ q. not (rules'.same q (f x))) l) (distinct_seen xs (All-tail P x xs all))
       ∙ ap (λ l. f x ∷ l) (filter_seen P f (λ q. not (rules'.same q (f x))) (λ q. not (rules.same q x)) (λ q h. ap not (equal q x h (All-head P x xs all))) (distinct rules.same xs) (all_distinct xs (All-tail P x xs all)))

@@ -10,7 +10,7 @@ abbrev IsSingle : List Label → Type 0
 IsSingle tuple = length tuple ≡ 1
 
 one_level : (tuples : List (List Label)) → All IsSingle tuples → levels_of tuples ≡ 1
-one_level [] all = refl
+one_level [] _ = refl
 one_level (tuple ∷ tuples) all = All-head IsSingle tuple tuples all
 
 pub both_alike : (left right : List (List Label)) → HaveLevels 1 left → HaveLevels 1 right → HaveLevels (levels_of (left ++ right)) (left ++ right)

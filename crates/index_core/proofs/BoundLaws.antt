@@ -10,7 +10,7 @@ module _ {X : Type 0} (p : X → Bool) (xs : List X) where
   IsSoFar found k = option_to_list found ≡ rows_where p 0 (take k xs)
 
   pub first_time : (k : ℕ) (d : X) (found : Option ℕ) → k < length xs → IsSoFar found k → is_some found ≡ false → p (slice_index_or xs k d) ≡ true → IsSoFar (Some k) (k + 1)
-  first_time k d x lt before none passes = grind (arith, rows_more_yes)
+  first_time = grind (arith, rows_more_yes)
 
   pub passed_by : (k : ℕ) (d : X) (found : Option ℕ) → k < length xs → IsSoFar found k → p (slice_index_or xs k d) ≡ false → IsSoFar found (k + 1)
   passed_by k d found lt before fails = rows_more_no p xs k d (option_to_list found) lt before fails
@@ -18,11 +18,11 @@ module _ {X : Type 0} (p : X → Bool) (xs : List X) where
   -- a second row
   pub second_time : (k : ℕ) (d bound : X) (found : Option ℕ) → k < length xs → IsSoFar found k → is_some found ≡ true → p (slice_index_or xs k d) ≡ true
       → one_row bound (rows_where p 0 xs) ≡ Err (bound_not_unique bound)
-  second_time k d bound None lt before some passes = cc
-  second_time k d bound (Some row) lt before some passes =
+  second_time k d _ None lt before some passes = cc
+  second_time k d _ (Some row) lt before some passes =
       let two : row ∷ (k ∷ []) ≡ rows_where p 0 (take (k + 1) xs) = search rows_more_yes in
       cc (take-append-drop (k + 1) xs, rows_where-append p 0 (take (k + 1) xs) (drop (k + 1) xs))
 
   -- at the end
   whole : (k : ℕ) (found : Option ℕ) → length xs ≤ k → IsSoFar found k → option_to_list found ≡ rows_where p 0 xs
-  whole k found all before = cc (take_all k xs all)
+  whole k _ all before = cc (take_all k xs all)

@@ -9,38 +9,38 @@ use Rattle.{
 
 -- one label more among the keys of a set
 among : (q h : Label) (keys : List Label) → list_any (same_number h) keys ≡ true → same_number q h ≡ true → list_any (same_number q) keys ≡ true
-among q h keys there same = grind (arith, label_decides)
+among = grind (arith, label_decides)
 
 or_there : (a k : Bool) → (a ≡ true → k ≡ true) → k ≡ (a || k)
-or_there x k there = grind arith
+or_there = grind arith
 
 or_swapped : (a k : Bool) → (k || (a || false)) ≡ (a || k)
-or_swapped x x1 = grind arith
+or_swapped = grind arith
 
 key_more : (q h : Label) (keys : List Label) → list_any (same_number q) (insert_key same_number keys h) ≡ (same_number q h || list_any (same_number q) keys)
-key_more q h keys = search (rules, or_there, among, list_any-append, or_swapped)
+key_more = search (rules, or_there, among, list_any-append, or_swapped)
 
 -- the labels from a place on are the keys so far
 abbrev pub AreKeys : List Label → List Label → Type 0
 AreKeys keys labels = (q : Label) → list_any (same_number q) keys ≡ list_any (same_number q) labels
 
 pub keys_more : (labels keys keys' : List Label) (p : ℕ) (d : Label) → p < length labels → AreKeys keys (drop (p + 1) labels) → keys' ≡ insert_key same_number keys (slice_index_or labels p d) → AreKeys keys' (drop p labels)
-keys_more labels keys keys' p d lt so_far more = grind (arith, key_more, drop_more)
+keys_more = grind (arith, key_more, drop_more)
 
 -- labels of which the later ones don't differ don't differ
 later_twice : {X : Type 0} (same : X → X → Bool) (p : ℕ) (xs : List X) → all_differ same (drop p xs) ≡ false → all_differ same xs ≡ false
-later_twice same zero xs e = e
-later_twice same (suc p) [] e = e
+later_twice _ zero _ e = e
+later_twice _ (suc p) [] e = e
 later_twice same (suc p) (x ∷ xs) e = grind (arith, later_twice same p xs e)
 
 pub stands_twice : (labels keys : List Label) (p : ℕ) (d : Label) → p < length labels → AreKeys keys (drop (p + 1) labels) → not (list_any (same_number (slice_index_or labels p d)) keys) ≡ false
     → all_differ same_number labels ≡ false
-stands_twice labels keys p d lt so_far again =
+stands_twice labels _ p d lt so_far again =
     later_twice same_number p labels (grind (arith, drop_more))
 
 -- the numbers of a range differ
 later_numbers : (k a n : ℕ) → k < a → list_any (same_number (number_label k)) (map number_label (range_with_len a n)) ≡ false
-later_numbers k a zero lt = refl
+later_numbers k a zero _ = refl
 later_numbers k a (suc n) lt = grind (arith, not_same, label_decides, later_numbers k (a + 1) n (omega arith))
 
 numbers_differ : (a n : ℕ) → all_differ same_number (map number_label (range_with_len a n)) ≡ true

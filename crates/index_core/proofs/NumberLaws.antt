@@ -9,17 +9,17 @@ use Rattle.{
 use Rattle.cell_core.specs.declared.cell.Label.TheVariants as label
 
 pub label_decides : (a b : Label) → Decides (same_number a b) (a ≡ b)
-label_decides a b = search rules
+label_decides = search rules
 
 pub not_same : {P : Type 0} (r : Bool) → Decides r P → (P → ⊥) → r ≡ false
-not_same x d n = grind arith
+not_same = grind arith
 
 -- the label at a place
 pub number_at : (n k : ℕ) (d : Label) → k < n → slice_index_or (range_labels n) k d ≡ number_label k
-number_at n k d lt = grind (arith, get_or-map-range_with_len)
+number_at = grind (arith, get_or-map-range_with_len)
 
 inside : (n k : ℕ) → k < length (range_labels n) → k < n
-inside n k lt = omega (arith, length-range_labels n)
+inside n = omega (arith, length-range_labels n)
 
 -- a label that is none of the numbers
 pub nowhere : (n : ℕ) (l : Label) → ((k : ℕ) → k < n → same_number l (number_label k) ≡ false) → [] ≡ rows_where (same_number l) 0 (range_labels n)
@@ -48,23 +48,23 @@ number_there n m lt =
 
 -- the order of numbers
 lt_of : (a b : Bool) → is_lt (cond a Less (cond b Greater Equal)) ≡ a
-lt_of x b = grind arith
+lt_of = grind arith
 
 pub lt_numbers : (k m : ℕ) → is_lt (int_cmp (pos k) (pos m)) ≡ nat_lt k m
-lt_numbers k m = search lt_of
+lt_numbers = search lt_of
 
 pub gt_numbers : (k m : ℕ) → is_gt (int_cmp (pos k) (pos m)) ≡ nat_lt m k
-gt_numbers k m = grind (arith, nat_tests)
+gt_numbers = grind (arith, nat_tests)
 
 is_below : (k m : ℕ) → k < m → nat_lt k m ≡ true
-is_below k m lt = grind (arith, nat_tests)
+is_below = grind (arith, nat_tests)
 
 isnt_below : (k m : ℕ) → m ≤ k → nat_lt k m ≡ false
-isnt_below k m le = grind (arith, nat_tests)
+isnt_below = grind (arith, nat_tests)
 
 -- where the numbers are split by a test of a place
 pub split_numbers : (p : Label → Bool) (n place : ℕ) → place ≤ n → ((k : ℕ) → k < place → p (number_label k) ≡ false) → ((k : ℕ) → place ≤ k → k < n → p (number_label k) ≡ true) → IsSplitAt p (range_labels n) place
-split_numbers p n place few before behind = record {
+split_numbers p n _ few before behind = record {
   within = omega (arith, length-range_labels n);
   before = grind (arith, number_at);
   behind = search (number_at, inside);
@@ -91,27 +91,27 @@ pub left_at_once : (texts : List Text) (n m : ℕ) → IsSplitAt (λ l. not (sta
 left_at_once texts n m = split_numbers (λ l. not (stays_within (order_in texts) (Some (label.Int (negsuc m))) l)) n 0 (omega arith) (λ k lt. absurd (omega arith)) (λ k le lt. refl)
 
 pub missed_number : (n : ℕ) (z : ℤ) (place : ℕ) → lt_z z (pos 0) ≡ false → place ≡ unsigned_abs z → n ≤ place → [] ≡ rows_where (same_number (label.Int z)) 0 (range_labels n)
-missed_number n x place ge is le = grind (arith, nowhere, not_same, label_decides, same_pos)
+missed_number = grind (arith, nowhere, not_same, label_decides, same_pos)
 
 pub no_number : (n : ℕ) (z : ℤ) → lt_z z (pos 0) ≡ true → [] ≡ rows_where (same_number (label.Int z)) 0 (range_labels n)
-no_number n x lt = grind (arith, isnt_below, nowhere)
+no_number = grind (arith, isnt_below, nowhere)
 
 pub reached_number : (texts : List Text) (n : ℕ) (z : ℤ) (distance place : ℕ) → lt_z z (pos 0) ≡ false → distance ≡ unsigned_abs z → place ≡ min n distance → IsSplitAt (reaches (order_in texts) (Some (label.Int z))) (range_labels n) place
-reached_number texts n (pos m) distance place ge is at = grind (arith, reached texts n m)
-reached_number texts n (negsuc m) distance place ge is at = cc
+reached_number texts n (pos m) _ _ ge is at = grind (arith, reached texts n m)
+reached_number _ n (negsuc m) _ _ ge is at = cc
 
 pub reached_below : (texts : List Text) (n : ℕ) (z : ℤ) → lt_z z (pos 0) ≡ true → IsSplitAt (reaches (order_in texts) (Some (label.Int z))) (range_labels n) 0
-reached_below texts n (pos m) lt = absurd (grind (arith, isnt_below))
-reached_below texts n (negsuc m) lt = reached_at_once texts n m
+reached_below _ n (pos m) lt = absurd (grind (arith, isnt_below))
+reached_below texts n (negsuc m) _ = reached_at_once texts n m
 
 pub left_number : (texts : List Text) (n : ℕ) (z : ℤ) (distance place : ℕ) → lt_z z (pos 0) ≡ false → distance ≡ unsigned_abs z → place ≡ min n (distance + 1)
     → IsSplitAt (λ l. not (stays_within (order_in texts) (Some (label.Int z)) l)) (range_labels n) place
-left_number texts n (pos m) distance place ge is at = rw (at ∙ ap (λ k. min n (k + 1)) is) (left_behind texts n m)
-left_number texts n (negsuc m) distance place ge is at = cc
+left_number texts n (pos m) _ _ _ is at = rw (at ∙ ap (λ k. min n (k + 1)) is) (left_behind texts n m)
+left_number _ n (negsuc m) _ _ ge is at = cc
 
 pub left_below : (texts : List Text) (n : ℕ) (z : ℤ) → lt_z z (pos 0) ≡ true → IsSplitAt (λ l. not (stays_within (order_in texts) (Some (label.Int z)) l)) (range_labels n) 0
-left_below texts n (pos m) lt = absurd (grind (arith, isnt_below))
-left_below texts n (negsuc m) lt = left_at_once texts n m
+left_below _ n (pos m) lt = absurd (grind (arith, isnt_below))
+left_below texts n (negsuc m) _ = left_at_once texts n m
 
 -- by a test that all numbers pass, or none does
 pub all_pass : (p : Label → Bool) (n : ℕ) → ((k : ℕ) → p (number_label k) ≡ true) → IsSplitAt p (range_labels n) 0
@@ -122,16 +122,16 @@ none_passes p n fail = split_numbers p n n (omega arith) (λ k lt. fail k) (λ k
 
 -- numbers go on in order
 goes_on : (texts : List Text) (a n : ℕ) → goes_on_in_order (order_in texts) (number_label a) (map number_label (range_with_len (a + 1) n)) ≡ true
-goes_on texts a zero = refl
+goes_on _ a zero = refl
 goes_on texts a (suc n) = grind (arith, lt_numbers, isnt_below, goes_on texts (a + 1) n)
 
 pub range_in_order : (texts : List Text) (n : ℕ) → is_in_order (order_in texts) (range_labels n) ≡ true
-range_in_order texts x = grind (arith, goes_on)
+range_in_order = grind (arith, goes_on)
 
 -- rows with a step of 1
 ones : (first start count : ℕ) → map (place_from first (pos 1)) (range_with_len start count) ≡ range_with_len (first + start) count
-ones first start zero = refl
+ones _ _ zero = refl
 ones first start (suc count) = grind (arith, ones first (start + 1) count)
 
 pub run_rows : (first end count : ℕ) → count ≡ end - first → rows_of record { start = first; step = pos 1; count = count } ≡ rows_between first end
-run_rows first end count is = grind (arith, ones)
+run_rows = grind (arith, ones)

@@ -11,7 +11,7 @@ length-range_labels n = length-map-range_with_len number_label 0 n
 
 -- a range has as many labels as its number
 pub length_of_range : (labels : List Label) (n : ℕ) → range_labels n ≡ labels → n ≡ length labels
-length_of_range labels n seen = cc (length-range_labels n)
+length_of_range _ n seen = cc (length-range_labels n)
 
 -- the label at a place is that place
 pub label_of_range : (labels : List Label) (n place : ℕ) → range_labels n ≡ labels → place < length labels → slice_get labels place ≡ Some (number_label place)

@@ -25,7 +25,7 @@ within_first texts labels bound e = λ i j d le lt within.
 
 -- the rows of a slice
 both_fail : (a b : Bool) → b ≡ false → (a && b) ≡ false
-both_fail x b e = grind arith
+both_fail = grind arith
 
 pub rows_of_splits : {X : Type 0} (cmp : X → X → Ordering) (d : X) (lower upper : Option X) (xs : List X) (first end : ℕ)
     → IsSplitAt (reaches cmp lower) xs first → IsSplitAt (λ x. not (stays_within cmp upper x)) xs end
@@ -67,13 +67,13 @@ split_at_first p xs place next few before here = record {
 
 -- a slice of labels in order, and of a range
 sorted_is : {A : Type 0} (b : Bool) (x y : A) → b ≡ true → (if b then x else y) ≡ x
-sorted_is x1 x y e = search
+sorted_is b x y e = search
 
 pub slice_in_order : (texts : List Text) (lower upper : Option Label) (labels : List Label) (first end : ℕ) (rows : Rows) → is_in_order (order_in texts) labels ≡ true → rows_of rows ≡ rows_between first end
     → IsSplitAt (reaches (order_in texts) lower) labels first → IsSplitAt (λ label. not (stays_within (order_in texts) upper label)) labels end
     → label_slice (order_in texts) lower upper labels ≡ Ok (rows_of rows)
-slice_in_order texts lower upper labels first end rows sorted is from to = grind (arith, sorted_is, rows_of_splits)
+slice_in_order = grind (arith, sorted_is, rows_of_splits)
 
 pub slice_of_range : (texts : List Text) (lower upper : Option Label) (n : ℕ) (labels : List Label) (rows : Rows) → range_labels n ≡ labels → rows_of rows ≡ sorted_slice (order_in texts) lower upper (range_labels n)
     → label_slice (order_in texts) lower upper labels ≡ Ok (rows_of rows)
-slice_of_range texts lower upper n labels rows view is = cc (sorted_is (is_in_order (order_in texts) (range_labels n)) (Ok (sorted_slice (order_in texts) lower upper (range_labels n))) (unsorted_slice (order_in texts) lower upper (range_labels n)) (range_in_order texts n))
+slice_of_range texts lower upper n _ _ view is = cc (sorted_is (is_in_order (order_in texts) (range_labels n)) (Ok (sorted_slice (order_in texts) lower upper (range_labels n))) (unsorted_slice (order_in texts) lower upper (range_labels n)) (range_in_order texts n))

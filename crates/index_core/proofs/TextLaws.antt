@@ -16,7 +16,7 @@ text_in (text t) = t
 text_in l = []
 
 bool_same : (a b : Bool) → bool_cmp a b ≡ Equal → a ≡ b
-bool_same x x1 e = grind arith
+bool_same = grind arith
 
 -- labels that compare as equal are the same
 value_same : (a b : LabelValue) → label_cmp a b ≡ Equal → a ≡ b
@@ -38,21 +38,21 @@ value_same na (int b) e = cc
 value_same na (text b) e = cc
 
 is_equal : (o : Ordering) → is_eq o ≡ true → o ≡ Equal
-is_equal x e = grind arith
+is_equal = grind arith
 
 pub value_decides : (a b : LabelValue) → Decides (same_text a b) (a ≡ b)
-value_decides a b = grind (arith, value_same, is_equal, tied_itself, label_total)
+value_decides = grind (arith, value_same, is_equal, tied_itself, label_total)
 
 id_same : (x y : TextId) → x.0 ≡ y.0 → x ≡ y
-id_same x y e = grind arith
+id_same = grind arith
 
 -- labels of one text have one number
 pub label_one : (texts : List Text) (a b : Label) → AreDistinct texts → IsGivenLabel texts a → IsGivenLabel texts b → label_datum texts a ≡ label_datum texts b → a ≡ b
-label_one texts x x1 distinct f g e = grind (arith, id_same)
+label_one = grind (arith, id_same)
 
 -- labels whose texts were given are told apart by the numbers as by the texts
 pub number_alike : (texts : List Text) → AreDistinct texts → (a b : Label) → IsGivenLabel texts a → IsGivenLabel texts b → same_text (label_datum texts a) (label_datum texts b) ≡ same_number a b
-number_alike texts distinct a b f g = grind (arith, label_one, value_decides, same_from_decides)
+number_alike = grind (arith, label_one, value_decides, same_from_decides)
 
 -- what is picked by numbers is what is picked by texts: the rows of a label, a slice, a key of `loc`, and a mask
 module _ (texts : List Text) where
@@ -62,12 +62,12 @@ module _ (texts : List Text) where
 
   pub slice_seen : (lower upper : Option Label) (labels : List Label)
       → label_slice label_cmp (option_map (label_datum texts) lower) (option_map (label_datum texts) upper) (map (label_datum texts) labels) ≡ pick_seen (label_datum texts) (label_slice (order_in texts) lower upper labels)
-  slice_seen lower upper labels = search label_slice-map
+  slice_seen = search label_slice-map
 
   pub key_pick_seen : AreDistinct texts → (levels : ℕ) (tuples : List (List Label)) (key : LabelKey (List Label)) → All (All (IsGivenLabel texts)) tuples → IsOfKey (IsGivenLabel texts) key
       → picked_by_label same_text label_cmp levels (map (map (label_datum texts)) tuples) (key_seen (map (label_datum texts)) key) ≡ pick_seen (map (label_datum texts)) (picked_by_label same_number (order_in texts) levels tuples key)
-  key_pick_seen distinct levels tuples key all given = search (picked_by_label-map, number_alike)
+  key_pick_seen = search (picked_by_label-map, number_alike)
 
   pub mask_seen : AreDistinct texts → (xs labels : List Label) (mask : List Bool) → All (IsGivenLabel texts) xs → All (IsGivenLabel texts) labels
       → masked_rows same_text (map (label_datum texts) xs) (map (label_datum texts) labels) mask ≡ pick_seen (label_datum texts) (masked_rows same_number xs labels mask)
-  mask_seen distinct xs labels mask all given = search (masked_rows-map, number_alike)
+  mask_seen = search (masked_rows-map, number_alike)

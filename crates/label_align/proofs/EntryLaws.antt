@@ -14,14 +14,14 @@ flat_map-map f g (x ∷ xs) = cc (flat_map-map f g xs)
 
 module _ {K : Type 0} (key : K) where
   pub entries_with_some : (f : ℕ → ℕ) (left : Option ℕ) (rs : List ℕ) → 0 < length rs → map (λ r. entry key left (Some (f r))) rs ≡ entries_with key (map f rs) left
-  entries_with_some f left [] h = grind arith
-  entries_with_some f left (r ∷ rs) h = grind (arith, map-map)
+  entries_with_some f _ [] = grind arith
+  entries_with_some f _ (r ∷ rs) = grind (arith, map-map)
 
   pub entries_of_some : (ls rs : List ℕ) → 0 < length ls → flat_map (λ l. entries_with key rs (Some l)) ls ≡ entries_of key ls rs
-  entries_of_some x rs h = grind (arith, flat_map-map)
+  entries_of_some = grind (arith, flat_map-map)
 
 length-or_gap : (rs : List ℕ) → length (or_gap rs) ≡ max (length rs) 1
-length-or_gap x = grind (arith, length-map)
+length-or_gap = grind (arith, length-map)
 
 sum_by_alike : {X : Type 0} (n : ℕ) (xs : List X) → sum_by (λ x. n) xs ≡ length xs * n
 sum_by_alike n [] = omega arith
@@ -40,7 +40,7 @@ flat_map_more f xs i d lt = cc (take_more xs i d lt, flat_map-append f (take i x
 -- too many entries, and few enough
 module _ {K : Type 0} (entries : List (Entry K)) (counted : ℕ) (size : counted ≡ length entries) where
   pub too_many : (counted ≤ most_rows → ⊥) → within_limit entries ≡ Err too_large
-  too_many many = grind arith
+  too_many = grind arith
 
   pub few_enough : counted ≤ most_rows → within_limit entries ≡ Ok (lists_of entries)
-  few_enough few = grind arith
+  few_enough = grind arith

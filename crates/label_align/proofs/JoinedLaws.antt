@@ -6,16 +6,16 @@ use Rattle.{
 }
 
 step : {X Y : Type 0} (f : X → Y) (a b c : List Y) (es fs : List X) → b ≡ a ++ map f es → c ≡ b ++ map f fs → c ≡ a ++ map f (es ++ fs)
-step f a b c es fs p q = grind (arith, append_assoc, map-append)
+step = grind (arith, append_assoc, map-append)
 
 pub more_more : (a b c : Entries) (es fs : List (Entry ℕ)) → HasMore a b es → HasMore b c fs → HasMore a c (es ++ fs)
-more_more a b c es fs p q = search step
+more_more a b c _ _ p q = search step
 
 pub more_none : (a : Entries) → HasMore a a []
-more_none a = search append-nil
+more_none = search append-nil
 
 part : {X Y : Type 0} (f : X → Y) (a b : List Y) (es fs : List X) → a ≡ map f es → b ≡ a ++ map f fs → b ≡ map f (es ++ fs)
 part f a b es fs p q = cc (map-append f es fs)
 
 pub lists_more : (a b : Entries) (es fs : List (Entry ℕ)) → entries_seen a ≡ lists_of es → HasMore a b fs → entries_seen b ≡ lists_of (es ++ fs)
-lists_more a b es fs p q = grind (arith, part)
+lists_more = grind (arith, part)

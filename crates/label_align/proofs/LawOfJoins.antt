@@ -24,4 +24,4 @@ module _ (texts : List Text) (a b : List (List Label)) where
 
   pub law_of : (result : Result Joined AlignFault) → AlignsBy lists_seen result (within_limit entries) → IfOk result (λ joined. IsOuterJoin same_tuple (tuple_less texts) a b (lists_seen joined))
   law_of (Ok joined) meant = grind (arith, outer_join same_tuple (tuple_less texts) tuple_decides (tuple_weak texts) a b)
-  law_of (Err fault) meant = tt
+  law_of (Err fault) _ = tt

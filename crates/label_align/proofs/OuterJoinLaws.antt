@@ -3,23 +3,23 @@ use Rattle.{
   std.{proofs.{Common.{rules, ◌≡◌, ◌∙◌, ◌<◌, ◌||◌, ◌++◌, ℕ, zero, suc, Bool, true, false, not, cond, List, [], ◌∷◌, filter, length, refl, ap, slice_index_or, arith, All}, lemmas.{Bool.{false≢true, true≢false}, List.{append-nil, Elements.{All-head, All-tail, All-map, filter-append}}}}, specs.{Bool.{Decides}, Cmp.{IsStrictWeakOrder}, List.{flat_map, list_any}}},
   meaning.specs.Reduce.{distinct},
   sorting.{specs.Sorting.{put_in, in_order}, proofs.SortLaws.{irreflexive}},
-  align_meaning.{proofs.OrderLaws.{all_append, all_flat, all_put_in, all_in_order, all_distinct}, specs.{Joins.{Entry, or_gap, entry, entries_with, entries_of, outer_entries, lists_of}, OuterJoin.{IsOuterJoin, rows_of_key}}},
+  align_meaning.{proofs.OrderLaws.{all_append, all_flat, all_put_in, all_in_order, all_distinct}, specs.{Joins.{Entry, or_gap, entry, entries_of, outer_entries, lists_of}, OuterJoin.{IsOuterJoin, rows_of_key}}},
   row_keys.proofs.KeyLaws.{any_at},
   label_align.proofs.EntryLaws.{length-entries_of},
 }
 
 filter_all : {X : Type 0} (p : X → Bool) (xs : List X) → All (λ x. p x ≡ true) xs → filter p xs ≡ xs
-filter_all p [] all = refl
+filter_all p [] _ = refl
 filter_all p (x ∷ xs) all = cc (All-head (λ x. p x ≡ true) x xs all, filter_all p xs (All-tail (λ x. p x ≡ true) x xs all))
 
 filter_none : {X : Type 0} (p : X → Bool) (xs : List X) → All (λ x. p x ≡ false) xs → filter p xs ≡ []
-filter_none p [] all = refl
+filter_none p [] _ = refl
 filter_none p (x ∷ xs) all = cc (All-head (λ x. p x ≡ false) x xs all, filter_none p xs (All-tail (λ x. p x ≡ false) x xs all))
 
 -- each entry of a key has the key
 pub keyed : {K : Type 0} (key : K) (lefts rights : List ℕ) → All (λ e. e.key ≡ key) (entries_of key lefts rights)
 keyed key lefts rights =
-    all_flat (λ e. e.key ≡ key) (λ l. Unit {0}) (entries_with key rights)
+    all_flat (λ e. e.key ≡ key) (λ l. Unit {0}) _
     (λ l h. All-map (λ e. e.key ≡ key) (entry key l) (or_gap rights) (λ k d lt. refl)) (or_gap lefts) (λ k d lt. tt)
 
 module _ {X : Type 0} (less : X → X → Bool) where
@@ -29,11 +29,11 @@ module _ {X : Type 0} (less : X → X → Bool) where
   Rises (x ∷ xs) = All (λ y. less y x ≡ false) xs × Rises xs
 
   rises_at : (xs : List X) → Rises xs → (i j : ℕ) (d : X) → i < j → j < length xs → less (slice_index_or xs j d) (slice_index_or xs i d) ≡ false
-  rises_at [] up i j d lt inside = grind arith
-  rises_at (x ∷ xs) up zero zero d lt inside = grind arith
-  rises_at (x ∷ xs) up zero (suc j) d lt inside = grind arith
-  rises_at (x ∷ xs) up (suc i) zero d lt inside = grind arith
-  rises_at (x ∷ xs) up (suc i) (suc j) d lt inside = grind (arith, rises_at xs up.1)
+  rises_at [] up i j = grind arith
+  rises_at (x ∷ xs) up zero zero = grind arith
+  rises_at (x ∷ xs) up zero (suc j) = grind arith
+  rises_at (x ∷ xs) up (suc i) zero = grind arith
+  rises_at (x ∷ xs) up (suc i) (suc j) = grind (arith, rises_at xs up.1)
 
   module _ (weak : IsStrictWeakOrder less) where
     put_in_rises : (x : X) (ys : List X) → Rises ys → Rises (put_in less x ys)
@@ -56,21 +56,21 @@ module _ {K : Type 0} (same less : K → K → Bool) (decides : (a b : K) → De
 
     -- the parts of keys that rise
     block_rises : (key : K) (es rest : List E) → All (λ e. key_of e ≡ key) es → All (λ e. less (key_of e) key ≡ false) rest → Rises less_key rest → Rises less_key (es ++ rest)
-    block_rises key [] rest are above up = up
+    block_rises _ [] _ _ _ up = up
     block_rises key (e ∷ es) rest are above up =
         let here : key_of e ≡ key = All-head (λ e. key_of e ≡ key) e es are in
         let later = All-tail (λ e. key_of e ≡ key) e es are in (
-          all_append (λ f. less (key_of f) (key_of e) ≡ false) es rest
-              (λ k d lt. (λ i. less (later k d lt i) (here i)) ∙ irreflexive less weak key)
+          all_append (λ f. less (key_of f) (key_of e) ≡ false) es _
+              (λ k d lt. (λ i. less (later k d lt i) (here i)) ∙ irreflexive _ weak key)
               (λ k d lt. ap (less (key_of (slice_index_or rest k d))) here ∙ above k d lt),
-          block_rises key es rest later above up,
+          block_rises _ es _ later above up,
         )
 
     pub parts_rise : (keys : List K) → Rises less keys → Rises less_key (flat_map part keys)
-    parts_rise [] up = tt
+    parts_rise [] _ = tt
     parts_rise (key ∷ keys) up =
-        block_rises key (part key) (flat_map part keys) (carry key)
-        (all_flat (λ e. less (key_of e) key ≡ false) (λ k. less k key ≡ false) part (λ k h. λ n d lt. ap (λ x. less x key) (carry k n d lt) ∙ h) keys up.0)
+        block_rises _ _ _ (carry key)
+        (all_flat (λ e. less (key_of e) key ≡ false) (λ k. less k key ≡ false) _ (λ k h. λ n d lt. ap (λ x. less x key) (carry k n d lt) ∙ h) keys up.0)
         (parts_rise keys up.1)
 
     -- what belongs to one key among what belongs to keys
@@ -81,13 +81,12 @@ module _ {K : Type 0} (same less : K → K → Bool) (decides : (a b : K) → De
       pub parts_apart : (keys : List K) → filter has_key (flat_map part keys) ≡ flat_map part (filter (same key) keys)
       parts_apart [] = refl
       parts_apart (k ∷ keys) =
-          let are = carry k in
-          filter-append has_key (part k) (flat_map part keys)
+          filter-append _ (part k) _
           ∙ (grind (arith, filter_all, filter_none, parts_apart keys))
 
   module _ (key : K) where
     swap : (x y : K) (zs : List K) → cond (same key y) (y ∷ cond (same key x) (x ∷ zs) zs) (cond (same key x) (x ∷ zs) zs) ≡ cond (same key x) (x ∷ cond (same key y) (y ∷ zs) zs) (cond (same key y) (y ∷ zs) zs)
-    swap x y zs = grind arith
+    swap = grind arith
 
     put_in_keeps : (x : K) (ys : List K) → filter (same key) (put_in less x ys) ≡ filter (same key) (x ∷ ys)
     put_in_keeps x [] = refl
@@ -99,7 +98,7 @@ module _ {K : Type 0} (same less : K → K → Bool) (decides : (a b : K) → De
 
     -- a key that stands is once among the distinct ones
     others_gone : (x : K) (ks : List K) → key ≡ x → filter (same key) (filter (λ q. not (same q x)) ks) ≡ []
-    others_gone x [] is = refl
+    others_gone x [] _ = refl
     others_gone x (k ∷ ks) is = grind (arith, others_gone x ks is)
 
     others_stay : (x : K) (ks : List K) → same key x ≡ false → filter (same key) (filter (λ q. not (same q x)) ks) ≡ filter (same key) ks
@@ -111,7 +110,7 @@ module _ {K : Type 0} (same less : K → K → Bool) (decides : (a b : K) → De
     once (x ∷ xs) h =
         elim (same key x) as (λ b. same key x ≡ b → (b || list_any (same key) xs) ≡ true → cond b (x ∷ filter (same key) (filter (λ q. not (same q x)) (distinct same xs))) (filter (same key) (filter (λ q. not (same q x)) (distinct same xs))) ≡ key ∷ []) [
           | true ↦ grind (arith, others_gone)
-          | false ↦ λ e t. others_stay x (distinct same xs) e ∙ once xs t
+          | false ↦ λ e t. others_stay x _ e ∙ once xs t
         ] refl h
 
     -- and one that doesn't stand is not
@@ -120,7 +119,7 @@ module _ {K : Type 0} (same less : K → K → Bool) (decides : (a b : K) → De
     gone (x ∷ xs) h =
         elim (same key x) as (λ b. same key x ≡ b → (b || list_any (same key) xs) ≡ false → cond b (x ∷ filter (same key) (filter (λ q. not (same q x)) (distinct same xs))) (filter (same key) (filter (λ q. not (same q x)) (distinct same xs))) ≡ []) [
           | true ↦ λ e t. absurd (true≢false t)
-          | false ↦ λ e t. others_stay x (distinct same xs) e ∙ gone xs t
+          | false ↦ λ e t. others_stay x _ e ∙ gone xs t
         ] refl h
 
   -- a key stands among keys, as each of these in order does
@@ -129,8 +128,8 @@ module _ {K : Type 0} (same less : K → K → Bool) (decides : (a b : K) → De
 
   pub keys_stand : (keys : List K) → All (Stands keys) (in_order less (distinct same keys))
   keys_stand keys =
-      all_in_order (Stands keys) less (distinct same keys)
-      (all_distinct (Stands keys) same keys (λ i d lt. any_at (same (slice_index_or keys i d)) keys i d lt ((decides _ _).1 refl)))
+      all_in_order (Stands keys) _ (distinct same keys)
+      (all_distinct (Stands keys) _ _ (λ i d lt. any_at _ _ i d lt ((decides _ _).1 refl)))
 
   -- the entries of both sides' keys
   module _ (left right : List K) where
@@ -138,7 +137,7 @@ module _ {K : Type 0} (same less : K → K → Bool) (decides : (a b : K) → De
     of_key key = entries_of key (rows_of_key same left key) (rows_of_key same right key)
 
     entry_keys : (key : K) → All (λ e. e.key ≡ key) (of_key key)
-    entry_keys key = search keyed
+    entry_keys = search keyed
 
     entries_of_key : (key : K) → list_any (same key) (left ++ right) ≡ true → filter (λ e. same key e.key) (outer_entries same less left right) ≡ of_key key
     entries_of_key key stands = cc (parts_apart (λ e. e.key) of_key entry_keys key (in_order less (distinct same (left ++ right))), in_order_keeps key (distinct same (left ++ right)), once key (left ++ right) stands, append-nil (of_key key))
@@ -149,10 +148,10 @@ module _ {K : Type 0} (same less : K → K → Bool) (decides : (a b : K) → De
       lists = refl;
       in_order = rises_at (λ e f. less e.key f.key) (outer_entries same less left right)
           (search (parts_rise, entry_keys, in_order_rises));
-      as_often = λ key stands. ap length (entries_of_key key stands) ∙ length-entries_of key (rows_of_key same left key) (rows_of_key same right key);
+      as_often = grind (arith, entries_of_key, length-entries_of);
       no_others =
-          all_flat (λ e. Stands (left ++ right) e.key) (Stands (left ++ right)) of_key
+          all_flat (λ e. Stands (left ++ right) e.key) _ _
           (λ key stands. λ i d lt. ap (λ k. list_any (same k) (left ++ right)) (entry_keys key i d lt) ∙ stands)
-          (in_order less (distinct same (left ++ right))) (keys_stand (left ++ right));
+          (in_order less (distinct same (left ++ right))) (keys_stand _);
       rows_in_order = entries_of_key;
     }

@@ -11,13 +11,13 @@ use Rattle.{
 -- the rows that pass a test
 module _ {K : Type 0} (p : K → Bool) where
   rows_filtered : (f : ℕ → K) (d : K) (at : ℕ) (xs : List K) → ((k : ℕ) → k < length xs → f (at + k) ≡ slice_index_or xs k d) → filter (λ row. p (f row)) (range_with_len at (length xs)) ≡ rows_where p at xs
-  rows_filtered f d at [] there = refl
+  rows_filtered f d _ [] there = refl
   rows_filtered f d at (x ∷ xs) there =
       let here : f at ≡ x = ap f (omega arith) ∙ there 0 (omega arith) in
       search (rows_filtered f d (at + 1) xs (λ k lt. ap f (omega arith) ∙ there (suc k) (omega arith)))
 
   rows_some : (at : ℕ) (xs : List K) → list_any p xs ≡ true → 0 < length (rows_where p at xs)
-  rows_some at [] h = absurd (false≢true h)
+  rows_some _ [] h = absurd (false≢true h)
   rows_some at (x ∷ xs) h =
       elim (p x) as (λ b. (b || list_any p xs) ≡ true → 0 < length (cond b (at ∷ rows_where p (at + 1) xs) (rows_where p (at + 1) xs))) [
         | true ↦ λ t. omega arith
@@ -25,7 +25,7 @@ module _ {K : Type 0} (p : K → Bool) where
       ] h
 
   rows_none : (at : ℕ) (xs : List K) → list_any p xs ≡ false → rows_where p at xs ≡ []
-  rows_none at [] h = refl
+  rows_none _ [] h = refl
   rows_none at (x ∷ xs) h =
       elim (p x) as (λ b. (b || list_any p xs) ≡ false → cond b (at ∷ rows_where p (at + 1) xs) (rows_where p (at + 1) xs) ≡ []) [
         | true ↦ λ t. absurd (true≢false t)
@@ -33,15 +33,15 @@ module _ {K : Type 0} (p : K → Bool) where
       ] h
 
 rises_ascend : {X : Type 0} (less : X → X → Bool) (weak : IsStrictWeakOrder less) (xs : List X) → Rises less xs → Ascends less weak xs
-rises_ascend less weak [] up = tt
-rises_ascend less weak (x ∷ xs) up = (up.0, rises_ascend less weak xs up.1)
+rises_ascend _ _ [] _ = tt
+rises_ascend _ weak (x ∷ xs) up = (up.0, rises_ascend _ weak xs up.1)
 
 module _ {K : Type 0} (same less : K → K → Bool) (decides : (a b : K) → Decides (same a b) (a ≡ b)) (weak : IsStrictWeakOrder less) where
   itself : (k : K) → same k k ≡ true
   itself k = (decides k k).1 refl
 
   back : (x y : K) → same x y ≡ false → same y x ≡ false
-  back x y h = grind arith
+  back = grind arith
 
   -- keys that differ
   abbrev Apart : List K → Type 0
@@ -49,7 +49,7 @@ module _ {K : Type 0} (same less : K → K → Bool) (decides : (a b : K) → De
   Apart (k ∷ ks) = All (λ y. same k y ≡ false) ks × Apart ks
 
   filter_apart : (p : K → Bool) (ks : List K) → Apart ks → Apart (filter p ks)
-  filter_apart p [] up = tt
+  filter_apart p [] _ = tt
   filter_apart p (k ∷ ks) up = elim (p k) as (λ b. Apart (cond b (k ∷ filter p ks) (filter p ks))) [
     | true ↦ (All-filter p (λ y. same k y ≡ false) ks up.0, filter_apart p ks up.1)
     | false ↦ filter_apart p ks up.1
@@ -74,7 +74,7 @@ module _ {K : Type 0} (same less : K → K → Bool) (decides : (a b : K) → De
   ]
 
   order_apart : (xs : List K) → Apart xs → Apart (in_order less xs)
-  order_apart [] up = tt
+  order_apart [] _ = tt
   order_apart (x ∷ xs) up = put_in_apart x (in_order less xs) (search all_in_order) (order_apart xs up.1)
 
   module _ (all : List K) (d : K) where
@@ -98,41 +98,38 @@ module _ {K : Type 0} (same less : K → K → Bool) (decides : (a b : K) → De
     Carry k rows = All (λ row. key_at row ≡ k) rows
 
     carried : (k : K) (at : ℕ) (xs : List K) → ((i : ℕ) → i < length xs → key_at (at + i) ≡ slice_index_or xs i d) → Carry k (rows_where (same k) at xs)
-    carried k at [] there = grind arith
+    carried k _ [] there = grind arith
     carried k at (x ∷ xs) there =
         let here : key_at at ≡ x = ap key_at (omega arith) ∙ there 0 (omega arith) in
         grind (arith, carried k (at + 1) xs (λ i lt. ap key_at (omega arith) ∙ there (suc i) (omega arith)))
 
     there : (i : ℕ) → i < length all → key_at (0 + i) ≡ slice_index_or all i d
-    there i lt = grind arith
+    there = grind arith
 
     pub keyed : (k : K) → Carry k (part k)
-    keyed k = carried k 0 all there
+    keyed k = carried k 0 _ there
 
     one_key : (k : K) → filter (λ row. same k (key_at row)) (flat_map part keys) ≡ part k
     one_key k =
-        parts_apart same less decides weak key_at part keyed k keys
-        ∙ ap (flat_map part) (in_order_keeps same less decides weak k (distinct same all))
-        ∙ (elim (list_any (same k) all) as (λ b. list_any (same k) all ≡ b → flat_map part (filter (same k) (distinct same all)) ≡ part k) [
-          | true ↦ λ h. ap (flat_map part) (once same less decides weak k all h) ∙ append-nil (part k)
-          | false ↦ λ h. ap (flat_map part) (gone same less decides weak k all h) ∙ sym (rows_none (same k) 0 all h)
-        ] refl)
+        parts_apart _ _ decides weak _ _ keyed k keys
+        ∙ ap (flat_map part) (in_order_keeps same _ decides weak k (distinct same all))
+        ∙ (grind (arith, once, append-nil, gone, rows_none))
 
     -- rows in order, where ties carry the same key
     module _ (tied : (i j : ℕ) → ties less (key_at i) (key_at j) ≡ same (key_at i) (key_at j)) where
       stable : IsStableBy before (range_with_len 0 (length all)) (flat_map part keys)
       stable x =
           (λ q. filter (λ row. tied x row q) (flat_map part keys))
-          ∙ one_key (key_at x)
-          ∙ sym (rows_filtered (same (key_at x)) key_at d 0 all there)
+          ∙ one_key _
+          ∙ sym (rows_filtered _ key_at d 0 all there)
           ∙ (λ q. filter (λ row. sym (tied x row) q) (range_with_len 0 (length all)))
 
       pub rows_are : in_order before (range_with_len 0 (length all)) ≡ flat_map part keys
       rows_are =
-          one_order before before_weak (flat_map part keys) (in_order before (range_with_len 0 (length all)))
-          (rises_ascend before before_weak (flat_map part keys) (parts_rise same less decides weak key_at part keyed keys (search in_order_rises)))
+          one_order _ before_weak (flat_map part keys) _
+          (rises_ascend _ before_weak _ (parts_rise _ _ decides weak key_at _ keyed keys (search in_order_rises)))
           (search in_order_ascends)
-          (λ x. in_order_ties before before_weak (range_with_len 0 (length all)) x ∙ sym (stable x))
+          (λ x. in_order_ties _ before_weak (range_with_len 0 (length all)) x ∙ sym (stable x))
 
     -- their runs
     abbrev pub alike : ℕ → ℕ → Bool
@@ -144,35 +141,35 @@ module _ {K : Type 0} (same less : K → K → Bool) (decides : (a b : K) → De
 
     one_run : (count : ℕ) (k : K) (run : Run) (row : ℕ) (rows rest : List ℕ) → key_at row ≡ k → Carry k rows → NotFirst k rest
         → runs_from alike count run (row ∷ (rows ++ rest)) ≡ gathered count run (row ∷ rows) ∷ runs_from alike count no_run rest
-    one_run count k run row [] rest is carry other = grind arith
+    one_run _ k _ _ [] _ is carry other = grind arith
     one_run count k run row (next ∷ rows) rest is carry other =
         let here : key_at next ≡ k = All-head (λ r. key_at r ≡ k) next rows carry in
         grind (arith, one_run count k (with_row count run row) next rows rest here (All-tail (λ r. key_at r ≡ k) next rows carry) other)
 
     one_part : (count : ℕ) (k : K) (rows rest : List ℕ) → 0 < length rows → Carry k rows → NotFirst k rest → runs_from alike count no_run (rows ++ rest) ≡ gathered count no_run rows ∷ runs_from alike count no_run rest
-    one_part count k [] rest some carry other = grind arith
-    one_part count k (row ∷ rows) rest some carry other = one_run count k no_run row rows rest (All-head (λ r. key_at r ≡ k) row rows carry) (All-tail (λ r. key_at r ≡ k) row rows carry) other
+    one_part _ k [] _ some carry other = grind arith
+    one_part _ k (row ∷ rows) _ _ carry other = one_run _ k no_run row _ _ (All-head (λ r. key_at r ≡ k) row rows carry) (All-tail (λ r. key_at r ≡ k) row rows carry) other
 
     first_other : (k y : K) (rows rest : List ℕ) → 0 < length rows → Carry y rows → same k y ≡ false → NotFirst k (rows ++ rest)
-    first_other k y [] rest some carry other = grind arith
-    first_other k y (row ∷ rows) rest some carry other = cc (All-head (λ r. key_at r ≡ y) row rows carry)
+    first_other k y [] _ some carry other = grind arith
+    first_other k y (row ∷ rows) _ some carry other = cc (All-head (λ r. key_at r ≡ y) row rows carry)
 
     abbrev pub HaveRows : List K → Type 0
     HaveRows ks = All (λ k. 0 < length (part k)) ks
 
     not_next : (k : K) (ks : List K) → All (λ y. same k y ≡ false) ks → HaveRows ks → NotFirst k (flat_map part ks)
-    not_next k [] other some = tt
+    not_next k [] _ _ = tt
     not_next k (y ∷ ys) other some =
-        first_other k y (part y) (flat_map part ys) (All-head (λ k. 0 < length (part k)) y ys some) (keyed y) (All-head (λ z. same k z ≡ false) y ys other)
+        first_other k y _ _ (All-head (λ k. 0 < length (part k)) y ys some) (keyed y) (All-head (λ z. same k z ≡ false) y ys other)
 
     runs_apart : (count : ℕ) (ks : List K) → Apart ks → HaveRows ks → runs_from alike count no_run (flat_map part ks) ≡ map (λ k. gathered count no_run (part k)) ks
-    runs_apart count [] apart some = refl
+    runs_apart _ [] _ _ = refl
     runs_apart count (k ∷ ks) apart some =
         let later : HaveRows ks = All-tail (λ k. 0 < length (part k)) k ks some in
         cc (one_part count k (part k) (flat_map part ks) (All-head (λ k. 0 < length (part k)) k ks some) (keyed k) (not_next k ks apart.0 later), runs_apart count ks apart.1 later)
 
     pub have_rows : HaveRows keys
-    have_rows i e lt = rows_some (same (slice_index_or keys i e)) 0 all (keys_stand same less decides weak all i e lt)
+    have_rows = grind (arith, rows_some, keys_stand)
 
     pub runs_are : (count : ℕ) → runs_from alike count no_run (flat_map part keys) ≡ map (λ k. gathered count no_run (part k)) keys
-    runs_are count = search (runs_apart, order_apart, distinct_apart, have_rows)
+    runs_are = search (runs_apart, order_apart, distinct_apart, have_rows)

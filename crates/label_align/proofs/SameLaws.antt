@@ -9,7 +9,7 @@ use Rattle.{
 pub use Rattle.row_keys.proofs.PartnerLaws.{tuple_laws}
 
 label_decides : (a b : Label) → Decides (same_number a b) (a ≡ b)
-label_decides a b = search rules
+label_decides = search rules
 
 pub tuple_decides : (a b : List Label) → Decides (same_tuple a b) (a ≡ b)
 tuple_decides = pointwise_decides label_decides
@@ -18,7 +18,7 @@ pub tuples_decide : (a b : List (List Label)) → Decides (pointwise same_tuple 
 tuples_decide = pointwise_decides tuple_decides
 
 bool_same : (a b : Bool) → bool_cmp a b ≡ Equal → a ≡ b
-bool_same x x1 e = grind arith
+bool_same = grind arith
 
 -- labels that compare as equal are the same
 pub value_same : (a b : LabelValue) → label_cmp a b ≡ Equal → a ≡ b
@@ -40,18 +40,18 @@ value_same na (int b) e = cc
 value_same na (text b) e = cc
 
 pub is_equal : (o : Ordering) → is_eq o ≡ true → o ≡ Equal
-is_equal x e = grind arith
+is_equal = grind arith
 
 abbrev text_in : LabelValue → List ℕ
 text_in (text t) = t
 text_in l = []
 
 id_same : (x y : TextId) → x.0 ≡ y.0 → x ≡ y
-id_same x y e = grind arith
+id_same = grind arith
 
 -- labels of one text have one number
 pub label_one : (texts : List (List ℕ)) (a b : Label) → AreDistinct texts → IsGivenLabel texts a → IsGivenLabel texts b → label_datum texts a ≡ label_datum texts b → a ≡ b
-label_one texts x x1 distinct f g e = grind arith
+label_one = grind arith
 
 -- tuples of given labels tie in their order exactly where they are the same
 module _ (texts : List (List ℕ)) (distinct : AreDistinct texts) where
@@ -71,7 +71,7 @@ module _ (texts : List (List ℕ)) (distinct : AreDistinct texts) where
   tuple_one [] (y ∷ ys) g h e = cc
   tuple_one (x ∷ xs) [] g h e = cc
   tuple_one (x ∷ xs) (y ∷ ys) g h e =
-      let first : x ≡ y = label_one texts x y distinct (All-head (IsGivenLabel texts) x xs g) (All-head (IsGivenLabel texts) y ys h) (ap head_in e) in
+      let first : x ≡ y = label_one _ x y distinct (All-head (IsGivenLabel texts) x xs g) (All-head (IsGivenLabel texts) y ys h) (ap head_in e) in
       search (tuple_one xs ys (All-tail (IsGivenLabel texts) x xs g) (All-tail (IsGivenLabel texts) y ys h) (ap tail_in e))
 
   pub tuple_tied : (x y : List Label) → Given x → Given y → ties (tuple_less texts) x y ≡ same_tuple x y

@@ -9,47 +9,47 @@ use Rattle.{
 -- the rows of the right, from a count on
 module _ {K : Type 0} (p : K → Bool) (n : ℕ) where
   rows_above : (at : ℕ) (xs : List K) → n ≤ at → All (λ row. n ≤ row) (rows_where p at xs)
-  rows_above at [] le = grind arith
+  rows_above _ [] le = grind arith
   rows_above at (x ∷ xs) le = grind (arith, rows_above (at + 1) xs (omega arith))
 
   rows_shifted : (at m : ℕ) (xs : List K) → m ≡ at + n → map (λ row. row - n) (rows_where p m xs) ≡ rows_where p at xs
-  rows_shifted at m [] e = refl
+  rows_shifted _ m [] e = refl
   rows_shifted at m (x ∷ xs) e = grind (arith, rows_shifted (at + 1) (m + 1) xs (omega arith))
 
 -- how many rows of each side are gathered, and which row stands for them
 module _ (n : ℕ) where
   gathered_append : (run : Run) (xs ys : List ℕ) → gathered n run (xs ++ ys) ≡ gathered n (gathered n run xs) ys
-  gathered_append run [] ys = refl
+  gathered_append _ [] _ = refl
   gathered_append run (x ∷ xs) ys = gathered_append (with_row n run x) xs ys
 
   left_row : (run : Run) (row : ℕ) → row < n → with_row n run row ≡ run_of row (run.lefts + 1) run.rights
-  left_row run row lt = search lt-ltb
+  left_row = search lt-ltb
 
   right_row : (run : Run) (row : ℕ) → n ≤ row → with_row n run row ≡ run_of row run.lefts (run.rights + 1)
-  right_row run row le = search le-ltb
+  right_row = search le-ltb
 
   lefts_gathered : (run : Run) (xs : List ℕ) → All (λ row. row < n) xs → ((gathered n run xs).lefts ≡ run.lefts + length xs) × ((gathered n run xs).rights ≡ run.rights)
-  lefts_gathered run [] all = (omega arith, refl)
+  lefts_gathered _ [] all = (omega arith, refl)
   lefts_gathered run (x ∷ xs) all =
       let is : with_row n run x ≡ run_of x (run.lefts + 1) run.rights = left_row run x (All-head (λ row. row < n) x xs all) in
       grind (arith, lefts_gathered (with_row n run x) xs (All-tail (λ row. row < n) x xs all))
 
   rights_gathered : (run : Run) (xs : List ℕ) → All (λ row. n ≤ row) xs → ((gathered n run xs).lefts ≡ run.lefts) × ((gathered n run xs).rights ≡ run.rights + length xs)
-  rights_gathered run [] all = (refl, omega arith)
+  rights_gathered _ [] all = (refl, omega arith)
   rights_gathered run (x ∷ xs) all =
       let is : with_row n run x ≡ run_of x run.lefts (run.rights + 1) = right_row run x (All-head (λ row. n ≤ row) x xs all) in
       grind (arith, rights_gathered (with_row n run x) xs (All-tail (λ row. n ≤ row) x xs all))
 
   row_is : (run : Run) (row : ℕ) → (with_row n run row).row ≡ row
-  row_is run row = grind arith
+  row_is = grind arith
 
   row_gathered : (P : ℕ → Type 0) (run : Run) (xs : List ℕ) → P run.row → All P xs → P (gathered n run xs).row
-  row_gathered P run [] here all = here
-  row_gathered P run (x ∷ xs) here all = row_gathered P (with_row n run x) xs (subst P (sym (row_is run x)) (All-head P x xs all)) (All-tail P x xs all)
+  row_gathered P _ [] here _ = here
+  row_gathered P run (x ∷ xs) _ all = row_gathered P (with_row n run x) xs (subst P (sym (row_is run x)) (All-head P x xs all)) (All-tail P x xs all)
 
   some_row : (P : ℕ → Type 0) (xs : List ℕ) → 0 < length xs → All P xs → P (gathered n no_run xs).row
   some_row P [] some all = search
-  some_row P (x ∷ xs) some all = row_gathered P (with_row n no_run x) xs (subst P (sym (row_is no_run x)) (All-head P x xs all)) (All-tail P x xs all)
+  some_row P (x ∷ xs) _ all = row_gathered P _ xs (subst P (sym (row_is no_run x)) (All-head P x xs all)) (All-tail P x xs all)
 
   -- the entries of a run at the head of rows
   module _ (xs ys rest : List ℕ) (run : Run) (lefts : run.lefts ≡ length xs) (rights : run.rights ≡ length ys) where
@@ -66,15 +66,15 @@ module _ (n : ℕ) where
 
   -- entries keep what their runs' rows are
   entries_keep : (P : ℕ → Type 0) (runs : List Run) (rows : List ℕ) → All (λ run. P run.row) runs → All (λ e. P e.key) (run_entries n runs rows)
-  entries_keep P [] rows all = All-nil (λ e. P e.key)
-  entries_keep P (run ∷ runs) rows all =
-      all_append (λ e. P e.key) (entries_in n run rows) (run_entries n runs (drop (rows_in run) rows))
+  entries_keep P [] _ _ = All-nil (λ e. P e.key)
+  entries_keep P (run ∷ runs) _ all =
+      all_append (λ e. P e.key) _ _
       (λ k d lt. subst P (search keyed) (All-head (λ r. P r.row) run runs all))
-      (entries_keep P runs (drop (rows_in run) rows) (All-tail (λ r. P r.row) run runs all))
+      (entries_keep P runs _ (All-tail (λ r. P r.row) run runs all))
 
   -- the entries of one run more
   run_entries_append : (xs ys : List Run) (rows : List ℕ) → run_entries n (xs ++ ys) rows ≡ run_entries n xs rows ++ run_entries n ys (drop (total xs) rows)
-  run_entries_append [] ys rows = refl
+  run_entries_append [] _ _ = refl
   run_entries_append (x ∷ xs) ys rows = search (drop-drop, sum_by-cons, append_assoc, run_entries_append xs ys (drop (rows_in x) rows))
 
   pub run_more : (runs : List Run) (rows : List ℕ) (k : ℕ) (d : Run) → k < length runs
@@ -91,7 +91,7 @@ module _ {K : Type 0} (f : ℕ → K) where
   rekeyed e = entry (f e.key) e.left e.right
 
   rekeyed_of : (key : ℕ) (ls rs : List ℕ) → map rekeyed (entries_of key ls rs) ≡ entries_of (f key) ls rs
-  rekeyed_of key ls rs = search (map-flat_map, map-map)
+  rekeyed_of = search (map-flat_map, map-map)
 
 module _ {K : Type 0} (same less : K → K → Bool) (decides : (a b : K) → Decides (same a b) (a ≡ b)) (weak : IsStrictWeakOrder less) (a b : List K) (d : K) where
   abbrev part : K → List ℕ
@@ -117,7 +117,7 @@ module _ {K : Type 0} (same less : K → K → Bool) (decides : (a b : K) → De
     of_right = rows_where (same k) (0 + length a) b
 
     split : part k ≡ of_left ++ of_right
-    split = rows_where-append (same k) 0 a b
+    split = rows_where-append _ 0 a b
 
     sizes : ((run_at k).lefts ≡ length of_left) × ((run_at k).rights ≡ length of_right)
     sizes = grind (arith, gathered_append, lefts_gathered, rights_gathered, rows_inside, rows_above, split)
@@ -129,12 +129,12 @@ module _ {K : Type 0} (same less : K → K → Bool) (decides : (a b : K) → De
     as_many = grind (arith, length-map, shifted)
 
     row_of_key : 0 < length (part k) → at_row (run_at k).row ≡ k
-    row_of_key some = some_row (length a) (λ row. at_row row ≡ k) (part k) some (carried same less decides weak (a ++ b) d k)
+    row_of_key some = some_row _ (λ row. at_row row ≡ k) _ some (carried _ _ decides weak (a ++ b) d k)
 
     key_entries : (rest : List ℕ) → 0 < length (part k) → map (rekeyed at_row) (entries_in (length a) (run_at k) (part k ++ rest)) ≡ of_key k
     key_entries rest some =
         ap (map (rekeyed at_row)) (cc (split, one_entries (length a) of_left of_right rest (run_at k) sizes.0 sizes.1))
-        ∙ rekeyed_of at_row (run_at k).row of_left (map (λ row. row - length a) of_right)
+        ∙ rekeyed_of _ (run_at k).row _ _
         ∙ (λ i. entries_of (row_of_key some i) of_left (shifted i))
 
     key_counted : count_in (run_at k) ≡ length (of_key k)
@@ -144,7 +144,7 @@ module _ {K : Type 0} (same less : K → K → Bool) (decides : (a b : K) → De
     key_rows = grind (arith, length-append, split, sizes.0, sizes.1)
 
   pub entries_are : (ks : List K) → SomeRows ks → map (rekeyed at_row) (run_entries (length a) (map run_at ks) (flat_map part ks)) ≡ flat_map of_key ks
-  entries_are [] some = refl
+  entries_are [] _ = refl
   entries_are (k ∷ ks) some =
       let rest = flat_map part ks in
       let later : drop (rows_in (run_at k)) (part k ++ rest) ≡ rest = grind (arith, split, others_behind, sizes) in
@@ -164,8 +164,8 @@ module _ {K : Type 0} (same less : K → K → Bool) (decides : (a b : K) → De
   runs_inside [] some = grind arith
   runs_inside (k ∷ ks) some =
       All-cons (λ run. run.row < length (a ++ b)) (run_at k) (map run_at ks)
-      (some_row (length a) (λ row. row < length (a ++ b)) (part k) (All-head (λ x. 0 < length (part x)) k ks some) (rows_inside (same k) (a ++ b)))
+      (some_row _ (λ row. row < length (a ++ b)) _ (All-head (λ x. 0 < length (part x)) k ks some) (rows_inside _ _))
       (runs_inside ks (All-tail (λ x. 0 < length (part x)) k ks some))
 
   pub entries_inside : (ks : List K) (rows : List ℕ) → SomeRows ks → All (λ e. e.key < length (a ++ b)) (run_entries (length a) (map run_at ks) rows)
-  entries_inside ks rows some = entries_keep (length a) (λ row. row < length (a ++ b)) (map run_at ks) rows (runs_inside ks some)
+  entries_inside ks _ some = entries_keep _ (λ row. row < length (a ++ b)) _ _ (runs_inside ks some)

@@ -1,8 +1,7 @@
 -- The row of each target, by codes.
 use Rattle.{
-  std.{proofs.{Common.{◌≡◌, ◌∙◌, ◌<◌, ◌≤◌, ◌==◌, ◌+◌, ◌++◌, ℕ, zero, suc, Bool, true, false, cond, List, [], ◌∷◌, map, length, refl, ap, sym, slice_index, slice_index_or, arith, All, Option, Some, None, Ok, Err, nat_lt, le-ltb}, lemmas.{Bool.{false≢true, eq-eqb}, List.{get_or-map, length-map, FromFn.{get_or-map-range_with_len}, Elements.{All-head, All-tail}}}}, specs.{Bool.{Decides}, List.{range_with_len}}},
+  std.{proofs.{Common.{◌≡◌, ◌∙◌, ◌<◌, ◌≤◌, ◌==◌, ◌+◌, ℕ, zero, suc, Bool, true, false, cond, List, [], ◌∷◌, map, length, refl, ap, sym, slice_index, slice_index_or, arith, All, Option, Some, None, Ok, Err, nat_lt, le-ltb}, lemmas.{Bool.{false≢true, eq-eqb}, List.{get_or-map, length-map, FromFn.{get_or-map-range_with_len}, Elements.{All-head, All-tail}}}}, specs.{Bool.{Decides}, List.{range_with_len}}},
   cell_core.specs.declared.cell.Label.{Label},
-  meaning.specs.Reduce.{distinct},
   pick_meaning.specs.Rows.{rows_where, only_row},
   align_meaning.specs.{Faults.{duplicate_labels}, Targets.{first_where, first_repeated, unless_repeated, rows_of_targets, reindexed}},
   row_keys.{specs.{Keys.{same_tuple}, Buckets.{buckets_of}}, proofs.{KeyLaws.{position_in}, JoinLaws.{rank, count, left_known, right_known, bucket_of_key}}},
@@ -12,24 +11,24 @@ use Rattle.{
 -- the first that passes, by its place
 module _ {X : Type 0} (p : X → Bool) where
   first_there : (xs : List X) (place : ℕ) (d : X) → place < length xs → p (slice_index_or xs place d) ≡ true → ((i : ℕ) → i < place → p (slice_index_or xs i d) ≡ false) → first_where p xs ≡ Some (slice_index_or xs place d)
-  first_there [] place d lt passes before = grind arith
+  first_there [] _ d lt passes before = grind arith
   first_there (x ∷ xs) zero d lt passes before = cc
   first_there (x ∷ xs) (suc place) d lt passes before = cc (before 0 (omega arith), first_there xs place d (omega arith) passes (λ i below. before (suc i) (omega arith)))
 
   none_there : (xs : List X) (d : X) → ((i : ℕ) → i < length xs → p (slice_index_or xs i d) ≡ false) → first_where p xs ≡ None
-  none_there [] d before = refl
+  none_there [] d _ = refl
   none_there (x ∷ xs) d before = cc (before 0 (omega arith), none_there xs d (λ i below. before (suc i) (omega arith)))
 
 map_all : {A B C : Type 0} (P : A → Type 0) (f : A → B) (g : B → C) (h : A → C) → ((x : A) → P x → g (f x) ≡ h x) → (xs : List A) → All P xs → map g (map f xs) ≡ map h xs
-map_all P f g h same [] all = refl
+map_all P f g h _ [] _ = refl
 map_all P f g h same (x ∷ xs) all = λ i. same x (All-head P x xs all) i ∷ map_all P f g h same xs (All-tail P x xs all) i
 
 not_behind : (c at m : ℕ) → c < at → rows_where (λ d. c == d) at (range_with_len at m) ≡ []
-not_behind c at zero lt = refl
+not_behind c _ zero _ = refl
 not_behind c at (suc m) lt = grind (arith, not_behind c (at + 1) m (omega (arith, lt)))
 
 found_at : (c at m : ℕ) → at ≤ c → rows_where (λ d. c == d) at (range_with_len at m) ≡ cond (nat_lt c (at + m)) (c ∷ []) []
-found_at c at zero le = grind arith
+found_at c _ zero le = grind arith
 found_at c at (suc m) le =
     elim (c == at) as (λ b. (c == at) ≡ b → cond b (at ∷ rows_where (λ d. c == d) (at + 1) (range_with_len (at + 1) m)) (rows_where (λ d. c == d) (at + 1) (range_with_len (at + 1) m)) ≡ cond (nat_lt c (at + suc m)) (c ∷ []) []) [
       | true ↦ grind (arith, not_behind)
@@ -44,11 +43,11 @@ found_at c at (suc m) le =
 module _ (keys targets : List (List Label)) where
   -- where the targets are the keys
   pub as_they_are : (told : Bool) (rows : List (Option ℕ)) → Decides told (keys ≡ targets) → told ≡ true → rows ≡ map Some (range_with_len 0 (length keys)) → reindexed same_tuple keys targets ≡ Ok rows
-  as_they_are told rows is so made = grind (arith, tuples_decide)
+  as_they_are = grind (arith, tuples_decide)
 
   -- and where they are others
   others : (told : Bool) → Decides told (keys ≡ targets) → told ≡ false → reindexed same_tuple keys targets ≡ unless_repeated (first_repeated same_tuple keys) (rows_of_targets same_tuple keys targets)
-  others told is unlike = grind (arith, tuples_decide)
+  others = grind (arith, tuples_decide)
 
   abbrev of_key : List Label → ℕ
   of_key = rank same_tuple tuple_laws keys targets
@@ -57,13 +56,13 @@ module _ (keys targets : List (List Label)) where
   how_many = count same_tuple tuple_laws keys targets
 
   target_below : All (λ x. of_key x < how_many) targets
-  target_below k d lt = position_in (same_tuple (slice_index_or targets k d)) (distinct same_tuple (keys ++ targets)) (right_known same_tuple tuple_laws keys targets k d lt)
+  target_below k d lt = position_in _ _ (right_known _ tuple_laws keys _ k d lt)
 
   key_below : All (λ x. of_key x < how_many) keys
-  key_below k d lt = position_in (same_tuple (slice_index_or keys k d)) (distinct same_tuple (keys ++ targets)) (left_known same_tuple tuple_laws keys targets k d lt)
+  key_below k d lt = position_in _ _ (left_known _ tuple_laws _ targets k d lt)
 
   bucket : (x : List Label) → of_key x < how_many → slice_index_or (buckets_of how_many (map of_key keys)) (of_key x) [] ≡ rows_where (same_tuple x) 0 keys
-  bucket x lt = bucket_of_key same_tuple tuple_laws keys targets x keys (left_known same_tuple tuple_laws keys targets) lt
+  bucket = search (bucket_of_key, tuple_laws, left_known)
 
   module _ (rows : List (List ℕ)) (codes : List ℕ) (made : rows ≡ buckets_of how_many (map of_key keys)) (coded : codes ≡ map of_key keys) where
     size : length codes ≡ length keys
@@ -79,24 +78,24 @@ module _ (keys targets : List (List Label)) where
     is_repeated key = nat_lt 1 (length (rows_where (same_tuple key) 0 keys))
 
     once : (end : ℕ) → end ≤ length keys → NoneBefore rows codes end → (i : ℕ) → i < end → is_repeated (slice_index_or keys i []) ≡ false
-    once end le none i lt = le-ltb 1 (length (rows_where (same_tuple (slice_index_or keys i [])) 0 keys)) (omega (arith, rows_at i (omega (arith, lt, le))))
+    once _ le none i lt = le-ltb 1 _ (omega (arith, rows_at i (omega (arith, lt, le))))
 
     -- the first that repeats is refused
     pub repeated : (told : Bool) (place : ℕ) (key : List Label) → Decides told (keys ≡ targets) → told ≡ false → IsFirstRepeat rows codes place → key ≡ slice_index_or keys place [] → reindexed same_tuple keys targets ≡ Err (duplicate_labels key)
-    repeated told place key is unlike first here =
+    repeated told place _ is unlike first here =
         let inside : place < length keys = omega (arith, size) in
         let twice : is_repeated (slice_index_or keys place []) ≡ true = grind (arith, rows_at) in
         cc (others told is unlike, first_there is_repeated keys place [] inside twice (once place (omega arith) first.before))
 
     -- the row of each target, where none repeats
     pub found : (told : Bool) (asked : List ℕ) (gaps : List (Option ℕ)) → Decides told (keys ≡ targets) → told ≡ false → NoneRepeats rows codes → asked ≡ map of_key targets → gaps ≡ map (λ code. only_row (slice_index_or rows code [])) asked → reindexed same_tuple keys targets ≡ Ok gaps
-    found told asked gaps is unlike none of_targets looked =
-        others told is unlike
-        ∙ ap (λ o. unless_repeated o (rows_of_targets same_tuple keys targets)) (none_there is_repeated keys [] (grind (arith, once, size)))
+    found _ _ _ is unlike none of_targets looked =
+        others _ is unlike
+        ∙ ap (λ o. unless_repeated o (rows_of_targets same_tuple keys targets)) (none_there _ keys [] (grind (arith, once, size)))
         ∙ ap Ok (sym (
         looked
         ∙ (λ i. map (λ code. only_row (slice_index_or (made i) code [])) (of_targets i))
-        ∙ map_all (λ x. of_key x < how_many) of_key (λ code. only_row (slice_index_or (buckets_of how_many (map of_key keys)) code [])) (λ target. only_row (rows_where (same_tuple target) 0 keys)) (λ x lt. ap only_row (bucket x lt)) targets target_below
+        ∙ map_all (λ x. of_key x < how_many) _ (λ code. only_row (slice_index_or (buckets_of how_many (map of_key keys)) code [])) (λ target. only_row (rows_where (same_tuple target) 0 keys)) (λ x lt. ap only_row (bucket x lt)) targets target_below
         ))
 
   -- where the codes of the keys are the numbers from 0 on, none repeats, and each is its row
@@ -105,10 +104,10 @@ module _ (keys targets : List (List Label)) where
     rows = buckets_of how_many (map of_key keys)
 
     one_row : (code : ℕ) → code < how_many → slice_index_or rows code [] ≡ cond (nat_lt code (length keys)) (code ∷ []) []
-    one_row code lt = grind (arith, get_or-map-range_with_len, found_at, size)
+    one_row = grind (arith, get_or-map-range_with_len, found_at, size)
 
     few : (b : Bool) (code : ℕ) → length (cond b (code ∷ []) []) ≤ 1
-    few x code = grind arith
+    few = grind arith
 
     none_repeats : NoneRepeats rows codes
     none_repeats place lt =
@@ -119,9 +118,9 @@ module _ (keys targets : List (List Label)) where
         omega (arith, few (nat_lt code (length keys)) code, ap (λ (l : List ℕ). length l) (one_row code below))
 
     row_of : (b : Bool) (code : ℕ) → only_row (cond b (code ∷ []) []) ≡ cond b (Some code) None
-    row_of x code = grind arith
+    row_of = grind arith
 
     pub found_in_sequence : (told : Bool) (asked : List ℕ) (gaps : List (Option ℕ)) → Decides told (keys ≡ targets) → told ≡ false → asked ≡ map of_key targets → gaps ≡ map (row_below (length keys)) asked → reindexed same_tuple keys targets ≡ Ok gaps
     found_in_sequence told asked gaps is unlike of_targets looked =
-        found rows codes refl coded told asked gaps is unlike none_repeats of_targets
+        found _ _ refl coded told asked gaps is unlike none_repeats of_targets
         (cc (map_all (λ x. of_key x < how_many) of_key (row_below (length keys)) (λ x. only_row (slice_index_or rows (of_key x) [])) (λ x lt. sym (row_of (nat_lt (of_key x) (length keys)) (of_key x)) ∙ ap only_row (sym (one_row (of_key x) lt))) targets target_below, map_all (λ x. of_key x < how_many) of_key (λ code. only_row (slice_index_or rows code [])) (λ x. only_row (slice_index_or rows (of_key x) [])) (λ x lt. refl) targets target_below))

@@ -8,7 +8,7 @@ use Rattle.{
 
 -- a table that is read of a settled world
 pub known_table : (w : World) (id : ℕ) (t : NumberedTable) → w.tables id ≡ Some t → IsWhole t → IsSettledWorld w → IsKnownTable w.texts t
-known_table w id t at whole settled = record { whole = whole; given = search (object_settled w.texts) }
+known_table = search object_settled
 
 pub forms_so : (r : Result Value OpFault) (meant meant' : Result Entry FaultValue) (old new : World) → meant ≡ meant' → Forms r meant old new → Forms r meant' old new
-forms_so r meant meant' old new same = grind arith
+forms_so = grind arith

@@ -1,6 +1,6 @@
 -- The labels of columns as labels of rows.
 use Rattle.{
-  std.proofs.{Common.{arith, ◌≡◌, refl, pos, List, [], ◌∷◌, map, length, Option, slice_index_or, unwrap_or}, lemmas.List.Elements.{All-map}},
+  std.proofs.{Common.{arith, ◌≡◌, refl, pos, List, [], ◌∷◌, map, length, Option, unwrap_or}, lemmas.List.Elements.{All-map}},
   cell_core.specs.declared.cell.Label.{Label},
   meaning.specs.{Text.{Text}, Cell.{LabelValue, int}},
   multi_index.specs.Axes.{HaveLevels},
@@ -10,18 +10,18 @@ use Rattle.{
 }
 
 single : (h : Option Label) → length (column_tuple h) ≡ 1
-single x = grind arith
+single = grind arith
 
 pub tuples_alike : (hs : List (Option Label)) → HaveLevels 1 (map column_tuple hs)
-tuples_alike hs = All-map (λ tuple. length tuple ≡ 1) column_tuple hs (λ k d lt. single (slice_index_or hs k d))
+tuples_alike hs = All-map (λ tuple. length tuple ≡ 1) column_tuple hs (λ k d lt. single _)
 
 -- the label of a column as a tuple, with texts
 abbrev pub label_tuple : Option LabelValue → List LabelValue
 label_tuple h = unwrap_or h (int (pos 0)) ∷ []
 
 tuple_seen : (texts : List Text) (h : Option Label) → label_tuple (heading_value texts h) ≡ tuple_value texts (column_tuple h)
-tuple_seen texts x = grind arith
+tuple_seen = grind arith
 
 pub tuples_seen : (texts : List Text) (hs : List (Option Label)) → map label_tuple (headings_value texts hs) ≡ labels_value texts (map column_tuple hs)
-tuples_seen texts [] = refl
+tuples_seen _ [] = refl
 tuples_seen texts (h ∷ hs) = λ j. tuple_seen texts h j ∷ tuples_seen texts hs j

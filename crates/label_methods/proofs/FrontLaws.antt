@@ -12,9 +12,9 @@ first_then f xs first = then_value first (λ y. then_value (try_all f xs) (λ ys
 -- one item more is made
 pub front_next : {A B : Type 0} (f : A → Result B FaultValue) (made : List B) (x : A) (y : B) (xs : List A) (whole : Result (List B) FaultValue)
     → with_front made (try_all f (x ∷ xs)) ≡ whole → f x ≡ Ok y → with_front (made ++ y ∷ []) (try_all f xs) ≡ whole
-front_next f made x y xs whole so_far is = grind (arith, append_assoc)
+front_next = grind (arith, append_assoc)
 
 -- or it is the first fault
 pub front_fails : {A B : Type 0} (f : A → Result B FaultValue) (made : List B) (x : A) (fault : FaultValue) (xs : List A) (whole : Result (List B) FaultValue)
     → with_front made (try_all f (x ∷ xs)) ≡ whole → f x ≡ Err fault → whole ≡ Err fault
-front_fails f made x fault xs whole so_far is = cc
+front_fails f _ x _ _ _ so_far is = cc

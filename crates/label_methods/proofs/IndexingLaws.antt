@@ -5,7 +5,7 @@ use Rattle.{
   column_core.specs.Blocks.{CellBlock},
   meaning.specs.{Cell.{LabelValue, na_cell, datum, label_datum}, Fault.{FaultValue, limit, then_value}, FaultOf.{fault_of}, Operator.{cell_label}, Text.{Text}},
   multi_index.specs.Axes.{AxisValue, HaveLevels, single_tuples},
-  table_meaning.specs.{Settled.{IsSettled}, Table.{ColumnOf, NumberedTable, Table, column_at, no_column, table_value, heading_value, tuple_value, column_value}, Valid.{IsWhole}, Value.{Entry, table}},
+  table_meaning.specs.{Settled.{IsSettled}, Table.{ColumnOf, NumberedTable, Table, column_at, table_value, heading_value, tuple_value, column_value}, Valid.{IsWhole}, Value.{Entry, table}},
   form_meaning.specs.{Finish.{within_limits, limited, unless_repeated}, Select.{heading_at}},
   form_parts.specs.Labels.{label_of},
   method_meaning.specs.{Rows.{cells_by_row, places_besides}, Levels.{on_levels, indexed_by, index_set}},
@@ -18,43 +18,43 @@ use Rattle.cell_core.specs.declared.cell.Cell.TheVariants as cell
 
 -- a cell as a label
 label_is : (texts : List Text) (c : Cell) → label_datum texts (label_of c) ≡ cell_label (datum texts c)
-label_is texts x = grind arith
+label_is = grind arith
 
 cell_seen : (texts : List Text) (t : NumberedTable) (row place : ℕ) → datum texts (cell_across t row place) ≡ slice_index_or (column_at (table_value texts t).columns place).cells row na_cell
 cell_seen texts t row place = cc (get_or-map (datum texts) (column_at t.columns place).cells row cell.Na, column_seen texts t.columns place)
 
 row_seen : (texts : List Text) (t : NumberedTable) (places : List ℕ) (row : ℕ) → tuple_value texts (row_labels t places row) ≡ map cell_label (cells_in (table_value texts t) places row)
-row_seen texts t [] row = refl
+row_seen _ t [] _ = refl
 row_seen texts t (p ∷ ps) row = search (label_is, cell_seen, row_seen texts t ps row)
 
 rows_seen : (texts : List Text) (t : NumberedTable) (places rows : List ℕ) → labels_value texts (map (row_labels t places) rows) ≡ map (map cell_label) (map (cells_in (table_value texts t) places) rows)
-rows_seen texts t places [] = refl
+rows_seen _ t _ [] = refl
 rows_seen texts t places (r ∷ rs) = search (row_seen, rows_seen texts t places rs)
 
 abbrev pub all_rows : NumberedTable → List ℕ
 all_rows t = range_with_len 0 (length t.labels)
 
 pub tuples_seen : (texts : List Text) (t : NumberedTable) (places : List ℕ) → labels_value texts (map (row_labels t places) (all_rows t)) ≡ map (map cell_label) (cells_by_row (table_value texts t) places)
-tuples_seen texts t places = grind (arith, rows_seen, cells_in, length-map, by_rows)
+tuples_seen = grind (arith, rows_seen, cells_in, length-map, by_rows)
 
 pub headings_seen : (texts : List Text) (t : NumberedTable) (places : List ℕ) → headings_value texts (headings_at t places) ≡ map (heading_at (table_value texts t)) places
-headings_seen texts t [] = refl
+headings_seen _ t [] = refl
 headings_seen texts t (p ∷ ps) = search (heading_seen, headings_seen texts t ps)
 
 pub headings_settled : (texts : List Text) (t : NumberedTable) (places : List ℕ) → IsSettled headings_value texts t.headings → IsSettled headings_value texts (headings_at t places)
-headings_settled texts t [] settled = λ more. refl
-headings_settled texts t (p ∷ ps) settled = λ more j. heading_settled texts t.headings p (heading_of t p) refl settled more j ∷ headings_settled texts t ps settled more j
+headings_settled _ t [] _ = λ more. refl
+headings_settled _ t (p ∷ ps) settled = λ more j. heading_settled _ _ p _ refl settled more j ∷ headings_settled _ t ps settled more j
 
 columns_seen : (texts : List Text) (t : NumberedTable) (places : List ℕ) → map (column_value texts) (map (column_at t.columns) places) ≡ map (column_at (table_value texts t).columns) places
-columns_seen texts t [] = refl
+columns_seen _ t [] = refl
 columns_seen texts t (p ∷ ps) = search (column_seen, columns_seen texts t ps)
 
 -- the tuples of the rows
 pub rows_alike : (t : NumberedTable) (places rows : List ℕ) (tuples : List (List Label)) → tuples ≡ map (row_labels t places) rows → HaveLevels (length places) tuples
-rows_alike t places rows tuples is = subst (HaveLevels (length places)) (sym is) (go rows)
+rows_alike t places rows _ is = subst (HaveLevels (length places)) (sym is) (go _)
   where
     one : (row : ℕ) → length (row_labels t places row) ≡ length places
-    one row = search length-map
+    one _ = search length-map
 
     go : (rows : List ℕ) → HaveLevels (length places) (map (row_labels t places) rows)
     go [] = grind arith
@@ -62,19 +62,19 @@ rows_alike t places rows tuples is = subst (HaveLevels (length places)) (sym is)
 
 -- one label more
 pub one_more_label : (cells : List Cell) (row : ℕ) (c : Cell) (l : Label) (before after : List Label) → row < length cells → slice_get cells row ≡ Some c → l ≡ label_of c → before ≡ map label_of (take row cells) → after ≡ before ++ l ∷ [] → after ≡ map label_of (take (row + 1) cells)
-one_more_label cells row c l before after lt at is was pushed =
+one_more_label cells row c l _ _ lt at is was pushed =
     let here : l ≡ label_of (slice_index_or cells row cell.Na) = grind (arith, get_or_from_slice_get) in
     pushed ∙ (λ j. was j ++ here j ∷ []) ∙ sym (cc (take_more cells row cell.Na lt, map-append label_of (take row cells) (slice_index_or cells row cell.Na ∷ [])))
 
 pub place_inside : (places : List ℕ) (place n : ℕ) → slice_get places 0 ≡ Some place → All (λ p. p < n) places → place < n
-place_inside [] place n at all = grind arith
+place_inside [] _ n at all = grind arith
 place_inside (p ∷ ps) place n at all = let e : p ≡ place = cc in rw e at (all 0 0 (omega arith))
 
 -- the labels of one column as tuples
 only_place : (places : List ℕ) (place : ℕ) → length places ≡ 1 → slice_get places 0 ≡ Some place → places ≡ place ∷ []
-only_place [] place one at = search
-only_place (p ∷ []) place one at = search
-only_place (p ∷ q ∷ ps) place one at = search
+only_place [] _ one at = search
+only_place (p ∷ []) _ one at = search
+only_place (p ∷ q ∷ ps) _ one at = search
 
 abbrev as_tuple : Cell → List Label
 as_tuple c = label_of c ∷ []
@@ -101,28 +101,28 @@ abbrev pub index_table : NumberedTable → List ℕ → List ℕ → NumberedTab
 index_table t places kept = table_with Frame (index_axis t places) (kept_headings t kept) (map (column_at t.columns) kept)
 
 index_seen : (texts : List Text) (t : NumberedTable) (places kept : List ℕ) → t.shape ≡ Frame → kept ≡ places_besides (table_value texts t) places → table_value texts (index_table t places kept) ≡ indexed_by (table_value texts t) places
-index_seen texts t places kept frame is = grind (arith, headings_seen, tuples_seen, columns_seen)
+index_seen = grind (arith, headings_seen, tuples_seen, columns_seen)
 
 -- all of this, by what the code made
 pub made_index : (t : NumberedTable) (axis : AxisValue) (headings : HeadingList) (blocks : List CellBlock) (places kept : List ℕ) → axis ≡ index_axis t places → headings ≡ kept_headings t kept → map block_column blocks ≡ map (column_at t.columns) kept
     → table_with Frame axis headings (map block_column blocks) ≡ index_table t places kept
-made_index t axis headings blocks places kept axis_is headed columns = search
+made_index t _ _ _ _ _ axis_is headed columns = search
 
 -- the table is whole
 column_rows : (t : NumberedTable) (kept : List ℕ) → IsWhole t → All (λ place. place < length t.columns) kept → All (λ (c : ColumnOf Cell). length c.cells ≡ length t.labels) (map (column_at t.columns) kept)
 column_rows t [] whole below = grind arith
 column_rows t (p ∷ ps) whole below =
-    All-cons (λ c. length c.cells ≡ length t.labels) (column_at t.columns p) (map (column_at t.columns) ps) (whole.filled p no_column (below 0 p (omega arith)))
+    All-cons (λ c. length c.cells ≡ length t.labels) (column_at t.columns p) (map (column_at t.columns) ps) (whole.filled p _ (below 0 p (omega arith)))
     (column_rows t ps whole (λ k d lt. below (suc k) d (omega (arith, lt))))
 
 pub labelled : (t : NumberedTable) (kept : List ℕ) → All IsSome t.headings → All (λ place. place < length t.headings) kept → All IsSome (headings_at t kept)
-labelled t [] some below = All-nil IsSome
+labelled t [] _ _ = All-nil IsSome
 labelled t (p ∷ ps) some below =
     All-cons IsSome (heading_of t p) (headings_at t ps) (some p None (below 0 p (omega arith))) (labelled t ps some (λ k d lt. below (suc k) d (omega (arith, lt))))
 
 pub index_whole : (t : NumberedTable) (axis : AxisValue) (headings : HeadingList) (blocks : List CellBlock) (places kept : List ℕ) → IsWhole t → t.shape ≡ Frame → All (λ place. place < length t.columns) kept → repeated_heading (headings_at t kept) ≡ None
     → axis ≡ index_axis t places → headings ≡ kept_headings t kept → map block_column blocks ≡ map (column_at t.columns) kept → IsWhole (table_with Frame axis headings (map block_column blocks))
-index_whole t axis headings blocks places kept whole frame below none axis_is headed columns = grind (arith, length-map, length-range_with_len, labelled, made_index, column_rows, different)
+index_whole t _ _ _ _ _ whole frame below none axis_is headed columns = grind (arith, length-map, length-range_with_len, labelled, made_index, column_rows, different)
 
 -- what is meant, by the headings that stand again
 abbrev unless_again : Table → List ℕ → Option LabelValue → Result Entry FaultValue
@@ -132,72 +132,70 @@ abbrev IsKept : NumberedTable → List ℕ → List ℕ → Type 0
 IsKept t places kept = (texts : List Text) → kept ≡ places_besides (table_value texts t) places
 
 pub kept_meant : (t : NumberedTable) (places kept : List ℕ) (count : ℕ) → kept ≡ filter (is_other places) (range_with_len 0 count) → count ≡ length t.columns → (texts : List Text) → kept ≡ places_besides (table_value texts t) places
-kept_meant t places kept count is same texts = search (others_meant texts)
+kept_meant t _ _ _ is same texts = search (others_meant texts)
 
 index_is : (texts : List Text) (t : NumberedTable) (places kept : List ℕ) (found : Option Label) → AreDistinct texts → IsSettled table_value texts t → IsKept t places kept → repeated_heading (headings_at t kept) ≡ found
     → index_set (table_value texts t) places ≡ unless_again (table_value texts t) places (heading_value texts found)
-index_is texts t places kept found distinct settled besides is =
-    let T = table_value texts t in
+index_is texts t _ kept _ distinct settled besides is =
     cc (besides texts, headings_seen texts t kept, repeated_seen texts (headings_at t kept) distinct (headings_settled texts t kept (headings_part texts t settled)))
 
 pub index_repeated : (texts : List Text) (t : NumberedTable) (places kept : List ℕ) (why : OpFault) → AreDistinct texts → IsSettled table_value texts t → IsKept t places kept → NamesRepeated why (repeated_heading (headings_at t kept))
     → Makes texts (Err why) (index_set (table_value texts t) places)
-index_repeated texts t places kept (Refused code) distinct settled besides named =
-    let meant = index_is texts t places kept (Some named.0) distinct settled besides named.1 ∙ ap (λ c. Err (fault_of texts c)) (sym named.2) in
+index_repeated texts t _ _ (Refused code) distinct settled besides named =
+    let meant = index_is _ t _ _ _ distinct settled besides named.1 ∙ ap (λ c. Err (fault_of texts c)) (sym named.2) in
     search (repeated_settled, headings_settled, headings_part)
-index_repeated texts t places kept NoMemory distinct settled besides named = tt
+index_repeated _ t _ _ NoMemory distinct settled besides named = tt
 
 -- beyond the limits, of levels or of cells
 abbrev if_levels : Bool → Result Entry FaultValue → Result Entry FaultValue
 if_levels b rest = if b then rest else Err limit
 
 limit_twice : (b : Bool) → if_levels b (Err limit) ≡ Err limit
-limit_twice x = grind arith
+limit_twice = grind arith
 
 no_level : (count : ℕ) → count ≡ 0 → (nat_le 1 count && nat_le count 4) ≡ false
-no_level count is = cc
+no_level _ is = cc
 
 many_levels : (count : ℕ) → 4 < count → (nat_le 1 count && nat_le count 4) ≡ false
-many_levels count lt = grind (arith, nat_tests)
+many_levels = grind (arith, nat_tests)
 
 some_levels : (count : ℕ) → 1 ≤ count → count ≤ 4 → (nat_le 1 count && nat_le count 4) ≡ true
-some_levels count some few = grind (arith, nat_tests)
+some_levels = grind (arith, nat_tests)
 
 pub index_beyond : (texts : List Text) (t : NumberedTable) (places kept : List ℕ) → AreDistinct texts → IsSettled table_value texts t → IsKept t places kept → repeated_heading (headings_at t kept) ≡ None
     → on_levels (length places) (limited (indexed_by (table_value texts t) places)) ≡ Err limit → index_set (table_value texts t) places ≡ Err limit
-index_beyond texts t places kept distinct settled besides none beyond = grind (arith, index_is)
+index_beyond = grind (arith, index_is)
 
 pub without_level : (count : ℕ) (rest : Result Entry FaultValue) → count ≡ 0 → on_levels count rest ≡ Err limit
-without_level count rest is = search no_level
+without_level = search no_level
 
 pub beyond_levels : (count : ℕ) (rest : Result Entry FaultValue) → 4 < count → on_levels count rest ≡ Err limit
-beyond_levels count rest lt = search many_levels
+beyond_levels = search many_levels
 
 index_rows : (texts : List Text) (t : NumberedTable) (places : List ℕ) → length (indexed_by (table_value texts t) places).labels ≡ length t.labels
-index_rows texts t places = search (tuples_seen, length-map, length-range_with_len)
+index_rows = search (tuples_seen, length-map, length-range_with_len)
 
 index_columns : (texts : List Text) (t : NumberedTable) (places kept : List ℕ) → kept ≡ places_besides (table_value texts t) places → length (indexed_by (table_value texts t) places).columns ≡ length kept
-index_columns texts t places kept is = grind (arith, length-map)
+index_columns = grind (arith, length-map)
 
 abbrev within_then : Table → Bool → Result Entry FaultValue
 within_then T b = then_value (if b then Ok T else Err limit) (λ T. Ok (table T))
 
 pub beyond_cells : (texts : List Text) (t : NumberedTable) (places kept : List ℕ) → IsKept t places kept → within_limits (length t.labels) (length kept) ≡ false → on_levels (length places) (limited (indexed_by (table_value texts t) places)) ≡ Err limit
-beyond_cells texts t places kept besides not_within =
-    let u = indexed_by (table_value texts t) places in
+beyond_cells texts t places _ besides not_within =
     let b = nat_le 1 (length places) && nat_le (length places) 4 in
-    ap (if_levels b) (ap (within_then u) ((λ j. within_limits (index_rows texts t places j) (index_columns texts t places kept (besides texts) j)) ∙ not_within))
+    ap (if_levels b) (ap (within_then (indexed_by (table_value texts t) places)) ((λ j. within_limits (index_rows texts t places j) (index_columns _ t _ _ (besides texts) j)) ∙ not_within))
     ∙ limit_twice b
 
 pub index_made : (texts : List Text) (t made : NumberedTable) (places kept : List ℕ) → AreDistinct texts → IsSettled table_value texts t → t.shape ≡ Frame → IsKept t places kept → repeated_heading (headings_at t kept) ≡ None
     → 1 ≤ length places → length places ≤ 4 → within_limits (length t.labels) (length kept) ≡ true → made ≡ index_table t places kept → Makes texts (Ok made) (index_set (table_value texts t) places)
 index_made texts t made places kept distinct settled frame besides none some few within is = (
-  index_is texts t places kept None distinct settled besides none
-      ∙ ap (λ b. if_levels b (limited (indexed_by T places))) (some_levels (length places) some few)
-      ∙ limited_within (indexed_by T places) (length t.labels) (length kept) (index_rows texts t places) (index_columns texts t places kept (besides texts)) within
+  index_is _ t _ _ _ distinct settled besides none
+      ∙ ap (λ b. if_levels b (limited (indexed_by T places))) (some_levels _ some few)
+      ∙ limited_within (indexed_by T places) _ _ (index_rows _ t _) (index_columns _ t _ _ (besides texts)) within
       ∙ ap (λ v. Ok (table v)) (cc (index_seen texts t places kept frame (besides texts))),
   subst (IsSettled table_value texts) (sym is)
-      (settled_by table_value table_value (λ v. indexed_by v places) texts t (index_table t places kept) (λ ts. sym (index_seen ts t places kept frame (besides ts))) settled),
+      (settled_by table_value table_value (λ v. indexed_by v places) _ t _ (λ ts. sym (index_seen ts t _ _ frame (besides ts))) settled),
 )
   where
     T : Table
@@ -205,14 +203,14 @@ index_made texts t made places kept distinct settled frame besides none some few
 
 -- the label of a row in one column
 pub label_at : (t : NumberedTable) (places : List ℕ) (row k place : ℕ) (c : Cell) (l : Label) → k < length places → slice_get places k ≡ Some place → c ≡ cell_across t row place → l ≡ label_of c → l ≡ get_or (row_labels t places row) k l
-label_at t [] row k place c l lt at here is = search
-label_at t (p ∷ ps) row zero place c l lt at here is = search some_same
-label_at t (p ∷ ps) row (suc k) place c l lt at here is = label_at t ps row k place c l (omega (arith, lt)) at here is
+label_at t [] _ k _ c l lt at here is = search
+label_at t (p ∷ ps) _ zero _ c l lt at here is = search some_same
+label_at t (p ∷ ps) _ (suc k) _ c l lt at here is = label_at t ps _ k _ c l (omega (arith, lt)) at here is
 
 pub labels_count : (t : NumberedTable) (places : List ℕ) (row : ℕ) → length (row_labels t places row) ≡ length places
-labels_count t places row = search length-map
+labels_count = search length-map
 
 -- one row more
 pub one_more_row : (t : NumberedTable) (places : List ℕ) (row : ℕ) (tuple : List Label) (tuples tuples' : List (List Label)) → tuple ≡ row_labels t places row → tuples' ≡ tuples ++ tuple ∷ []
     → tuples ≡ map (row_labels t places) (range_with_len 0 row) → tuples' ≡ map (row_labels t places) (range_with_len 0 (row + 1))
-one_more_row t places row tuple tuples tuples' is pushed before = grind (arith, one_more_place, map-append)
+one_more_row = grind (arith, one_more_place, map-append)

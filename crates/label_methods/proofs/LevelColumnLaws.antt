@@ -13,33 +13,33 @@ use Rattle.{
 }
 
 label_is : (tuple : List Label) (level : ℕ) (l : Label) → slice_get tuple level ≡ Some l → slice_index_or tuple level Na ≡ l
-label_is [] level l is = cc
+label_is [] _ l is = cc
 label_is (x ∷ xs) zero l is = cc
-label_is (x ∷ xs) (suc level) l is = label_is xs level l is
+label_is (x ∷ xs) (suc level) l is = label_is xs _ l is
 
 cell_is : (tuples : List (List Label)) (row level : ℕ) (l : Label) → option_and_then (λ tuple. slice_get tuple level) (slice_get tuples row) ≡ Some l
     → slice_get (map (λ tuple. cell_of (slice_index_or tuple level Na)) tuples) row ≡ Some (cell_of l)
-cell_is [] row level l is = cc
-cell_is (t ∷ ts) zero level l is = grind (arith, label_is)
-cell_is (t ∷ ts) (suc row) level l is = cell_is ts row level l is
+cell_is [] _ _ l is = cc
+cell_is (t ∷ ts) zero _ l is = grind (arith, label_is)
+cell_is (t ∷ ts) (suc row) _ l is = cell_is ts _ _ l is
 
 -- the cells from a row on
 pub cells_from : (axis : AxisValue) (row level : ℕ) (l : Label) (cell : Cell) → label_at axis row level ≡ Some l → cell ≡ cell_of l
     → drop row (level_cells axis level) ≡ cell ∷ drop (row + 1) (level_cells axis level)
-cells_from axis row level l cell at is = grind (arith, drop_next, cell_is)
+cells_from = grind (arith, drop_next, cell_is)
 
 no_more : (axis : AxisValue) (row level : ℕ) → row ≡ length axis.tuples → drop row (level_cells axis level) ≡ []
-no_more axis row level is = grind (arith, length-map, drop_all)
+no_more = grind (arith, length-map, drop_all)
 
 -- the kind of the first label that is present, where a row has one or has none
 pub kind_step : (texts : List Text) (axis : AxisValue) (row level : ℕ) (l : Label) (cell : Cell) (r : Option Kind) (all : Kind) → label_at axis row level ≡ Some l → cell ≡ cell_of l
     → ((texts : List Text) (rest : List CellValue) → first_kind (datum texts cell ∷ rest) ≡ unwrap_or r (first_kind rest))
     → first_kind (cells_value texts (drop row (level_cells axis level))) ≡ all → unwrap_or r (first_kind (cells_value texts (drop (row + 1) (level_cells axis level)))) ≡ all
-kind_step texts axis row level l cell r all at is present before = cc (cells_from axis row level l cell at is, present texts (cells_value texts (drop (row + 1) (level_cells axis level))))
+kind_step texts axis row level l cell r _ at is present before = cc (cells_from axis row level l cell at is, present texts (cells_value texts (drop (row + 1) (level_cells axis level))))
 
 pub kind_ends : (texts : List Text) (axis : AxisValue) (row level : ℕ) (all : Kind) → row ≡ length axis.tuples
     → first_kind (cells_value texts (drop row (level_cells axis level))) ≡ all → Int64 ≡ all
-kind_ends texts axis row level all is before = grind (arith, no_more)
+kind_ends = grind (arith, no_more)
 
 -- the column of the labels from a row on, after the cells that are made
 abbrev pub held_from : List Text → Kind → AxisValue → ℕ → ℕ → List Cell → Result (ColumnOf CellValue) FaultValue
@@ -49,16 +49,16 @@ held_from texts kind axis level row made = held_after kind (map (datum texts) ma
 pub held_step : (texts : List Text) (kind : Kind) (axis : AxisValue) (row level : ℕ) (l : Label) (cell : Cell) (made made' : CellColumn) (whole : Result (ColumnOf CellValue) FaultValue)
     → label_at axis row level ≡ Some l → cell ≡ cell_of l → made.kind ≡ kind → GetsCell made made' cell
     → held_from texts kind axis level row made.cells ≡ whole → held_from texts kind axis level (row + 1) made'.cells ≡ whole
-held_step texts kind axis row level l cell made made' whole at is same gets before = cc (gets texts (cells_value texts (drop (row + 1) (level_cells axis level))), cells_from axis row level l cell at is)
+held_step texts _ axis row level l cell _ _ _ at is same gets before = cc (gets texts (cells_value texts (drop (row + 1) (level_cells axis level))), cells_from axis row level l cell at is)
 
 -- or one that the kind doesn't hold
 pub held_refused : (texts : List Text) (kind : Kind) (axis : AxisValue) (row level : ℕ) (l : Label) (cell : Cell) (made : CellColumn) (fault : OpFault) (whole : Result (ColumnOf CellValue) FaultValue)
     → label_at axis row level ≡ Some l → cell ≡ cell_of l → made.kind ≡ kind → RefusesCell made cell fault
     → held_from texts kind axis level row made.cells ≡ whole → MakesBy seen_column texts (Err fault) whole
-held_refused texts kind axis row level l cell made fault whole at is same refused before =
+held_refused texts kind axis row level l cell made fault _ at is same refused before =
     subst (λ m. MakesBy seen_column texts (Err fault) m)
     (ap (λ k. held_after k (map (datum texts) made.cells) (datum texts cell ∷ cells_value texts (drop (row + 1) (level_cells axis level)))) same
-    ∙ ap (λ cs. held_after kind (map (datum texts) made.cells) (cells_value texts cs)) (sym (cells_from axis row level l cell at is))
+    ∙ ap (λ cs. held_after kind (map (datum texts) made.cells) (cells_value texts cs)) (sym (cells_from axis row _ l _ at is))
     ∙ before)
     (refused texts (cells_value texts (drop (row + 1) (level_cells axis level))))
 
@@ -66,7 +66,7 @@ held_refused texts kind axis row level l cell made fault whole at is same refuse
 pub held_ends : (texts : List Text) (kind : Kind) (axis : AxisValue) (row level : ℕ) (made : CellColumn) → row ≡ length axis.tuples → made.kind ≡ kind
     → held_from texts kind axis level row made.cells ≡ held_column kind (cells_value texts (level_cells axis level))
     → held_column kind (cells_value texts (level_cells axis level)) ≡ Ok (seen_column texts made)
-held_ends texts kind axis row level made is same before = grind (arith, no_more, append-nil)
+held_ends = grind (arith, no_more, append-nil)
 
 -- the levels from one on
 level_at : (n level : ℕ) → level < n → drop level (range_with_len 0 n) ≡ level ∷ drop (level + 1) (range_with_len 0 n)
@@ -74,7 +74,7 @@ level_at n level lt =
     let next : suc level ≡ level + 1 = omega arith in
     let within : level < length (range_with_len 0 n) = omega (arith, length-range_with_len 0 n) in
     let same : 0 + level ≡ level = omega arith in
-    cc (drop_next (range_with_len 0 n) level level (slice_get-get_or (range_with_len 0 n) level 0 within ∙ ap Some (get_or-range_with_len 0 n level 0 lt ∙ same)))
+    cc (drop_next (range_with_len 0 n) level level (cc (slice_get-get_or (range_with_len 0 n) level 0 within, get_or-range_with_len 0 n level 0 lt)))
 
 abbrev pub columns_from : List Text → AxisValue → ℕ → List CellBlock → Result (List (ColumnOf CellValue)) FaultValue
 columns_from texts axis level made = with_front (blocks_value texts made) (try_all (level_column texts axis) (drop level (range_with_len 0 (length axis.names))))
@@ -86,16 +86,16 @@ level_step texts axis level made made' new lt more is before =
     let n = length axis.names in
     let all : blocks_value texts made' ≡ blocks_value texts made ++ seen_column texts new ∷ []
     = grind (arith, map-append) in
-    cc (front_next (level_column texts axis) (blocks_value texts made) level (seen_column texts new) (drop (level + 1) (range_with_len 0 n)) (level_columns texts axis) (ap (λ xs. with_front (blocks_value texts made) (try_all (level_column texts axis) xs)) (sym (level_at n level lt)) ∙ before) is)
+    cc (front_next (level_column texts axis) (blocks_value texts made) level (seen_column texts new) (drop (level + 1) (range_with_len 0 n)) (level_columns texts axis) (grind (arith, level_at)) is)
 
 pub level_refused : (texts : List Text) (axis : AxisValue) (level : ℕ) (made : List CellBlock) (fault : OpFault) → level < length axis.names
     → MakesBy seen_column texts (Err fault) (level_column texts axis level) → columns_from texts axis level made ≡ level_columns texts axis
     → MakesBy blocks_value texts (Err fault) (level_columns texts axis)
-level_refused texts axis level made x lt refused before = grind (arith, level_at)
+level_refused = grind (arith, level_at)
 
 pub levels_end : (texts : List Text) (axis : AxisValue) (level : ℕ) (made : List CellBlock) → level ≡ length axis.names
     → columns_from texts axis level made ≡ level_columns texts axis → level_columns texts axis ≡ Ok (blocks_value texts made)
-levels_end texts axis level made is before =
+levels_end _ axis level _ is before =
     let none : drop level (range_with_len 0 (length axis.names)) ≡ []
     = cc (length-range_with_len 0 (length axis.names), drop_all (range_with_len 0 (length axis.names))) in
     grind (arith, append-nil)

@@ -15,53 +15,53 @@ use Rattle.{
 
 -- the texts of an argument were given
 pub option_given : (b : Bound) (place : ℕ) (o : Option Cell) (live : Tables) (texts : List Text) → Tells b place scalar_in (λ _ ts. option_map (datum ts) o) → IsSettled (arguments_of live) texts b.args.now → IfSome o (IsGiven texts)
-option_given b place None live texts tells settled = tt
-option_given b place (Some c) live texts tells settled = cell_given texts c (λ more. some_same _ _ (told_settled b place scalar_in (λ _ ts. Some (datum ts c)) live texts tells settled more))
+option_given b _ None _ _ _ _ = tt
+option_given b _ (Some c) _ _ tells settled = cell_given _ c (λ more. some_same _ _ (told_settled b _ scalar_in (λ _ ts. Some (datum ts c)) _ _ tells settled more))
 
 -- a level by its number
 pub number_found : (count : ℕ) (z : ℤ) (o : Option ℕ) (level : ℕ) → o ≡ place_of z count → o ≡ Some level → found_pick (row_at count z) ≡ Ok level
-number_found count z o level is some = cc
+number_found _ z o _ is some = cc
 
 -- what is made of a list, item by item
 map-remove : {X Y : Type 0} (f : X → Y) (xs : List X) (i : ℕ) → map f (remove xs i) ≡ remove (map f xs) i
 map-remove f xs i = map-append f (take i xs) (drop (suc i) xs) ∙ (λ j. sym (take-map f i xs) j ++ sym (drop-map f (suc i) xs) j)
 
 map-swap : {X Y : Type 0} (f : X → Y) (xs : List X) (i j : ℕ) → map f (swap xs i j) ≡ swap (map f xs) i j
-map-swap f x1 i j = grind (arith, map-set, get_or-map)
+map-swap = grind (arith, map-set, get_or-map)
 
 each_removed : (texts : List Text) (tuples : List (List Label)) (level : ℕ) → labels_value texts (map (λ tuple. remove tuple level) tuples) ≡ map (λ tuple. remove tuple level) (labels_value texts tuples)
-each_removed texts [] level = refl
+each_removed _ [] _ = refl
 each_removed texts (t ∷ ts) level = search (map-remove, each_removed texts ts level)
 
 each_swapped : (texts : List Text) (tuples : List (List Label)) (a b : ℕ) → labels_value texts (map (λ tuple. swap tuple a b) tuples) ≡ map (λ tuple. swap tuple a b) (labels_value texts tuples)
-each_swapped texts [] a b = refl
+each_swapped _ [] a b = refl
 each_swapped texts (t ∷ ts) a b = search (map-swap, each_swapped texts ts a b)
 
 -- the table without a level
 pub dropped_seen : (texts : List Text) (t : NumberedTable) (axis : AxisValue) (level : ℕ) → axis ≡ without_level (axis_of t) level → table_value texts (with_labels t axis.tuples axis.names) ≡ level_dropped (table_value texts t) level
-dropped_seen texts t axis level is = grind (arith, each_removed, map-remove)
+dropped_seen = grind (arith, each_removed, map-remove)
 
 pub dropped_settled : (texts : List Text) (t : NumberedTable) (axis : AxisValue) (level : ℕ) → axis ≡ without_level (axis_of t) level → IsSettled table_value texts t → IsSettled table_value texts (with_labels t axis.tuples axis.names)
-dropped_settled texts t axis level is settled =
-    settled_by table_value table_value (λ v. level_dropped v level) texts t (with_labels t axis.tuples axis.names) (λ ts. sym (dropped_seen ts t axis level is)) settled
+dropped_settled _ t _ level is settled =
+    settled_by table_value table_value (λ v. level_dropped v level) _ t _ (λ ts. sym (dropped_seen ts t _ _ is)) settled
 
 -- another level stays, or none does
 abbrev if_several : Bool → Result Entry FaultValue → Result Entry FaultValue
 if_several b rest = if b then rest else Err (bad_value levels)
 
 levels_counted : (texts : List Text) (t : NumberedTable) → length (table_value texts t).level_names ≡ length t.level_names
-levels_counted texts t = search length-map
+levels_counted = search length-map
 
 pub level_stays : (texts : List Text) (t : NumberedTable) (level : ℕ) → 2 ≤ length t.level_names → level_gone (table_value texts t) level ≡ limited (level_dropped (table_value texts t) level)
-level_stays texts t level several = grind (arith, levels_counted, nat_tests)
+level_stays = grind (arith, levels_counted, nat_tests)
 
 pub only_level : (texts : List Text) (t : NumberedTable) (level : ℕ) → length t.level_names < 2 → level_gone (table_value texts t) level ≡ Err (bad_value levels)
-only_level texts t level one = grind (arith, levels_counted, nat_tests)
+only_level = grind (arith, levels_counted, nat_tests)
 
 -- the table with two levels exchanged
 pub swapped_seen : (texts : List Text) (t : NumberedTable) (axis : AxisValue) (a b : ℕ) → axis ≡ with_swapped (axis_of t) a b → table_value texts (with_labels t axis.tuples axis.names) ≡ levels_swapped (table_value texts t) a b
-swapped_seen texts t axis a b is = grind (arith, each_swapped, map-swap)
+swapped_seen = grind (arith, each_swapped, map-swap)
 
 pub swapped_settled : (texts : List Text) (t : NumberedTable) (axis : AxisValue) (a b : ℕ) → axis ≡ with_swapped (axis_of t) a b → IsSettled table_value texts t → IsSettled table_value texts (with_labels t axis.tuples axis.names)
-swapped_settled texts t axis a b is settled =
-    settled_by table_value table_value (λ v. levels_swapped v a b) texts t (with_labels t axis.tuples axis.names) (λ ts. sym (swapped_seen ts t axis a b is)) settled
+swapped_settled _ t _ a b is settled =
+    settled_by table_value table_value (λ v. levels_swapped v a b) _ t _ (λ ts. sym (swapped_seen ts t _ a b is)) settled

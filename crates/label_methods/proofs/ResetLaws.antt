@@ -17,22 +17,18 @@ use Rattle.cell_core.specs.declared.cell.Label.TheVariants as label
 use Rattle.method_meaning.specs.Levels as meant
 use Rattle.label_methods.specs.LevelColumns as levels
 
--- the labels of the columns of a frame
-pub heading_is : (h : Option Label) (l : Label) → column_tuple h ≡ l ∷ [] → frame_heading h ≡ Some l
-heading_is x1 l is = grind arith
-
 heading_seen : (texts : List Text) (h : Option Label) → heading_value texts (frame_heading h) ≡ Some (unwrap_or (heading_value texts h) (int (pos 0)))
-heading_seen texts x = grind arith
+heading_seen = grind arith
 
 pub headings_seen : (texts : List Text) (t : NumberedTable) → headings_value texts (frame_headings t) ≡ (as_frame (table_value texts t)).headings
-headings_seen texts t = go t.headings
+headings_seen texts t = go _
   where
     go : (hs : List (Option Label)) → headings_value texts (map frame_heading hs) ≡ map (λ h. Some (unwrap_or h (int (pos 0)))) (headings_value texts hs)
     go [] = refl
     go (h ∷ hs) = λ j. heading_seen texts h j ∷ go hs j
 
 pub headings_settled : (texts : List Text) (t : NumberedTable) → IsSettled table_value texts t → IsSettled headings_value texts (frame_headings t)
-headings_settled texts t settled = search (settled_by, headings_seen, headings_part)
+headings_settled = search (settled_by, headings_seen, headings_part)
 
 -- one of them, and those after it
 pub next_heading : (t : NumberedTable) (place : ℕ) (h : Option Label) (l : Label) → place < length t.headings → h ≡ slice_index_or t.headings place None → column_tuple h ≡ l ∷ []
@@ -40,14 +36,14 @@ pub next_heading : (t : NumberedTable) (place : ℕ) (h : Option Label) (l : Lab
 next_heading t place h l lt is tuple =
     let within : place < length (frame_headings t) = omega (arith, lt, length-map t.headings frame_heading) in
     let next : suc place ≡ place + 1 = omega arith in
-    cc (drop_next (frame_headings t) place (Some l) (slice_get-get_or (frame_headings t) place (frame_heading None) within ∙ ap Some (get_or-map frame_heading t.headings place None ∙ ap frame_heading (sym is) ∙ heading_is h l tuple)))
+    cc (drop_next (frame_headings t) place (Some l) (grind (arith, slice_get-get_or (frame_headings t) place (frame_heading None) within, get_or-map frame_heading t.headings place None)))
 
 pub label_settled : (texts : List Text) (t : NumberedTable) (place : ℕ) (h : Option Label) (l : Label) → h ≡ slice_index_or t.headings place None → column_tuple h ≡ l ∷ []
     → IsSettled table_value texts t → IsSettled heading_value texts (Some l)
-label_settled texts t place h l is tuple settled = λ more. sym (seen (texts ++ more)) ∙ ap (λ hs. slice_index_or hs place (Some (int (pos 0)))) (headings_settled texts t settled more) ∙ seen texts
+label_settled _ t place h l is tuple settled = λ more. sym (seen _) ∙ ap (λ hs. slice_index_or hs place (Some (int (pos 0)))) (headings_settled _ t settled more) ∙ seen _
   where
     seen : (ts : List Text) → slice_index_or (headings_value ts (frame_headings t)) place (Some (int (pos 0))) ≡ heading_value ts (Some l)
-    seen ts = cc (get_or-map (heading_value ts) (frame_headings t) place (frame_heading None), get_or-map frame_heading t.headings place None, heading_is h l tuple)
+    seen ts = grind (arith, get_or-map (heading_value ts) (frame_headings t) place (frame_heading None), get_or-map frame_heading t.headings place None)
 
 -- whether one from a place on is a label
 abbrev pub stands_from : List Text → Label → NumberedTable → ℕ → Bool
@@ -58,40 +54,39 @@ or_later here later = here || later
 
 stands_at : (texts : List Text) (l other : Label) (t : NumberedTable) (place : ℕ) (h : Option Label) (b : Bool) → place < length t.headings → h ≡ slice_index_or t.headings place None → column_tuple h ≡ other ∷ []
     → b ≡ same_heading (heading_value texts (Some l)) (heading_value texts (Some other)) → stands_from texts l t place ≡ or_later b (stands_from texts l t (place + 1))
-stands_at texts l other t place h b lt is tuple same = grind (arith, next_heading)
+stands_at _ l _ t _ h b lt is tuple same = grind (arith, next_heading)
 
 pub label_met : (texts : List Text) (l other : Label) (t : NumberedTable) (place : ℕ) (h : Option Label) (b whole : Bool) → place < length t.headings → h ≡ slice_index_or t.headings place None → column_tuple h ≡ other ∷ []
     → b ≡ same_heading (heading_value texts (Some l)) (heading_value texts (Some other)) → b ≡ true → stands_from texts l t place ≡ whole → true ≡ whole
-label_met texts l other t place h b whole lt is tuple same so before = cc (stands_at texts l other t place h b lt is tuple same)
+label_met texts l other t place h b _ lt is tuple same so before = cc (stands_at texts l other t place h b lt is tuple same)
 
 pub label_passed : (texts : List Text) (l other : Label) (t : NumberedTable) (place : ℕ) (h : Option Label) (b whole : Bool) → place < length t.headings → h ≡ slice_index_or t.headings place None → column_tuple h ≡ other ∷ []
     → b ≡ same_heading (heading_value texts (Some l)) (heading_value texts (Some other)) → b ≡ false → stands_from texts l t place ≡ whole → stands_from texts l t (place + 1) ≡ whole
-label_passed texts l other t place h b whole lt is tuple same so before = cc (stands_at texts l other t place h b lt is tuple same)
+label_passed texts l other t place h b _ lt is tuple same so before = cc (stands_at texts l other t place h b lt is tuple same)
 
 -- the label of a nameless level, by what the labels of the columns are
 abbrev pub label_if : Bool → ℕ → LabelValue
 label_if free level = if free then meant.index_label else numbered_label level
 
 levels_counted : (texts : List Text) (t : NumberedTable) → length (as_frame (table_value texts t)).level_names ≡ length t.level_names
-levels_counted texts t = search length-map
+levels_counted = search length-map
 
 pub one_nameless : (old new : List Text) (t : NumberedTable) (index : Label) (there : Bool) (level : ℕ) → length t.level_names ≡ 1 → IsLonger old new → IsSettled table_value old t → label_datum new index ≡ meant.index_label
     → there ≡ list_any (same_heading (heading_value new (Some index))) (headings_value new (frame_headings t)) → nameless_label (as_frame (table_value old t)) level ≡ label_if (not there) level
-one_nameless old new t index there level one longer settled seen is = grind (arith, nat_eq, levels_counted, seen_later, headings_seen, nat_tests)
+one_nameless = grind (arith, nat_eq, levels_counted, seen_later, headings_seen, nat_tests)
 
 -- a text that was given its number, as a label
 pub text_seen : (texts : List Text) (id : TextId) (words : Text) → slice_get texts id.0 ≡ Some words → label_datum texts (label.Text id) ≡ text words
-text_seen texts id words given = search get_or_from_slice_get
+text_seen = search get_or_from_slice_get
 
 -- the name of a level
 pub level_named : (texts : List Text) (t : NumberedTable) (level : ℕ) (o : Option Label) → slice_get t.level_names level ≡ Some o
     → meant.level_label (as_frame (table_value texts t)) level ≡ unwrap_or (heading_value texts o) (nameless_label (as_frame (table_value texts t)) level)
 level_named texts t level o at =
-    let F = as_frame (table_value texts t) in
     cc (get_or-map (heading_value texts) t.level_names level None, get_or_from_slice_get t.level_names level o None at)
 
 pub name_settled : (texts : List Text) (t : NumberedTable) (level : ℕ) (o : Option Label) → slice_get t.level_names level ≡ Some o → IsSettled table_value texts t → IsSettled heading_value texts o
-name_settled texts t level o at settled = λ more. sym (seen (texts ++ more)) ∙ ap (λ hs. slice_index_or hs level None) (level_names_part texts t settled more) ∙ seen texts
+name_settled _ t level o at settled = λ more. sym (seen _) ∙ ap (λ hs. slice_index_or hs level None) (level_names_part _ t settled more) ∙ seen _
   where
     seen : (ts : List Text) → slice_index_or (headings_value ts t.level_names) level None ≡ heading_value ts o
     seen ts = cc (get_or-map (heading_value ts) t.level_names level None, get_or_from_slice_get t.level_names level o None at)
@@ -101,57 +96,57 @@ abbrev label_of_level : Table → ℕ → Option LabelValue
 label_of_level v level = Some (meant.level_label v level)
 
 pub one_more_given : (old new : List Text) (l : Label) (labels labels' : List (Option Label)) → IsLonger old new → IsSettled headings_value old labels → IsSettled label_datum new l → labels' ≡ labels ++ Some l ∷ [] → IsSettled headings_value new labels'
-one_more_given old new l labels labels' longer given here pushed =
+one_more_given old new l labels _ longer given here pushed =
     subst (IsSettled headings_value new) (sym pushed) (λ more.
     map-append (heading_value (new ++ more)) labels (Some l ∷ [])
-    ∙ (λ j. settled_later headings_value old new labels longer given more j ++ Some (here more j) ∷ [])
+    ∙ (λ j. settled_later headings_value old new _ longer given more j ++ Some (here more j) ∷ [])
     ∙ sym (map-append (heading_value new) labels (Some l ∷ [])))
 
 pub all_levels : (texts first : List Text) (t : NumberedTable) (level : ℕ) (labels : List (Option Label)) → level ≡ length t.level_names → headings_value texts labels ≡ map (label_of_level (as_frame (table_value first t))) (range_with_len 0 level)
     → headings_value texts labels ≡ map (λ l. Some l) (meant.level_labels (as_frame (table_value first t)))
-all_levels texts first t level labels end so_far = grind (arith, levels_counted, map-map)
+all_levels _ _ t _ _ end so_far = grind (arith, levels_counted, map-map)
 
 -- the labels of all levels, and then those of the columns
 pub labels_given : (texts : List Text) (t : NumberedTable) (labels labels' : List (Option Label)) → IsSettled headings_value texts labels → IsSettled table_value texts t → labels' ≡ labels ++ frame_headings t → IsSettled headings_value texts labels'
-labels_given texts t labels labels' given settled pushed = grind (arith, map-append, headings_settled)
+labels_given = grind (arith, map-append, headings_settled)
 
 pub labels_meant : (first texts : List Text) (t : NumberedTable) (labels labels' : List (Option Label)) → IsLonger first texts → IsSettled table_value first t → labels' ≡ labels ++ frame_headings t
     → headings_value texts labels ≡ map (λ l. Some l) (meant.level_labels (as_frame (table_value first t))) → headings_value texts labels' ≡ reset_headings (as_frame (table_value first t))
-labels_meant first texts t labels labels' longer settled pushed is = grind (arith, map-append, headings_seen, seen_later)
+labels_meant = grind (arith, map-append, headings_seen, seen_later)
 
 -- one heading more
 pub one_more_heading : (t : NumberedTable) (place : ℕ) (h : Option Label) (l : Label) (first labels labels' : List (Option Label)) → place < length t.headings → h ≡ slice_index_or t.headings place None → column_tuple h ≡ l ∷ []
     → labels' ≡ labels ++ Some l ∷ [] → labels ≡ first ++ take place (frame_headings t) → labels' ≡ first ++ take (place + 1) (frame_headings t)
-one_more_heading t place h l first labels labels' lt is tuple pushed before =
+one_more_heading t place h l _ _ _ lt is tuple pushed before =
     let within : place < length (frame_headings t) = omega (arith, lt, length-map t.headings frame_heading) in
-    let here : slice_index_or (frame_headings t) place (frame_heading None) ≡ Some l = cc (get_or-map frame_heading t.headings place None, heading_is h l tuple) in
+    let here : slice_index_or (frame_headings t) place (frame_heading None) ≡ Some l = grind (arith, get_or-map frame_heading t.headings place None) in
     grind (arith, append_assoc, take_more)
 
 pub all_headings : (t : NumberedTable) (place : ℕ) (first labels : List (Option Label)) → place ≡ length t.headings → labels ≡ first ++ take place (frame_headings t) → labels ≡ first ++ frame_headings t
-all_headings t place first labels end before = grind (arith, take_all, length-map)
+all_headings = grind (arith, take_all, length-map)
 
 -- one column more
 pub one_more_column : (t : NumberedTable) (place : ℕ) (c : CellColumn) (first blocks blocks' : List CellBlock) → place < length t.columns → column_at t.columns place ≡ table_column c → blocks' ≡ blocks ++ single_block (table_column c) ∷ []
     → map block_column blocks ≡ map block_column first ++ take place t.columns → map block_column blocks' ≡ map block_column first ++ take (place + 1) t.columns
-one_more_column t place c first blocks blocks' lt is pushed before = grind (arith, map-append, append_assoc, take_more)
+one_more_column = grind (arith, map-append, append_assoc, take_more)
 
 pub one_more_single : (c : CellColumn) (blocks blocks' : List CellBlock) → blocks' ≡ blocks ++ single_block (table_column c) ∷ [] → All IsSingle blocks → All IsSingle blocks'
-one_more_single c blocks blocks' pushed single = subst (All IsSingle) (sym pushed) (All-append IsSingle blocks (single_block (table_column c) ∷ []) single (grind arith))
+one_more_single c blocks _ pushed single = rw pushed (All-append IsSingle blocks (single_block (table_column c) ∷ []) single (grind arith))
 
 pub all_columns : (t : NumberedTable) (place : ℕ) (first blocks : List CellBlock) → place ≡ length t.columns → map block_column blocks ≡ map block_column first ++ take place t.columns → map block_column blocks ≡ map block_column first ++ t.columns
-all_columns t place first blocks end before = grind (arith, take_all)
+all_columns = grind (arith, take_all)
 
 -- the columns of the levels, and then those of the table
 pub columns_made : (texts : List Text) (t : NumberedTable) (blocks blocks' : List CellBlock) → levels.level_columns texts (axis_of t) ≡ Ok (blocks_value texts blocks) → map block_column blocks' ≡ map block_column blocks ++ t.columns
     → reset_columns texts t ≡ Ok (blocks_value texts blocks')
-columns_made texts t blocks blocks' made pushed = grind (arith, map-append)
+columns_made = grind (arith, map-append)
 
 pub columns_refused : (texts : List Text) (t : NumberedTable) (fault : OpFault) → MakesBy blocks_value texts (Err fault) (levels.level_columns texts (axis_of t)) → MakesBy blocks_value texts (Err fault) (reset_columns texts t)
-columns_refused texts t x refused = grind arith
+columns_refused = grind arith
 
 -- a text that gets a number
 pub interned : (old new : List Text) (words : Text) → new ≡ with_text old words → IsLonger old new
-interned old new words is = grind (arith, append-nil)
+interned = grind (arith, append-nil)
 
 got_below : {X : Type 0} (xs : List X) (i : ℕ) (x : X) → slice_get xs i ≡ Some x → i < length xs
 got_below [] i x is = cc
@@ -159,4 +154,4 @@ got_below (y ∷ ys) zero x is = omega arith
 got_below (y ∷ ys) (suc i) x is = grind (arith, got_below ys)
 
 pub text_settled : (texts : List Text) (id : TextId) (words : Text) → slice_get texts id.0 ≡ Some words → IsSettled label_datum texts (label.Text id)
-text_settled texts id words given = label_settled_by texts (label.Text id) (cell.Text id) (λ ts. refl) (cell_settled texts (cell.Text id) (got_below texts id.0 words given))
+text_settled _ id _ given = label_settled_by _ (label.Text id) (cell.Text id) (λ ts. refl) (cell_settled _ (cell.Text id) (got_below _ _ _ given))

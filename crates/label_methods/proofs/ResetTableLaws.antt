@@ -10,7 +10,7 @@ use Rattle.{
   form_meaning.specs.{Finish.{within_limits, limited, finished, unless_repeated, default_labels, try_all}, Set.{list_column}},
   method_meaning.specs.{Levels.{label_cell, level_labels, levels_reset, renumbered}, Methods.{as_frame}},
   form_parts.{specs.Makes.{MakesBy, blocks_value, AreColumns}, proofs.TableMade.{refused_on}},
-  frame_store.{specs.{Parts.{HeadingList, axis_of, block_column, table_of, IsSingle}, Shown.{labels_value, headings_value, columns_value, cells_value, Makes}, declared.fault.OpFault.{OpFault, TheVariants.{Refused, NoMemory}}}, proofs.Settling.{seen_later, settled_by, columns_given, columns_name_part, columns_settled, table_settled}},
+  frame_store.{specs.{Parts.{HeadingList, axis_of, table_of, IsSingle}, Shown.{labels_value, headings_value, columns_value, cells_value, Makes}, declared.fault.OpFault.{OpFault, TheVariants.{Refused, NoMemory}}}, proofs.Settling.{seen_later, settled_by, columns_given, columns_name_part, columns_settled, table_settled}},
   selections.{specs.Headings.{NamesRepeated, repeated_heading}, proofs.{HeadingLaws.{repeated_seen, different}, RefusalLaws.{repeated_settled}}},
   label_methods.specs.{LevelColumns.{cell_of}, Resets.{reset_columns, reset_headings, reset_frame}},
 }
@@ -19,11 +19,11 @@ use Rattle.label_methods.specs.LevelColumns as levels
 
 -- the labels of a level as cells, with texts
 cell_seen : (texts : List Text) (l : Label) → datum texts (cell_of l) ≡ label_cell (label_datum texts l)
-cell_seen texts x = grind arith
+cell_seen = grind arith
 
 cells_seen : (texts : List Text) (tuples : List (List Label)) (level : ℕ) → cells_value texts (map (λ tuple. cell_of (slice_index_or tuple level Na)) tuples) ≡ map (λ tuple. label_cell (slice_index_or tuple level na)) (labels_value texts tuples)
-cells_seen texts [] level = refl
-cells_seen texts (t ∷ ts) level = λ j. (cell_seen texts (slice_index_or t level Na) ∙ ap label_cell (sym (get_or-map (label_datum texts) t level Na))) j ∷ cells_seen texts ts level j
+cells_seen _ [] _ = refl
+cells_seen texts (t ∷ ts) level = λ j. (cell_seen _ _ ∙ ap label_cell (sym (get_or-map (label_datum texts) t level Na))) j ∷ cells_seen texts ts level j
 
 -- the columns of the levels
 columns_seen : (texts : List Text) (t : NumberedTable) → levels.level_columns texts (axis_of t) ≡ meant.level_columns (as_frame (table_value texts t))
@@ -33,65 +33,65 @@ abbrev with_own : Table → Result (List (ColumnOf CellValue)) FaultValue
 with_own v = then_value (meant.level_columns (as_frame v)) (λ columns. Ok (columns ++ v.columns))
 
 all_seen : (texts : List Text) (t : NumberedTable) → reset_columns texts t ≡ with_own (table_value texts t)
-all_seen texts t = search columns_seen
+all_seen = search columns_seen
 
 abbrev pub finished_as : Table → List (ColumnOf CellValue) → Result Entry FaultValue
 finished_as v columns = finished (reset_frame v (reset_headings (as_frame v)) columns)
 
 pub reset_by : (texts : List Text) (t : NumberedTable) (v : Table) → v ≡ table_value texts t → levels_reset (as_frame v) ≡ then_value (reset_columns texts t) (finished_as v)
-reset_by texts t v is = grind (arith, all_seen)
+reset_by = grind (arith, all_seen)
 
 -- a level of two kinds
 pub reset_refused : (texts : List Text) (t : NumberedTable) (made : Result (List CellBlock) OpFault) (fault : OpFault) → made ≡ Err fault → MakesBy blocks_value texts made (reset_columns texts t)
     → Makes texts (Err fault) (levels_reset (as_frame (table_value texts t)))
-reset_refused texts t made fault is makes =
-    subst (λ r. Makes texts (Err fault) r) (sym (reset_by texts t (table_value texts t) refl)) (search refused_on)
+reset_refused texts t _ fault is makes =
+    subst (λ r. Makes texts (Err fault) r) (sym (reset_by _ t _ refl)) (search refused_on)
 
 -- all of it
 pub reset_made : (old new : List Text) (t : NumberedTable) (labels : List (Option Label)) (blocks : List CellBlock) → IsLonger old new → IsSettled table_value old t → headings_value new labels ≡ reset_headings (as_frame (table_value old t))
     → reset_columns new t ≡ Ok (blocks_value new blocks)
     → finished (reset_frame (table_value new t) (headings_value new labels) (blocks_value new blocks)) ≡ levels_reset (as_frame (table_value old t))
-reset_made old new t labels blocks longer settled headed made =
+reset_made old new t _ blocks longer settled headed made =
     let same : table_value new t ≡ table_value old t = grind (arith, seen_later) in
     (λ j. finished (reset_frame (same j) (headed j) (blocks_value new blocks)))
     ∙ ap (λ r. then_value r (finished_as (table_value old t))) (sym made)
-    ∙ sym (reset_by new t (table_value old t) (sym same))
+    ∙ sym (reset_by _ t _ (sym same))
 
 -- what is made of each
 tried : {A B : Type 0} (P : B → Type 0) (f : A → Result B FaultValue) → ((a : A) → IfOk (f a) P) → (xs : List A) → IfOk (try_all f xs) (λ ys. (length ys ≡ length xs) × All P ys)
-tried P f each [] = (refl, All-nil P)
+tried P f _ [] = (refl, All-nil P)
 tried P f each (x ∷ xs) = grind (arith, tried P f each xs)
 
 abbrev HasRows : {C : Type 0} → ℕ → ColumnOf C → Type 0
 HasRows n c = length c.cells ≡ n
 
 listed : (n : ℕ) (cells : List CellValue) → length cells ≡ n → IfOk (list_column cells) (HasRows n)
-listed n cells is = grind arith
+listed = grind arith
 
 rows_seen : (texts : List Text) (n : ℕ) (cs : List (ColumnOf Cell)) → All (HasRows n) cs → All (HasRows n) (columns_value texts cs)
-rows_seen texts n [] all = All-nil (HasRows n)
-rows_seen texts n (c ∷ cs) all = All-cons (HasRows n) (column_value texts c) (columns_value texts cs) (length-map c.cells (datum texts) ∙ All-head (HasRows n) c cs all) (rows_seen texts n cs (All-tail (HasRows n) c cs all))
+rows_seen _ n [] _ = All-nil (HasRows n)
+rows_seen texts n (c ∷ cs) all = All-cons (HasRows n) (column_value texts c) (columns_value texts cs) (length-map c.cells _ ∙ All-head (HasRows n) c cs all) (rows_seen _ n cs (All-tail (HasRows n) c cs all))
 
 rows_numbered : (texts : List Text) (n : ℕ) (cs : List (ColumnOf Cell)) → All (HasRows n) (columns_value texts cs) → All (HasRows n) cs
-rows_numbered texts n [] all = All-nil (HasRows n)
+rows_numbered _ n [] _ = All-nil (HasRows n)
 rows_numbered texts n (c ∷ cs) all =
-    All-cons (HasRows n) c cs (sym (length-map c.cells (datum texts)) ∙ All-head (HasRows n) (column_value texts c) (columns_value texts cs) all) (rows_numbered texts n cs (All-tail (HasRows n) (column_value texts c) (columns_value texts cs) all))
+    All-cons (HasRows n) c cs (sym (length-map c.cells _) ∙ All-head (HasRows n) (column_value texts c) (columns_value texts cs) all) (rows_numbered _ n cs (All-tail (HasRows n) (column_value texts c) (columns_value texts cs) all))
 
 -- the columns that were made
 abbrev IsMadeOf : NumberedTable → List (ColumnOf CellValue) → Type 0
 IsMadeOf t ys = (length ys ≡ length t.level_names + length t.columns) × All (HasRows (length t.labels)) ys
 
 made_of : (texts : List Text) (t : NumberedTable) → IsWhole t → IfOk (reset_columns texts t) (IsMadeOf t)
-made_of texts t whole = go (levels.level_columns texts (axis_of t)) (search (tried, each))
+made_of texts t whole = go _ (search (tried, each))
   where
     each : (level : ℕ) → IfOk (levels.level_column texts (axis_of t) level) (HasRows (length t.labels))
-    each level = search (listed, length-map)
+    each _ = search (listed, length-map)
 
     go : (r : Result (List (ColumnOf CellValue)) FaultValue) → IfOk r (λ ys. (length ys ≡ length (range_with_len 0 (length t.level_names))) × All (HasRows (length t.labels)) ys)
         → IfOk (then_value r (λ columns. Ok (columns ++ columns_value texts t.columns))) (IsMadeOf t)
     go (Ok ys) h = (
       grind (arith, length-append, length-range_with_len, length-map),
-      All-append (HasRows (length t.labels)) ys (columns_value texts t.columns) h.1 (rows_seen texts (length t.labels) t.columns whole.filled),
+      All-append (HasRows (length t.labels)) ys (columns_value texts t.columns) h.1 (rows_seen _ _ _ whole.filled),
     )
     go (Err fault) h = tt
 
@@ -107,38 +107,35 @@ columns_are texts t blocks count whole settled single made is =
       single = single;
       count = grind (arith, length-map);
       filled = search rows_numbered;
-      given = columns_given texts (map block_column blocks)
+      given = columns_given _ _
           (grind (arith, settled_by, all_seen));
     }
 
 -- the labels that were made
 labels_some : (texts : List Text) (hs : List (Option Label)) → All IsSome (headings_value texts hs) → All IsSome hs
-labels_some texts [] all = All-nil IsSome
-labels_some texts (h ∷ hs) all = All-cons IsSome h hs (one h (All-head IsSome (heading_value texts h) (headings_value texts hs) all)) (labels_some texts hs (All-tail IsSome (heading_value texts h) (headings_value texts hs) all))
+labels_some _ [] _ = All-nil IsSome
+labels_some texts (h ∷ hs) all = All-cons IsSome h hs (one h (All-head IsSome (heading_value texts h) (headings_value texts hs) all)) (labels_some _ hs (All-tail IsSome (heading_value texts h) (headings_value texts hs) all))
   where
     one : (h : Option Label) → IsSome (heading_value texts h) → IsSome h
     one None some = cc
-    one (Some l) some = refl
+    one (Some l) _ = refl
 
 all_some : {X : Type 0} (f : X → LabelValue) (xs : List X) → All IsSome (map (λ x. Some (f x)) xs)
 all_some f [] = All-nil IsSome
 all_some f (x ∷ xs) = grind (arith, all_some f xs)
 
 pub reset_some : (old new : List Text) (t : NumberedTable) (labels : List (Option Label)) → headings_value new labels ≡ reset_headings (as_frame (table_value old t)) → All IsSome labels
-reset_some old new t labels is =
+reset_some old new t _ is =
     let F = as_frame (table_value old t) in
-    labels_some new labels (rw is (All-append IsSome (map (λ l. Some l) (level_labels F)) F.headings (all_some (λ l. l) (level_labels F)) (all_some _ (table_value old t).headings)))
-
-pub reset_count : (old new : List Text) (t : NumberedTable) (labels : List (Option Label)) → IsWhole t → headings_value new labels ≡ reset_headings (as_frame (table_value old t)) → length t.level_names + length t.columns ≡ length labels
-reset_count old new t labels whole is = grind (arith, length-map, length-range_with_len, length-append)
+    labels_some new _ (rw is (All-append IsSome (map (λ l. Some l) (level_labels F)) F.headings (all_some (λ l. l) _) (all_some _ _)))
 
 -- the labels 0, 1 and so on
 range_from : (texts : List Text) (ns : List ℕ) → labels_value texts (single_tuples (map number_label ns)) ≡ map (λ k. int (pos k) ∷ []) ns
-range_from texts [] = refl
+range_from _ [] = refl
 range_from texts (n ∷ ns) = search (range_from texts ns)
 
 range_count : (n : ℕ) → length (default_labels n) ≡ n
-range_count n = search length-map-range_with_len
+range_count = search length-map-range_with_len
 
 pub range_rows : (n : ℕ) (axis : AxisValue) → axis ≡ range_axis n → length axis.tuples ≡ n
 range_rows n axis is = cc (length-map axis.tuples (tuple_value []), range_from [] (range_with_len 0 n), range_count n)
@@ -152,45 +149,41 @@ parts_table t rows labels blocks = table_of Frame (range_axis rows) (own_heading
 
 pub parts_whole : (texts : List Text) (t : NumberedTable) (rows : ℕ) (axis : AxisValue) (headings : HeadingList) (labels : List (Option Label)) (blocks : List CellBlock) → AreColumns texts (length t.labels) (length labels) blocks → rows ≡ length t.labels
     → All IsSome labels → repeated_heading labels ≡ None → axis ≡ range_axis rows → headings ≡ own_headings t labels → IsWhole (table_of Frame axis headings blocks)
-parts_whole texts t rows axis headings labels blocks made is some none axis_is headed = grind (arith, range_rows, length-map, different)
+parts_whole = grind (arith, range_rows, length-map, different)
 
 -- a label that stands again
 parts_headed : (texts : List Text) (u : Table) (labels : List (Option Label)) (found : Option Label) → AreDistinct texts → IsSettled headings_value texts labels → u.headings ≡ headings_value texts labels → repeated_heading labels ≡ found
     → finished u ≡ unless_repeated (heading_value texts found) (limited u)
-parts_headed texts u labels found distinct settled headed is = grind (arith, repeated_seen)
+parts_headed = grind (arith, repeated_seen)
 
 pub parts_repeated : (texts : List Text) (u : Table) (labels : List (Option Label)) (why : OpFault) → AreDistinct texts → IsSettled headings_value texts labels → u.headings ≡ headings_value texts labels
     → NamesRepeated why (repeated_heading labels) → Makes texts (Err why) (finished u)
-parts_repeated texts u labels (Refused code) distinct settled headed named = (
-  parts_headed texts u labels (Some named.0) distinct settled headed named.1 ∙ ap (λ c. Err (fault_of texts c)) (sym named.2),
+parts_repeated texts u _ (Refused code) distinct settled headed named = (
+  parts_headed _ u _ _ distinct settled headed named.1 ∙ ap (λ c. Err (fault_of texts c)) (sym named.2),
   search repeated_settled,
 )
-parts_repeated texts u labels NoMemory distinct settled headed named = tt
+parts_repeated _ u _ NoMemory _ _ _ _ = tt
 
 -- beyond the limits, or within them
 abbrev if_within : Table → Bool → Result Entry FaultValue
 if_within u b = then_value (if b then Ok u else Err limit) (λ u. Ok (table u))
 
-parts_rows : (texts : List Text) (t : NumberedTable) → length (default_labels (length (labels_value texts t.labels))) ≡ length t.labels
-parts_rows texts t = search (range_count, length-map)
-
 pub parts_beyond : (texts : List Text) (t : NumberedTable) (labels : List (Option Label)) (blocks : List CellBlock) → AreDistinct texts → IsSettled headings_value texts labels → repeated_heading labels ≡ None
     → within_limits (length t.labels) (length blocks) ≡ false → finished (reset_frame (table_value texts t) (headings_value texts labels) (blocks_value texts blocks)) ≡ Err limit
-parts_beyond texts t labels blocks distinct settled none beyond = grind (arith, parts_headed, parts_rows, length-map)
+parts_beyond = grind (arith, parts_headed, range_count, length-map)
 
 pub parts_made : (texts : List Text) (t made : NumberedTable) (rows : ℕ) (labels : List (Option Label)) (blocks : List CellBlock) → AreDistinct texts → IsSettled table_value texts t → IsSettled headings_value texts labels
     → AreColumns texts (length t.labels) (length labels) blocks → repeated_heading labels ≡ None → within_limits (length t.labels) (length blocks) ≡ true → rows ≡ length t.labels → made ≡ parts_table t rows labels blocks
     → Makes texts (Ok made) (finished (reset_frame (table_value texts t) (headings_value texts labels) (blocks_value texts blocks)))
-parts_made texts t made rows labels blocks distinct settled given columns none within is same =
-    let u = reset_frame (table_value texts t) (headings_value texts labels) (blocks_value texts blocks) in (
-      grind (arith, parts_headed, parts_rows, length-map, range_from),
-      subst (IsSettled table_value texts) (sym same)
-          (search (table_settled, columns_name_part, range_from, columns_settled)),
-    )
+parts_made texts t _ _ _ _ distinct settled given columns none within is same = (
+  grind (arith, parts_headed, range_count, length-map, range_from),
+  subst (IsSettled table_value texts) (sym same)
+      (search (table_settled, columns_name_part, range_from, columns_settled)),
+)
 
 pub renumbered_beyond : (texts : List Text) (t : NumberedTable) → within_limits (length t.labels) (length t.columns) ≡ false → limited (renumbered (table_value texts t)) ≡ Err limit
-renumbered_beyond texts t beyond = grind (arith, parts_rows, length-map)
+renumbered_beyond = grind (arith, range_count, length-map)
 
 pub renumbered_made : (texts : List Text) (t made : NumberedTable) (axis : AxisValue) (rows : ℕ) → axis ≡ range_axis rows → rows ≡ length t.labels → within_limits (length t.labels) (length t.columns) ≡ true → IsSettled table_value texts t
     → made ≡ with_labels t axis.tuples axis.names → Makes texts (Ok made) (limited (renumbered (table_value texts t)))
-renumbered_made texts t made axis rows is count within settled same = grind (arith, parts_rows, length-map, range_from, settled_by)
+renumbered_made = grind (arith, range_count, length-map, range_from, settled_by)

@@ -12,4 +12,4 @@ abbrev pub cells_in : Table → List ℕ → ℕ → List CellValue
 cells_in t places row = map (λ c. slice_index_or c.cells row na_cell) (map (column_at t.columns) places)
 
 pub by_rows : (t : Table) (places : List ℕ) → cells_by_row t places ≡ tabulate (length t.labels) (cells_in t places)
-by_rows t places = search map-map
+by_rows = search map-map

@@ -1,6 +1,6 @@
 -- The scalars of a list from a part on.
 use Rattle.{
-  std.{proofs.{Common.{◌≡◌, ◌<◌, ◌+◌, ℕ, suc, List, length, drop, get_or, Option, arith}, Math.Seq.{drop-cons}}, specs.Option.{option_map}},
+  std.{proofs.{Common.{◌≡◌, ◌<◌, ◌+◌, ℕ, List, length, drop, get_or, Option, arith}, Math.Seq.{drop-cons}}, specs.Option.{option_map}},
   cell_core.specs.declared.cell.Cell.{Cell},
   meaning.specs.{Text.{Text}, Cell.{datum}},
   table_meaning.specs.Value.{scalar_in},
@@ -14,6 +14,4 @@ IsScalarOf o item = (live : Tables) (texts : List Text) → option_map (datum te
 
 pub scalars_from : (texts : List Text) (items : List Item) (i : ℕ) (item : Item) (o : Option Cell) → i < length items → item ≡ get_or items i item → IsScalarOf o item
     → scalars texts (drop i items) ≡ with_cell (option_map (datum texts) o) (scalars texts (drop (i + 1) items))
-scalars_from texts items i item o lt is scalar =
-    let next : suc i ≡ i + 1 = omega arith in
-    grind (arith, drop-cons, cells_of_more)
+scalars_from = grind (arith, drop-cons, cells_of_more)

@@ -1,6 +1,6 @@
 -- Rows by their label on one level.
 use Rattle.{
-  std.{proofs.{Common.{◌≡◌, ◌∙◌, refl, ap, sym, arith, ℕ, true, false, List, [], ◌∷◌, ◌++◌, map, length, slice_index_or, Result, Ok, Err}, Math.ListN.{get_or-map}, lemmas.List.{length-map, FromFn.{length-range_with_len}, Elements.{All-map}}}, specs.{Prelude.{◌≢◌, remove}, List.{range_with_len}}},
+  std.{proofs.{Common.{◌≡◌, ◌∙◌, refl, ap, sym, arith, ℕ, true, false, List, [], ◌∷◌, map, length, slice_index_or, Result, Ok, Err}, Math.ListN.{get_or-map}, lemmas.List.{length-map, FromFn.{length-range_with_len}, Elements.{All-map}}}, specs.{Prelude.{◌≢◌, remove}, List.{range_with_len}}},
   cell_core.specs.{Texts.{AreDistinct}, declared.{cell.Label.{Label, TheVariants.{Na}}, grid.Shape.{Shape}}},
   column_core.specs.Blocks.{CellBlock},
   meaning.specs.{Cell.{LabelValue, na, label_datum}, Fault.{FaultValue, no_key, limit, then_value}, Text.{Text}},
@@ -25,17 +25,17 @@ module _ (texts : List Text) where
 module _ (texts : List Text) (distinct : AreDistinct texts) (l : Label) (given : IsSettled label_datum texts l) (level : ℕ) where
   label_given : (tuple : List Label) → IsSettled tuple_value texts tuple → IsSettled label_datum texts (label_in level tuple)
   label_given tuple settled = λ more.
-      sym (label_there (texts ++ more) tuple level) ∙ ap (λ t. slice_index_or t level na) (settled more) ∙ label_there texts tuple level
+      sym (label_there _ tuple _) ∙ ap (λ t. slice_index_or t level na) (settled more) ∙ label_there _ tuple _
 
   has_seen : (tuple : List Label) → IsSettled tuple_value texts tuple → has_label level (label_datum texts l) (tuple_value texts tuple) ≡ has_number level l tuple
   has_seen tuple settled =
-      ap (same_label (label_datum texts l)) (label_there texts tuple level)
+      ap (same_label (label_datum texts l)) (label_there _ tuple _)
       ∙ sym (search (same_by_number, label_given, label_decides))
 
   -- the rows that have a label are those that have its number
   pub rows_by_number : (tuples : List (List Label)) → IsSettled labels_value texts tuples → rows_where (has_label level (label_datum texts l)) 0 (labels_value texts tuples) ≡ rows_where (has_number level l) 0 tuples
-  rows_by_number tuples settled =
-      rows_where-map (IsSettled tuple_value texts) (has_label level (label_datum texts l)) (has_number level l) (tuple_value texts) has_seen 0 tuples (tuples_settled texts tuples settled)
+  rows_by_number _ settled =
+      rows_where-map _ _ _ _ has_seen 0 _ (tuples_settled _ _ settled)
 
 -- the table of some rows without a level, with texts
 section_seen : (texts : List Text) (t : NumberedTable) (rows : List ℕ) (level : ℕ) → table_value texts (section_of t rows level) ≡ level_dropped (rows_taken (table_value texts t) rows) level
@@ -45,29 +45,28 @@ section_seen texts t rows level =
 
 pub section_made : (t : NumberedTable) (rows columns : List ℕ) (level count : ℕ) (shape : Shape) (own taken axis : AxisValue) (headings : HeadingList) (blocks : List CellBlock) → shape ≡ t.shape → own ≡ axis_of t → taken ≡ taken_axis own rows → axis ≡ without_level taken level
     → headings ≡ headings_of t → columns ≡ range_with_len 0 count → count ≡ length t.columns → map block_column blocks ≡ columns_at rows columns t → table_with shape axis headings (map block_column blocks) ≡ section_of t rows level
-section_made t rows columns level count shape own taken axis headings blocks shaped at took under headed all same made = search
+section_made t _ _ _ _ _ _ _ _ _ _ shaped at took under headed all same made = search
 
 pub section_whole : (t : NumberedTable) (rows : List ℕ) (level : ℕ) → IsWhole t → IsWhole (section_of t rows level)
 section_whole t rows level whole =
-    let all = range_with_len 0 (length t.columns) in
     let tuples = tuples_at t.labels rows in
     let count : length (map (λ tuple. remove tuple level) tuples) ≡ length rows = search length-map in
     record {
       headed = search (length-map, length-range_with_len);
-      filled = All-map (λ c. length c.cells ≡ length (map (λ tuple. remove tuple level) tuples)) (λ place. cells_at rows (column_at t.columns place)) all (λ k d lt. length-map rows _ ∙ sym count);
+      filled = All-map (λ c. length c.cells ≡ length (map (λ tuple. remove tuple level) tuples)) (λ place. cells_at rows (column_at t.columns place)) (range_with_len 0 (length _)) (λ k d lt. length-map rows _ ∙ sym count);
       headings = whole.headings;
     }
 
 -- another level stays, or none does
 levels_counted : (texts : List Text) (t : NumberedTable) → length (table_value texts t).level_names ≡ length t.level_names
-levels_counted texts t = search length-map
+levels_counted = search length-map
 
 -- what is meant, by the rows that are found
 some_there : (key : List LabelValue) (rows : List ℕ) → length rows ≢ 0 → found_pick (unless_none key rows) ≡ Ok rows
-some_there key x some = grind arith
+some_there = grind arith
 
 none_there : (key : List LabelValue) (rows : List ℕ) → length rows ≡ 0 → found_pick (unless_none key rows) ≡ Err (no_key key)
-none_there key x none = grind arith
+none_there = grind arith
 
 module _ (texts : List Text) (distinct : AreDistinct texts) (t : NumberedTable) (l : Label) (level : ℕ) (rows : List ℕ) (given : IsSettled label_datum texts l) (settled : IsSettled table_value texts t) (is : rows ≡ rows_where (has_number level l) 0 t.labels) where
   abbrev V : Table
@@ -83,10 +82,10 @@ module _ (texts : List Text) (distinct : AreDistinct texts) (t : NumberedTable) 
   go r = then_value r (λ rows. limited (level_dropped (rows_taken V rows) level))
 
   pub section_missing : length rows ≡ 0 → section V key level ≡ Err (no_key (key ∷ []))
-  section_missing none = search (found, none_there)
+  section_missing = search (found, none_there)
 
   meant : length rows ≢ 0 → section V key level ≡ limited (level_dropped (rows_taken V rows) level)
-  meant some = search (found, some_there)
+  meant = search (found, some_there)
 
   tall : length (level_dropped (rows_taken V rows) level).labels ≡ length rows
   tall = search length-map
@@ -98,4 +97,4 @@ module _ (texts : List Text) (distinct : AreDistinct texts) (t : NumberedTable) 
   section_beyond some beyond = grind (arith, meant, limited_beyond, tall, broad)
 
   pub section_answer : (made : NumberedTable) → length rows ≢ 0 → within_limits (length rows) (length t.columns) ≡ true → made ≡ section_of t rows level → Makes texts (Ok made) (section V key level)
-  section_answer made some within same = grind (arith, meant, tall, broad, section_seen, settled_by)
+  section_answer _ some within same = grind (arith, meant, tall, broad, section_seen, settled_by)

@@ -11,4 +11,4 @@ unless_beyond t within = then_value (if within then Ok t else Err limit) (λ t. 
 
 -- a table within the limits
 pub limited_within : (t : Table) (rows columns : Rattle.std.specs.Prelude.ℕ) → length t.labels ≡ rows → length t.columns ≡ columns → within_limits rows columns ≡ true → limited t ≡ Ok (table t)
-limited_within t rows columns r c within = search
+limited_within t _ _ r c within = search

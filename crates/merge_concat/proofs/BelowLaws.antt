@@ -9,18 +9,11 @@ use Rattle.{
   merge_concat.specs.{declared.parts.Part.{Part}, Parts.{part_kind, part_column, kind_of_all, cells_below, count_below}},
 }
 
--- equal kinds
-pub kinds_same : (a b : Kind) → same_kind a b ≡ true → a ≡ b
-kinds_same x x1 e = grind arith
-
 kind_itself : (a : Kind) → same_kind a a ≡ true
-kind_itself x = grind arith
+kind_itself = grind arith
 
 pub kinds_differ : (a b : Kind) → (a ≡ b → ⊥) → same_kind a b ≡ false
-kinds_differ a b ne = grind (arith, kinds_same)
-
-pub kinds_equal : (a b : Kind) → a ≡ b → same_kind a b ≡ true
-kinds_equal a b e = cc (kind_itself a)
+kinds_differ = grind arith
 
 -- the kind of all parts, where the first one is told
 module _ (missing : Kind) where
@@ -29,34 +22,30 @@ module _ (missing : Kind) where
 
   pub kind_told : (parts : List Part) (first : Part) (told : Bool) → 1 ≤ length parts → first ≡ slice_index_or parts 0 first → list_all (alike (part_kind missing first)) (take (length parts - 1) (drop 1 parts)) ≡ told
       → kind_of_all missing parts ≡ cond told (Some (part_kind missing first)) None
-  kind_told [] first told some is all = absurd (omega arith)
-  kind_told (part ∷ parts) first told some is all = grind (arith, take_rest (part ∷ parts) 1)
-
-  at_kind : (kind : Kind) (part : Part) → kind ≡ part_kind missing part → part_kind kind part ≡ kind
-  at_kind kind x e = grind arith
+  kind_told [] _ _ some is all = absurd (omega arith)
+  kind_told (part ∷ parts) _ _ some is all = grind (arith, take_rest (part ∷ parts) 1)
 
   all_at_kind : (kind : Kind) (parts : List Part) → list_all (alike kind) parts ≡ true → All (λ part. part_kind kind part ≡ kind) parts
-  all_at_kind kind [] all = grind arith
+  all_at_kind _ [] all = grind arith
   all_at_kind kind (part ∷ parts) all =
-      let both = and_parts (alike kind part) (list_all (alike kind) parts) all in
-      grind (arith, at_kind, kinds_same, all_at_kind kind parts both.1)
+      grind (arith, all_at_kind kind parts (and_parts (alike kind part) (list_all (alike kind) parts) all).1)
 
   some_kind : (b : Bool) (k kind : Kind) → cond b (Some k) None ≡ Some kind → (b ≡ true) × (k ≡ kind)
-  some_kind x k kind e = grind arith
+  some_kind = grind arith
 
   -- each part is of the kind, or missing
   pub parts_at_kind : (kind : Kind) (parts : List Part) → kind_of_all missing parts ≡ Some kind → All (λ part. part_kind kind part ≡ kind) parts
-  parts_at_kind kind [] e = grind arith
-  parts_at_kind kind (part ∷ parts) e =
-      let told = some_kind (list_all (alike (part_kind missing part)) parts) (part_kind missing part) kind e in
-      grind (arith, at_kind, all_at_kind)
+  parts_at_kind _ [] e = grind arith
+  parts_at_kind _ (part ∷ parts) e =
+      let told = some_kind (list_all (alike (part_kind missing part)) parts) _ _ e in
+      grind (arith, all_at_kind)
 
   module _ (texts : List (List ℕ)) where
     abbrev pub value_of : Part → ColumnValue
     value_of part = column_value texts (part_column missing part)
 
     kinds_seen : (kind : Kind) (parts : List Part) → list_all (λ other. same_kind kind other.kind) (map value_of parts) ≡ list_all (alike kind) parts
-    kinds_seen kind [] = refl
+    kinds_seen _ [] = refl
     kinds_seen kind (part ∷ parts) = cc (kinds_seen kind parts)
 
     cells_seen : (parts : List Part) → flat_map (λ (c : ColumnValue). c.cells) (map value_of parts) ≡ map (datum texts) (cells_below parts)
@@ -68,17 +57,17 @@ module _ (missing : Kind) where
     column_if (Some kind) cells = Some record { kind = kind; cells = cells }
 
     of_cond : (b : Bool) (kind : Kind) (cells : List CellValue) → cond b (Some record { kind = kind; cells = cells }) None ≡ column_if (cond b (Some kind) None) cells
-    of_cond x kind cells = grind arith
+    of_cond = grind arith
 
     below_is : (parts : List Part) → column_below (map value_of parts) ≡ column_if (kind_of_all missing parts) (map (datum texts) (cells_below parts))
     below_is [] = refl
     below_is (part ∷ parts) =
         let kind = part_kind missing part in
         (λ i. cond (kinds_seen kind parts i) (Some record { kind = kind; cells = cells_seen (part ∷ parts) i }) None)
-        ∙ of_cond (list_all (alike kind) parts) kind (map (datum texts) (cells_below (part ∷ parts)))
+        ∙ of_cond _ _ _
 
     size : (parts : List Part) → length (map (datum texts) (cells_below parts)) ≡ count_below parts
-    size parts = search (length-map, length-flat_map)
+    size = search (length-map, length-flat_map)
 
     -- what is answered
     pub is_mixed : (parts : List Part) → kind_of_all missing parts ≡ None → rows_concatenated {K = List Label} (map value_of parts) ≡ Err mixed_kinds
@@ -89,10 +78,10 @@ module _ (missing : Kind) where
       made = record { kind = kind; cells = map (datum texts) (cells_below parts) }
 
       within : (b : Bool) → nat_lt most_rows (count_below parts) ≡ b → rows_concatenated {K = List Label} (map value_of parts) ≡ cond b (Err too_large) (Ok made)
-      within b is = grind (arith, below_is, size)
+      within = grind (arith, below_is, size)
 
       pub is_too_large : most_rows < count_below parts → rows_concatenated {K = List Label} (map value_of parts) ≡ Err too_large
       is_too_large lt = search (within, lt-ltb)
 
       pub is_made : (column : CellColumn) → count_below parts ≤ most_rows → column ≡ record { kind = kind; cells = cells_below parts } → rows_concatenated {K = List Label} (map value_of parts) ≡ Ok (column_value texts column)
-      is_made column few is = cc (within false (le-ltb most_rows (count_below parts) few))
+      is_made _ few is = cc (within false (le-ltb most_rows (count_below parts) few))

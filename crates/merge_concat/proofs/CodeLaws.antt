@@ -1,6 +1,6 @@
 -- Rows meet by their keys as they meet by the numbers of the keys.
 use Rattle.{
-  std.{proofs.{Common.{◌≡◌, ◌∙◌, ◌<◌, ◌+◌, ◌==◌, ◌++◌, ap, refl, sym, arith, ℕ, zero, suc, Bool, true, false, not, cond, List, [], ◌∷◌, map, filter, length, All, slice_index_or, slice_index, take, set, min, length-append, nat_eq, nat_lt, Option}, lemmas.{Bool.{false≢true, eqb-true, eqb-false, cases_lt, lt-ltb, le-ltb}, List.{map-append, length-set, get_or-set_same, get_or-set_other, FromFn.{fill_by_all, length-map-range_with_len, get_or-map-range_with_len}, Elements.{All-head, All-tail}}, Simd.{map-map}}}, specs.{Prelude.{option_map}, List.{list_any, position_or_len, flat_map, range_with_len}, Cmp.{IsEquivalence}}},
+  std.{proofs.{Common.{◌≡◌, ◌∙◌, ◌<◌, ◌+◌, ◌==◌, ◌++◌, ap, refl, sym, arith, ℕ, zero, suc, Bool, true, false, not, cond, List, [], ◌∷◌, map, filter, length, All, slice_index_or, slice_index, take, set, min, length-append, nat_eq, nat_lt, Option}, lemmas.{Bool.{false≢true, eqb-true, eqb-false}, List.{map-append, length-set, get_or-set_same, get_or-set_other, FromFn.{fill_by_all, length-map-range_with_len}, Elements.{All-head, All-tail}}, Simd.{map-map}}}, specs.{Prelude.{option_map}, List.{list_any, position_or_len, flat_map, range_with_len}, Cmp.{IsEquivalence}}},
   align_meaning.specs.{Joins.{Entry, entries_with, entries_of}, Targets.{first_where, first_repeated}},
   pick_meaning.{specs.Rows.{rows_where}, proofs.RowLaws.{rows_where-map}},
   join_meaning.specs.Pairs.{pairs_from, pair_of_entry},
@@ -16,21 +16,18 @@ module _ {X : Type 0} (p : X → Bool) where
   none_passes (y ∷ ys) zero d h lt e = grind (arith, false≢true)
   none_passes (y ∷ ys) (suc g) d h lt e = elim (p y) as (λ b. cond b (y ∷ filter p ys) (filter p ys) ≡ [] → ⊥) [ true ↦ λ n. cc | false ↦ λ n. none_passes ys g d n (omega (arith, lt)) e ] h
 
-  tail_empty : (y x : X) (ys : List X) → y ∷ ys ≡ x ∷ [] → ys ≡ []
-  tail_empty y x ys e = cc
-
   pub only_place : (xs : List X) (x : X) (g : ℕ) (d : X) → filter p xs ≡ x ∷ [] → g < length xs → p (slice_index_or xs g d) ≡ true → position_or_len p xs ≡ g
   only_place [] x g d h lt e = search
   only_place (y ∷ ys) x zero d h lt e = cc
   only_place (y ∷ ys) x (suc g) d h lt e =
       elim (p y) as (λ b. cond b (y ∷ filter p ys) (filter p ys) ≡ x ∷ [] → cond (not b) (1 + position_or_len p ys) 0 ≡ suc g) [
-        | true ↦ grind (arith, none_passes, tail_empty)
-        | false ↦ λ n. let here = only_place ys x g d n (omega (arith, lt)) e in omega (arith, here)
+        | true ↦ grind (arith, none_passes)
+        | false ↦ λ n. omega (arith, (only_place ys x g d n (omega (arith, lt)) e))
       ] h
 
 -- the entries of a key as pairs
 pub with_seen : {K : Type 0} (key : K) (rights : List ℕ) (lefts : List (Option ℕ)) → map pair_of_entry (flat_map (entries_with key rights) lefts) ≡ flat_map (pairs_with rights) lefts
-with_seen key rights [] = refl
+with_seen _ _ [] = refl
 with_seen key rights (l ∷ ls) = search (map-append, map-map, with_seen key rights ls)
 
 module _ {K : Type 0} (same : K → K → Bool) (laws : IsEquivalence same) (keys : List K) where
@@ -41,11 +38,11 @@ module _ {K : Type 0} (same : K → K → Bool) (laws : IsEquivalence same) (key
   IsKnown x = list_any (same x) keys ≡ true
 
   rows_coded : (k : K) (xs : List K) → All IsKnown xs → rows_where (same k) 0 xs ≡ rows_of_code (rank k) (map rank xs)
-  rows_coded k xs known = sym (rows_where-map IsKnown (λ n. rank k == n) (same k) rank (λ x h. sym (place_tells same laws keys k x h)) 0 xs known)
+  rows_coded k xs known = sym (rows_where-map IsKnown (λ n. rank k == n) _ _ (λ x h. grind (arith, place_tells)) 0 xs known)
 
   -- a row with the rows that it meets
   pub pairs_coded : (stays : Bool) (row : ℕ) (left right : List K) → All IsKnown right → pairs_from same stays row left right ≡ pairs_from nat_eq stays row (map rank left) (map rank right)
-  pairs_coded stays row [] right known = refl
+  pairs_coded _ _ [] _ _ = refl
   pairs_coded stays row (k ∷ ks) right known = search (rows_coded, pairs_coded stays (row + 1) ks right known)
 
   -- the first key that stands twice
@@ -55,7 +52,7 @@ module _ {K : Type 0} (same : K → K → Bool) (laws : IsEquivalence same) (key
 
     repeats : (row : ℕ) (xs : List K) → ((j : ℕ) → slice_index_or rows (row + j) d ≡ slice_index_or xs j d)
         → first_where twice xs ≡ option_map (λ r. slice_index_or rows r d) (repeated_from (map rank rows) row (map rank xs))
-    repeats row [] at = refl
+    repeats _ [] at = refl
     repeats row (x ∷ xs) at =
         let start : row ≡ row + 0 = omega arith in
         grind (arith, rows_coded, repeats (row + 1) xs (λ j. let next : row + 1 + j ≡ row + suc j = omega arith in ap (λ n. slice_index_or rows n d) next ∙ at (suc j)))
@@ -75,12 +72,12 @@ module _ {K : Type 0} (same : K → K → Bool) (laws : IsEquivalence same) (key
     rows_here n xs lt known = cc (rows_coded (key_at n) xs known, apart n lt)
 
     here : (n : ℕ) → n < length keys → map pair_of_entry (part (key_at n)) ≡ pairs_at (map rank left) (map rank right) n
-    here n lt = search (with_seen, rows_here)
+    here = search (with_seen, rows_here)
 
     outer_on : (ns : List ℕ) → All (λ n. n < length keys) ns → map pair_of_entry (flat_map part (map key_at ns)) ≡ flat_map (pairs_at (map rank left) (map rank right)) ns
-    outer_on [] all = refl
+    outer_on [] _ = refl
     outer_on (n ∷ ns) all =
-        map-append pair_of_entry (part (key_at n)) (flat_map part (map key_at ns))
+        map-append _ (part (key_at n)) (flat_map part (map key_at ns))
         ∙ (λ i. here n (All-head (λ m. m < length keys) n ns all) i ++ outer_on ns (All-tail (λ m. m < length keys) n ns all) i)
 
     pub outer_coded : map pair_of_entry (flat_map part keys) ≡ outer_pairs (length keys) (map rank left) (map rank right)
@@ -91,16 +88,13 @@ module _ (count code : ℕ) (codes : List ℕ) (rows : List (List ℕ)) (made : 
   pub bucket_there : code < length rows
   bucket_there = omega (arith, ap length made, length-map-range_with_len (λ c. rows_of_code c codes) 0 count, lt)
 
-  pub bucket_is : slice_index_or rows code [] ≡ rows_of_code code codes
-  bucket_is = grind (arith, get_or-map-range_with_len)
-
 -- one row more is counted, as far as a byte counts
 pub counts_more : (codes counts : List ℕ) (count i code n : ℕ) → i < length codes → code ≡ slice_index codes i → code < count → n ≡ min (slice_index counts code + 1) 255
     → AreCounts (take i codes) count counts → AreCounts (take (i + 1) codes) count (set counts code n)
-counts_more codes counts count i code n lt at below is so_far = (
+counts_more codes counts _ i code n lt at below is so_far = (
   search length-set,
   λ c inside.
-      let more = rows_more c codes i code lt (sym at) in
+      let more = rows_more c _ i _ lt (sym at) in
       let long : length (rows_of_code c (take i codes) ++ cond (c == code) (i ∷ []) []) ≡ length (rows_of_code c (take i codes)) + length (cond (c == code) (i ∷ []) []) = search length-append in
       let were = so_far.1 c inside in
       elim (c == code) as (λ b. (c == code) ≡ b → slice_index (set counts code n) c ≡ min (length (rows_of_code c (take (i + 1) codes))) 255) [
@@ -108,6 +102,3 @@ counts_more codes counts count i code n lt at below is so_far = (
         | false ↦ grind (arith, slice_index, get_or-set_other, eqb-false)
       ] refl,
 )
-
-pub told_twice : (counted n : ℕ) → counted ≡ min n 255 → nat_lt 1 counted ≡ nat_lt 1 n
-told_twice counted n is = grind (arith, cases_lt, lt-ltb, le-ltb)

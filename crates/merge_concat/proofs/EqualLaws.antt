@@ -14,9 +14,9 @@ abbrev pub has_labels_of : Bor AxisValue → Bor AxisValue → Bool
 has_labels_of first other = pointwise same_tuple first.now.tuples other.now.tuples
 
 pub labels_told : (a b : List (List Label)) (told : Bool) → Decides told (a ≡ b) → pointwise same_tuple a b ≡ told
-labels_told a b told is = search (same_from_decides, tuples_decide)
+labels_told = search (same_from_decides, tuples_decide)
 
 pub equal_told : (axes : List (Bor AxisValue)) (first : Bor AxisValue) (told : Bool) → 1 ≤ length axes → first ≡ slice_index_or axes 0 first → list_all (has_labels_of first) (take (length axes - 1) (drop 1 axes)) ≡ told
     → are_equal same_tuple (tuples_of_each axes) ≡ told
-equal_told [] first told some is all = search
-equal_told (axis ∷ axes) first told some is all = grind (arith, list_all-map (pointwise same_tuple axis.now.tuples) (λ a. a.now.tuples) axes, take_rest (axis ∷ axes) 1)
+equal_told [] = search
+equal_told (axis ∷ axes) = grind (arith, list_all-map (pointwise same_tuple axis.now.tuples) (λ a. a.now.tuples) axes, take_rest (axis ∷ axes) 1)

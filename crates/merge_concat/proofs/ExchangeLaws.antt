@@ -1,43 +1,28 @@
 -- The sides of a join exchanged, and two joins of the same sides.
 use Rattle.{
-  std.{proofs.{Common.{◌≡◌, ◌∙◌, ◌<◌, ◌≤◌, ◌&&◌, ap, refl, sym, subst, arith, ℕ, Bool, true, false, not, cond, List, [], ◌∷◌, map, filter, length, All, slice_index_or, Option, Some, None, inl, inr}, lemmas.{Bool.{false≢true, eqb-true, cases_lt}, List.Elements.{All-head, All-tail, All-map}}}, specs.List.{list_any}},
+  std.proofs.{Common.{◌≡◌, ◌∙◌, ◌<◌, ◌≤◌, refl, sym, subst, arith, ℕ, Bool, true, false, cond, List, [], ◌∷◌, map, filter, length, All, Option, Some, None, inl, inr}, lemmas.{Bool.{false≢true, eqb-true, cases_lt}, List.Elements.{All-head, All-tail, All-map}}},
   column_core.specs.Moves.{IsPlaceOf},
   join_meaning.specs.{declared.How.{How}, Pairs.{Pair, pair, exchanged}},
   cell_core.specs.declared.cell.Label.{Label},
   row_keys.{specs.Keys.{same_tuple}, proofs.PartnerLaws.{tuple_laws}},
-  merge_concat.{specs.{declared.pairs.Pairs.{Pairs}, Joining.{keeps_left, keeps_right, same_row, same_pair, how_often, once_if, turned, AreAlike, IsJoin, IsJoinOf, JoinsAreAlike, SidesExchange, ExchangeChangesOrder}}, proofs.OftenLaws.{often_exchanged}},
+  merge_concat.{specs.{declared.pairs.Pairs.{Pairs}, Joining.{same_pair, how_often, turned, AreAlike, IsJoin, IsJoinOf, JoinsAreAlike, SidesExchange, ExchangeChangesOrder}}, proofs.OftenLaws.{often_exchanged}},
 }
 
--- a row of the one side that stays is one of the other
-keeps_turned : (how : How) → keeps_right how ≡ keeps_left (turned how)
-keeps_turned x = grind arith
-
-turned_keeps : (how : How) → keeps_left how ≡ keeps_right (turned how)
-turned_keeps x = grind arith
-
 pub sides_exchange : {K : Type 0} (same : K → K → Bool) → ((a b : K) → same a b ≡ same b a) → SidesExchange same
-sides_exchange same symmetric how left right pairs join = record {
-  together = λ j i k inside lt. often_exchanged (pair (Some j) (Some i)) pairs ∙ join.together i j k lt inside ∙ ap once_if (symmetric (slice_index_or left i k) (slice_index_or right j k));
-  left_alone = λ j k lt.
-      often_exchanged (pair (Some j) None) pairs ∙ join.right_alone j k lt
-      ∙ ap (λ b. once_if (b && not (list_any (same (slice_index_or right j k)) left))) (keeps_turned how);
-  right_alone = λ i k lt.
-      often_exchanged (pair None (Some i)) pairs ∙ join.left_alone i k lt
-      ∙ ap (λ b. once_if (b && not (list_any (same (slice_index_or left i k)) right))) (turned_keeps how);
-  no_gaps = often_exchanged (pair None None) pairs ∙ join.no_gaps;
+sides_exchange _ symmetric how left right pairs join = record {
+  together = grind (arith, often_exchanged);
+  left_alone = grind (arith, often_exchanged);
+  right_alone = grind (arith, often_exchanged);
+  no_gaps = search often_exchanged;
   left_rows = All-map (λ p. IsPlaceOf (length right) p.left) exchanged pairs join.right_rows;
   right_rows = All-map (λ p. IsPlaceOf (length left) p.right) exchanged pairs join.left_rows;
 }
 
--- what has not a property of all pairs isn't among them
-same_row_is : (a b : Option ℕ) → same_row a b ≡ true → a ≡ b
-same_row_is x x1 e = grind (arith, false≢true, eqb-true)
-
 same_pair_is : (p q : Pair) → same_pair p q ≡ true → p ≡ q
-same_pair_is p q = grind (arith, same_row_is, false≢true)
+same_pair_is = grind (arith, false≢true, eqb-true)
 
 never : (P : Pair → Type 0) (p : Pair) → (P p → ⊥) → (ps : List Pair) → All P ps → how_often p ps ≡ 0
-never P p none [] all = refl
+never P p _ [] _ = refl
 never P p none (q ∷ ps) all = elim (same_pair p q) as (λ b. same_pair p q ≡ b → length (cond b (q ∷ filter (same_pair p) ps) (filter (same_pair p) ps)) ≡ 0) [
   | true ↦ λ e. absurd (none (subst P (sym (same_pair_is p q e)) (All-head P q ps all)))
   | false ↦ λ e. never P p none ps (All-tail P q ps all)
@@ -45,7 +30,7 @@ never P p none (q ∷ ps) all = elim (same_pair p q) as (λ b. same_pair p q ≡
 
 element : {K : Type 0} (xs : List K) (i : ℕ) → i < length xs → K
 element [] i lt = grind arith
-element (x ∷ xs) i lt = x
+element (x ∷ xs) i _ = x
 
 module _ {K : Type 0} (same : K → K → Bool) (how : How) (left right : List K) (ps qs : List Pair) (one : IsJoin same how left right ps) (other : IsJoin same how left right qs) where
   abbrev IsAlike : Option ℕ → Option ℕ → Type 0
@@ -62,26 +47,26 @@ module _ {K : Type 0} (same : K → K → Bool) (how : How) (left right : List K
       never (λ p. IsPlaceOf (length right) p.right) (pair a (Some j)) outside ps one.right_rows ∙ sym (search never)
 
   with_left : (i : ℕ) → i < length left → (b : Option ℕ) → IsAlike (Some i) b
-  with_left i lt None = let k = element left i lt in one.left_alone i k lt ∙ sym (other.left_alone i k lt)
+  with_left i lt None = let k = element _ i lt in one.left_alone i k lt ∙ sym (other.left_alone i k lt)
   with_left i lt (Some j) = elim (cases_lt j (length right)) as (λ w. IsAlike (Some i) (Some j)) [
-    | inl inside ↦ let k = element left i lt in one.together i j k lt inside ∙ sym (other.together i j k lt inside)
+    | inl inside ↦ let k = element _ i lt in one.together i j k lt inside ∙ sym (other.together i j k lt inside)
     | inr le ↦ behind_right (Some i) j le
   ]
 
   alike : (a b : Option ℕ) → IsAlike a b
   alike None None = search
   alike None (Some j) = elim (cases_lt j (length right)) as (λ w. IsAlike None (Some j)) [
-    | inl lt ↦ let k = element right j lt in one.right_alone j k lt ∙ sym (other.right_alone j k lt)
+    | inl lt ↦ let k = element _ j lt in one.right_alone j k lt ∙ sym (other.right_alone j k lt)
     | inr le ↦ behind_right None j le
   ]
   alike (Some i) b = grind (arith, cases_lt, with_left, behind_left)
 
 pub joins_alike : {K : Type 0} (same : K → K → Bool) → JoinsAreAlike same
-joins_alike same how left right ps qs one other p = alike same how left right ps qs one other p.left p.right
+joins_alike _ _ _ _ ps qs one other p = alike _ _ _ _ ps qs one other p.left _
 
 pub exchange_changes_order : {K : Type 0} (same : K → K → Bool) → ((a b : K) → same a b ≡ same b a) → ExchangeChangesOrder same
-exchange_changes_order same symmetric how left right ps qs one other = search (joins_alike, sides_exchange)
+exchange_changes_order = search (joins_alike, sides_exchange)
 
 -- what is made of the keys of two tables and of the same tables exchanged has the same pairs
 pub made_alike : (how : How) (left right : List (List Label)) (one other : Pairs) (a : IsJoinOf same_tuple how left right one) (b : IsJoinOf same_tuple (turned how) right left other) → AreAlike (map exchanged a.pairs) b.pairs
-made_alike how left right one other a b = search (exchange_changes_order, tuple_laws.symm)
+made_alike _ _ _ _ _ a b = search (exchange_changes_order, tuple_laws.symm)

@@ -28,7 +28,7 @@ module _ (texts : List Text) (how : How) (once : Validate) (left right : List (L
   repeated s key = record { side = s; key = key }
 
   on_side : (s : Side) (b : Bool) (rows : List (List Label)) (found : Option (List Label)) → found ≡ cond b (first_repeated same_tuple rows) None → repeated_on s same_tuple b rows ≡ option_map (repeated s) found
-  on_side s x rows found e = grind arith
+  on_side = grind arith
 
   -- the numbers of the keys, cut behind those of the left side
   module _ (b : Bool) (is : b ≡ sorted) (count : ℕ) (counted : count ≡ length (keys_of texts b left right)) (codes : List ℕ) (coded : codes ≡ map (rank texts b left right) (left ++ right))
@@ -67,13 +67,13 @@ module _ (texts : List Text) (how : How) (once : Validate) (left right : List (L
     with l r = unless_repeated (or_else (option_map (repeated side.left) l) (option_map (repeated side.right) r)) (within_limit (key_pairs same_tuple (tuple_less texts) how left right))
 
     pub refused_left : (key : List Label) → found_left ≡ Some key → meant ≡ Err (not_one_to_one (repeated side.left key))
-    refused_left key e = cc meant_is
+    refused_left _ e = cc meant_is
 
     pub refused_right : (key : List Label) → found_left ≡ None → found_right ≡ Some key → meant ≡ Err (not_one_to_one (repeated side.right key))
-    refused_right key none e = search meant_is
+    refused_right _ none e = search meant_is
 
     pub allowed : found_left ≡ None → found_right ≡ None → meant ≡ within_limit (code_pairs how count of_left of_right)
-    allowed l r = grind (arith, meant_is, pairs_are, keys_counted, left_is, right_is)
+    allowed = grind (arith, meant_is, pairs_are, keys_counted, left_is, right_is)
 
 -- keys of both sides have four labels at most
 module _ (left right : List (List Label)) (alike : HaveLevels (levels_of (left ++ right)) (left ++ right)) where
@@ -87,10 +87,10 @@ module _ (left right : List (List Label)) (alike : HaveLevels (levels_of (left +
   few_right few k d lt = omega (arith, all_right IsAlike left right alike k d lt, few)
 
   pub alike_right : HaveLevels (levels_of right) right
-  alike_right k d lt = all_right IsAlike left right alike k d lt ∙ sym (all_right IsAlike left right alike 0 (Na ∷ []) (omega (arith, lt)))
+  alike_right k d lt = all_right IsAlike left _ alike k d lt ∙ sym (all_right IsAlike left _ alike 0 (Na ∷ []) (omega (arith, lt)))
 
 -- what is answered is a join
 pub law_of : (texts : List Text) (how : How) (once : Validate) (left right : List (List Label)) (result : Result Pairs MergeFault)
     → JoinsBy result (joined same_tuple (tuple_less texts) how once left right) → IfOk result (IsJoinOf same_tuple how left right)
-law_of texts how once left right (Ok made) answer = search (answer_is_join, tuple_laws, tuple_decides, tuple_weak)
-law_of texts how once left right (Err fault) answer = tt
+law_of _ _ _ _ _ (Ok made) answer = search (answer_is_join, tuple_laws, tuple_decides, tuple_weak)
+law_of _ _ _ _ _ (Err fault) _ = tt

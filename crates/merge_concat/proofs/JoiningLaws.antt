@@ -8,7 +8,7 @@ use Rattle.{
   join_meaning.specs.{declared.{How.{How, TheVariants.{Inner, Left, Right, Outer}}, Validate.{Validate}}, Pairs.{Pair, pair, exchanged, partners, pairs_from, key_pairs, pair_of_entry, RepeatedKey, JoinRefusal, repeated_key, unless_repeated, within_limit, joined}},
   row_keys.proofs.{KeyLaws.{any_at}, RecodeLaws.{All-distinct}},
   label_align.proofs.OuterJoinLaws.{in_order_keeps, once},
-  merge_concat.{specs.{Codes.{pairs_with, pairs_of}, Joining.{how_often, once_if, IsJoin}}, proofs.{CodeLaws.{with_seen}, OftenLaws.{row_often, or_gap_there, gap_there, partner_there, partner_gap, never, met_there, often_exchanged, often_product, often_parts}}},
+  merge_concat.{specs.{Codes.{pairs_of}, Joining.{how_often, once_if, IsJoin}}, proofs.{CodeLaws.{with_seen}, OftenLaws.{row_often, or_gap_there, gap_there, partner_there, partner_gap, never, met_there, often_exchanged, often_product, often_parts}}},
 }
 
 abbrev AreInside : ℕ → ℕ → Pair → Type 0
@@ -21,13 +21,13 @@ gaps_inside n (r ∷ rows) inside =
     (All-map (IsPlaceOf n) Some rows (All-tail (λ row. row < n) r rows inside))
 
 partners_inside : (stays : Bool) (n : ℕ) (rows : List ℕ) → All (λ row. row < n) rows → All (IsPlaceOf n) (partners stays rows)
-partners_inside x n rows inside = grind (arith, gaps_inside)
+partners_inside = grind (arith, gaps_inside)
 
 module _ {K : Type 0} (same : K → K → Bool) (stays : Bool) (right : List K) where
   from_inside : (n at : ℕ) (keys : List K) → at + length keys ≡ n → All (AreInside n (length right)) (pairs_from same stays at keys right)
-  from_inside n at [] size = grind arith
+  from_inside n _ [] size = grind arith
   from_inside n at (key ∷ keys) size =
-      all_append (AreInside n (length right)) (map (pair (Some at)) (partners stays (rows_where (same key) 0 right))) (pairs_from same stays (at + 1) keys right)
+      all_append (AreInside n (length right)) _ _
       (All-map (AreInside n (length right)) (pair (Some at)) (partners stays (rows_where (same key) 0 right))
       (λ k d lt. (omega (arith, size), search (partners_inside, rows_inside))))
       (from_inside n (at + 1) keys (omega (arith, size)))
@@ -41,16 +41,16 @@ module _ {K : Type 0} (same : K → K → Bool) (stays : Bool) (right : List K) 
     met b i d lt = let at : i ≡ 0 + i = omega arith in grind (arith, met_there)
 
     pub together : (i j : ℕ) (d : K) → i < length left → j < length right → how_often (pair (Some i) (Some j)) pairs ≡ once_if (same (slice_index_or left i d) (slice_index_or right j d))
-    together i j d lt inside = met (Some j) i d lt ∙ partner_there (same (slice_index_or left i d)) stays j d right inside
+    together i j d lt inside = met (Some j) i d lt ∙ partner_there _ stays j d _ inside
 
     pub alone : (i : ℕ) (d : K) → i < length left → how_often (pair (Some i) None) pairs ≡ once_if (stays && not (list_any (same (slice_index_or left i d)) right))
-    alone i d lt = met None i d lt ∙ partner_gap (same (slice_index_or left i d)) stays right
+    alone i d lt = met None i d lt ∙ partner_gap _ stays right
 
     pub nothing : (b : Option ℕ) → how_often (pair None b) pairs ≡ 0
-    nothing b = search never
+    nothing = search never
 
     pub inside : All (AreInside (length left) (length right)) pairs
-    inside = from_inside (length left) 0 left (omega arith)
+    inside = from_inside _ 0 _ (omega arith)
 
 -- the pairs of a key, key by key
 module _ {K : Type 0} (same less : K → K → Bool) (laws : IsEquivalence same) (decides : (a b : K) → Decides (same a b) (a ≡ b)) (weak : IsStrictWeakOrder less) (left right : List K) where
@@ -70,7 +70,7 @@ module _ {K : Type 0} (same less : K → K → Bool) (laws : IsEquivalence same)
   outer = flat_map of_key keys
 
   often : (a b : Option ℕ) → how_often (pair a b) outer ≡ sum_by (λ key. row_often a (lefts key) * row_often b (rights key)) keys
-  often a b = often_parts (pair a b) of_key keys ∙ sums (λ key. how_often (pair a b) (of_key key)) (λ key. row_often a (lefts key) * row_often b (rights key)) (λ key. often_product a b (lefts key) (rights key)) keys
+  often a b = often_parts _ of_key keys ∙ sums (λ key. how_often (pair a b) (of_key key)) (λ key. row_often a (lefts key) * row_often b (rights key)) (λ key. often_product a b _ _) keys
     where
       sums : (f g : K → ℕ) → ((key : K) → f key ≡ g key) → (ks : List K) → sum_by f ks ≡ sum_by g ks
       sums f g e [] = refl
@@ -80,11 +80,11 @@ module _ {K : Type 0} (same less : K → K → Bool) (laws : IsEquivalence same)
   IsThere key = list_any (same key) (left ++ right) ≡ true
 
   stands_once : (key : K) → IsThere key → filter (same key) keys ≡ key ∷ []
-  stands_once key there = grind (arith, in_order_keeps, once)
+  stands_once = grind (arith, in_order_keeps, once)
 
   -- what is counted at one key alone
   at_one : (key : K) (f g : K → ℕ) → ((k : K) → f k ≡ cond (same key k) (g k) 0) → (ks : List K) → sum_by f ks ≡ sum_by g (filter (same key) ks)
-  at_one key f g e [] = refl
+  at_one _ f g e [] = refl
   at_one key f g e (k ∷ ks) = grind (arith, sum_by-cons, at_one key f g e ks)
 
   at_key : (key : K) (f g : K → ℕ) → IsThere key → ((k : K) → f k ≡ cond (same key k) (g k) 0) → sum_by f keys ≡ g key
@@ -98,17 +98,17 @@ module _ {K : Type 0} (same less : K → K → Bool) (laws : IsEquivalence same)
     left_key = slice_index_or left i d
 
     left_there : IsThere left_key
-    left_there = any_front (same left_key) left right (any_at (same left_key) left i d lt (laws.refl left_key))
+    left_there = any_front _ left right (any_at _ _ i d lt (laws.refl left_key))
       where
         any_front : (p : K → Bool) (xs ys : List K) → list_any p xs ≡ true → list_any p (xs ++ ys) ≡ true
-        any_front p [] ys e = absurd (false≢true e)
+        any_front p [] _ e = absurd (false≢true e)
         any_front p (x ∷ xs) ys e = elim (p x) as (λ b. (b || list_any p xs) ≡ true → (b || list_any p (xs ++ ys)) ≡ true) [ true ↦ λ h. refl | false ↦ λ h. any_front p xs ys h ] e
 
     left_only : (b : Option ℕ) → how_often (pair (Some i) b) outer ≡ row_often b (rights left_key)
     left_only b =
         often (Some i) b
-        ∙ at_key left_key (λ key. row_often (Some i) (lefts key) * row_often b (rights key)) (λ key. row_often b (rights key)) left_there
-        (λ k. ap (λ n. n * row_often b (rights k)) (or_gap_there (same k) i d left lt ∙ ap once_if (turned k left_key))
+        ∙ at_key _ (λ key. row_often (Some i) (lefts key) * row_often b (rights key)) (λ key. row_often b (rights key)) left_there
+        (λ k. ap (λ n. n * row_often b (rights k)) (or_gap_there _ i d _ lt ∙ ap once_if (turned k _))
         ∙ (grind (arith, row_often)))
 
   module _ (j : ℕ) (d : K) (lt : j < length right) where
@@ -116,31 +116,31 @@ module _ {K : Type 0} (same less : K → K → Bool) (laws : IsEquivalence same)
     right_key = slice_index_or right j d
 
     right_there : IsThere right_key
-    right_there = any_back (same right_key) left right (any_at (same right_key) right j d lt (laws.refl right_key))
+    right_there = any_back _ left right (any_at _ _ j d lt (laws.refl right_key))
       where
         any_back : (p : K → Bool) (xs ys : List K) → list_any p ys ≡ true → list_any p (xs ++ ys) ≡ true
-        any_back p [] ys e = e
+        any_back p [] _ e = e
         any_back p (x ∷ xs) ys e = grind (arith, any_back p xs ys e)
 
     right_only : how_often (pair None (Some j)) outer ≡ row_often None (lefts right_key)
     right_only =
         often None (Some j)
-        ∙ at_key right_key (λ key. row_often None (lefts key) * row_often (Some j) (rights key)) (λ key. row_often None (lefts key)) right_there
-        (λ k. ap (λ n. row_often None (lefts k) * n) (or_gap_there (same k) j d right lt ∙ ap once_if (turned k right_key))
+        ∙ at_key _ (λ key. row_often None (lefts key) * row_often (Some j) (rights key)) (λ key. row_often None (lefts key)) right_there
+        (λ k. ap (λ n. row_often None (lefts k) * n) (or_gap_there _ j d _ lt ∙ ap once_if (turned k _))
         ∙ (grind (arith, row_often)))
 
   keys_there : All IsThere keys
   keys_there =
-      all_in_order IsThere less (distinct same (left ++ right))
-      (All-distinct IsThere same (left ++ right) (λ k d lt. any_at (same (slice_index_or (left ++ right) k d)) (left ++ right) k d lt (laws.refl (slice_index_or (left ++ right) k d))))
+      all_in_order IsThere _ (distinct same (left ++ right))
+      (All-distinct IsThere same _ (λ k d lt. any_at _ _ k d lt (laws.refl (slice_index_or (left ++ right) k d))))
 
   -- a key of either side has a row
   no_gaps_at : (key : K) → IsThere key → row_often None (lefts key) * row_often None (rights key) ≡ 0
   no_gaps_at key there =
-      (λ i. gap_there (same key) 0 left i * gap_there (same key) 0 right i) ∙ either (list_any (same key) left) (list_any (same key) right) (sym (any_both (same key) left right) ∙ there)
+      (λ i. gap_there (same key) 0 left i * gap_there (same key) 0 right i) ∙ either _ _ (sym (any_both _ left right) ∙ there)
     where
       any_both : (p : K → Bool) (xs ys : List K) → list_any p (xs ++ ys) ≡ (list_any p xs || list_any p ys)
-      any_both p [] ys = refl
+      any_both p [] _ = refl
       any_both p (x ∷ xs) ys = grind (arith, any_both p xs ys)
 
       either : (a b : Bool) → (a || b) ≡ true → once_if (not a) * once_if (not b) ≡ 0
@@ -149,18 +149,18 @@ module _ {K : Type 0} (same less : K → K → Bool) (laws : IsEquivalence same)
       either false false e = absurd (false≢true e)
 
   no_gaps : how_often (pair None None) outer ≡ 0
-  no_gaps = often None None ∙ none keys keys_there
+  no_gaps = often None None ∙ none _ keys_there
     where
       none : (ks : List K) → All IsThere ks → sum_by (λ key. row_often None (lefts key) * row_often None (rights key)) ks ≡ 0
-      none [] all = refl
+      none [] _ = refl
       none (k ∷ ks) all =
           sum_by-cons (λ key. row_often None (lefts key) * row_often None (rights key)) k ks
           ∙ (λ i. no_gaps_at k (All-head IsThere k ks all) i + none ks (All-tail IsThere k ks all) i)
 
   outer_inside : All (AreInside (length left) (length right)) outer
   outer_inside =
-      all_flat (AreInside (length left) (length right)) (λ key. Unit {0}) of_key
-      (λ key _. all_flat (AreInside (length left) (length right)) (IsPlaceOf (length left)) (pairs_with (rows_where (same key) 0 right))
+      all_flat (AreInside (length left) (length right)) (λ key. Unit {0}) _
+      (λ key _. all_flat (AreInside (length left) (length right)) (IsPlaceOf (length left)) _
       (λ l there. All-map (AreInside (length left) (length right)) (pair l) (rights key) (λ k d lt. (search (gaps_inside, rows_inside))))
       (lefts key) (search (gaps_inside, rows_inside)))
       keys (λ k d lt. tt)
@@ -168,8 +168,8 @@ module _ {K : Type 0} (same less : K → K → Bool) (laws : IsEquivalence same)
   pub outer_is : IsJoin same Outer left right outer
   outer_is = record {
     together = grind (arith, left_only, or_gap_there);
-    left_alone = λ i d lt. left_only i d lt None ∙ gap_there (same (slice_index_or left i d)) 0 right;
-    right_alone = λ j d lt. right_only j d lt ∙ gap_there (same (slice_index_or right j d)) 0 left;
+    left_alone = λ i d lt. left_only i d lt None ∙ gap_there _ 0 right;
+    right_alone = λ j d lt. right_only j d lt ∙ gap_there _ 0 left;
     no_gaps = no_gaps;
     left_rows = λ k d lt. (outer_inside k d lt).0;
     right_rows = λ k d lt. (outer_inside k d lt).1;
@@ -177,8 +177,8 @@ module _ {K : Type 0} (same less : K → K → Bool) (laws : IsEquivalence same)
 
   pub inner_is : IsJoin same Inner left right (pairs_from same false 0 left right)
   inner_is = record {
-    together = together same false right left;
-    left_alone = alone same false right left;
+    together = together _ false _ _;
+    left_alone = alone _ false _ _;
     right_alone = search nothing;
     no_gaps = search nothing;
     left_rows = grind (arith, inside);
@@ -187,8 +187,8 @@ module _ {K : Type 0} (same less : K → K → Bool) (laws : IsEquivalence same)
 
   pub left_is : IsJoin same Left left right (pairs_from same true 0 left right)
   left_is = record {
-    together = together same true right left;
-    left_alone = alone same true right left;
+    together = together _ true _ _;
+    left_alone = alone _ true _ _;
     right_alone = search nothing;
     no_gaps = search nothing;
     left_rows = grind (arith, inside);
@@ -204,7 +204,7 @@ module _ {K : Type 0} (same less : K → K → Bool) (laws : IsEquivalence same)
   right_is = record {
     together = grind (arith, often_exchanged, together, turned);
     left_alone = search (often_exchanged, nothing);
-    right_alone = λ j d lt. often_exchanged (pair None (Some j)) (pairs_from same true 0 right left) ∙ alone same true left right j d lt;
+    right_alone = λ j d lt. often_exchanged (pair None (Some j)) (pairs_from same true 0 right left) ∙ alone _ true _ _ j d lt;
     no_gaps = search (often_exchanged, nothing);
     left_rows = λ k d lt. (turned_inside k d lt).0;
     right_rows = λ k d lt. (turned_inside k d lt).1;
@@ -216,7 +216,7 @@ module _ {K : Type 0} (same less : K → K → Bool) (laws : IsEquivalence same)
 
   -- whichever rows stay
   pub pairs_are_join : (how : How) → IsJoin same how left right (key_pairs same less how left right)
-  pairs_are_join x = grind (arith, inner_is, left_is, right_is, seen, outer_is)
+  pairs_are_join = grind (arith, inner_is, left_is, right_is, seen, outer_is)
 
   -- what a join answers is one
   module _ (how : How) (once : Validate) where
@@ -228,7 +228,7 @@ module _ {K : Type 0} (same less : K → K → Bool) (laws : IsEquivalence same)
     pairs_in (Err refusal) = pairs_meant
 
     kept : (repeated : Option (RepeatedKey K)) → pairs_in (unless_repeated repeated (within_limit pairs_meant)) ≡ pairs_meant
-    kept x = grind arith
+    kept = grind arith
 
     pub answer_is_join : (pairs : List Pair) → joined same less how once left right ≡ Ok pairs → IsJoin same how left right pairs
-    answer_is_join ps e = grind (arith, kept (repeated_key same once left right), pairs_are_join how)
+    answer_is_join = grind (arith, kept (repeated_key same once left right), pairs_are_join how)

@@ -5,7 +5,7 @@ use Rattle.{
   meaning.specs.{Text.{Text}, Reduce.{distinct}},
   sorting.specs.Sorting.{in_order},
   align_meaning.{specs.Targets.{first_repeated}, proofs.OrderLaws.{all_in_order}},
-  join_meaning.specs.{declared.How.{How, TheVariants.{Inner, Left, Right, Outer}}, Pairs.{exchanged, key_pairs}},
+  join_meaning.specs.{declared.How.{How, TheVariants.{Inner, Left, Right, Outer}}, Pairs.{key_pairs}},
   row_keys.{specs.Keys.{same_tuple, place_among}, proofs.{KeyLaws.{any_at, position_in}, RecodeLaws.{All-distinct}, PartnerLaws.{tuple_laws}}},
   label_align.{specs.Tuples.{tuple_less}, proofs.{SameLaws.{tuple_decides}, LawOfJoins.{tuple_weak}, OuterJoinLaws.{in_order_keeps, once}}},
   group_meaning.specs.Keys.{ordered_if},
@@ -15,10 +15,10 @@ use Rattle.factorize.proofs.KeyNumberLaws as numbers
 use Rattle.merge_concat.proofs.CodeLaws as law
 
 pub all_left : {X : Type 0} (P : X → Type 0) (xs ys : List X) → All P (xs ++ ys) → All P xs
-all_left P xs ys all = subst (All P) (take-append_seam xs ys) (All-take P (length xs) (xs ++ ys) all)
+all_left P xs ys all = subst (All P) (take-append_seam xs ys) (All-take P (length xs) _ all)
 
 pub all_right : {X : Type 0} (P : X → Type 0) (xs ys : List X) → All P (xs ++ ys) → All P ys
-all_right P xs ys all = subst (All P) (drop-append_seam xs ys) (All-drop P (length xs) (xs ++ ys) all)
+all_right P xs ys all = subst (All P) (drop-append_seam xs ys) (All-drop P (length xs) _ all)
 
 module _ (texts : List Text) (sorted : Bool) (left right : List (List Label)) where
   abbrev rows : List (List Label)
@@ -34,41 +34,41 @@ module _ (texts : List Text) (sorted : Bool) (left right : List (List Label)) wh
   IsKnown key = list_any (same_tuple key) keys ≡ true
 
   keys_are : keys ≡ ordered_if sorted (tuple_less texts) (distinct same_tuple rows)
-  keys_are = numbers.keys_are texts sorted rows
+  keys_are = numbers.keys_are _ _ rows
 
   stands_once : (key : List Label) → list_any (same_tuple key) rows ≡ true → filter (same_tuple key) keys ≡ key ∷ []
   stands_once key stands =
       ap (filter (same_tuple key)) keys_are
       ∙ (elim sorted as (λ b. filter (same_tuple key) (cond b (in_order (tuple_less texts) (distinct same_tuple rows)) (distinct same_tuple rows)) ≡ key ∷ []) [
-        | true ↦ in_order_keeps same_tuple (tuple_less texts) tuple_decides (tuple_weak texts) key (distinct same_tuple rows) ∙ once same_tuple (tuple_less texts) tuple_decides (tuple_weak texts) key rows stands
-        | false ↦ once same_tuple (tuple_less texts) tuple_decides (tuple_weak texts) key rows stands
+        | true ↦ in_order_keeps _ _ tuple_decides (tuple_weak texts) _ (distinct same_tuple rows) ∙ once _ _ tuple_decides (tuple_weak texts) key rows stands
+        | false ↦ once same_tuple _ tuple_decides (tuple_weak texts) key rows stands
       ])
 
   abbrev IsThere : List Label → Type 0
   IsThere key = list_any (same_tuple key) rows ≡ true
 
   rows_there : All IsThere rows
-  rows_there k d lt = grind (arith, any_at, tuple_laws.refl)
+  rows_there = grind (arith, any_at, tuple_laws.refl)
 
   keys_there : All IsThere keys
   keys_there =
       subst (All IsThere) (sym keys_are)
       (elim sorted as (λ b. All IsThere (cond b (in_order (tuple_less texts) (distinct same_tuple rows)) (distinct same_tuple rows))) [
-        | true ↦ all_in_order IsThere (tuple_less texts) (distinct same_tuple rows) (All-distinct IsThere same_tuple rows rows_there)
-        | false ↦ All-distinct IsThere same_tuple rows rows_there
+        | true ↦ all_in_order IsThere _ (distinct same_tuple rows) (All-distinct IsThere same_tuple _ rows_there)
+        | false ↦ All-distinct IsThere same_tuple _ rows_there
       ])
 
   rows_known : All IsKnown rows
-  rows_known = numbers.rows_known texts sorted rows
+  rows_known = numbers.rows_known texts sorted _
 
   pub left_known : All IsKnown left
-  left_known = all_left IsKnown left right rows_known
+  left_known = all_left IsKnown _ _ rows_known
 
   pub right_known : All IsKnown right
-  right_known = all_right IsKnown left right rows_known
+  right_known = all_right IsKnown _ _ rows_known
 
   apart : (g : ℕ) → g < length keys → rank (slice_index_or keys g []) ≡ g
-  apart g lt = let key = slice_index_or keys g [] in only_place (same_tuple key) keys key g [] (stands_once key (keys_there g [] lt)) lt (tuple_laws.refl key)
+  apart g lt = let key = slice_index_or keys g [] in only_place _ keys key g [] (stands_once key (keys_there g [] lt)) lt (tuple_laws.refl key)
 
   -- the numbers of either side
   module _ (codes part : List ℕ) (n : ℕ) (coded : codes ≡ map rank rows) (size : n ≡ length left) where
@@ -79,24 +79,24 @@ module _ (texts : List Text) (sorted : Bool) (left right : List (List Label)) wh
     long = search length-map
 
     pub left_is : part ≡ take n codes → part ≡ map rank left
-    left_is is = grind (arith, long, parted, take-append_seam)
+    left_is = grind (arith, long, parted, take-append_seam)
 
     pub right_is : part ≡ drop n codes → part ≡ map rank right
-    right_is is = grind (arith, long, parted, drop-append_seam)
+    right_is = grind (arith, long, parted, drop-append_seam)
 
   pub below : (part : List ℕ) (m : ℕ) (side : List (List Label)) → All IsKnown side → part ≡ map rank side → m ≡ length keys → All (λ c. c < m) part
-  below part m side known are counted = grind (arith, All-map (λ c. c < length keys) rank side (λ k d lt. position_in (same_tuple (slice_index_or side k d)) keys (known k d lt)))
+  below _ m side known are counted = grind (arith, All-map (λ c. c < length keys) rank side (λ k d lt. position_in (same_tuple (slice_index_or side k d)) keys (known k d lt)))
 
   -- the first key that stands twice
   pub repeats_are : (b : Bool) (side : List (List Label)) (part : List ℕ) → All IsKnown side → part ≡ map rank side → repeated_in b side part ≡ cond b (first_repeated same_tuple side) None
-  repeats_are true side part known are = cc (law.repeated_coded same_tuple tuple_laws keys side known [])
-  repeats_are false side part known are = refl
+  repeats_are true side _ known are = cc (law.repeated_coded same_tuple tuple_laws keys side known [])
+  repeats_are false _ _ _ _ = refl
 
 -- the pairs of keys are those of their numbers
 pub pairs_are : (texts : List Text) (how : How) (left right : List (List Label))
     → key_pairs same_tuple (tuple_less texts) how left right
     ≡ code_pairs how (length (keys_of texts (is_outer how) left right)) (map (rank texts (is_outer how) left right) left) (map (rank texts (is_outer how) left right) right)
-pairs_are texts Inner left right = search (law.pairs_coded, tuple_laws, right_known)
-pairs_are texts Left left right = search (law.pairs_coded, tuple_laws, right_known)
-pairs_are texts Right left right = ap (map exchanged) (search (law.pairs_coded, tuple_laws, left_known))
+pairs_are _ Inner _ _ = search (law.pairs_coded, tuple_laws, right_known)
+pairs_are _ Left _ _ = search (law.pairs_coded, tuple_laws, right_known)
+pairs_are _ Right _ _ = ap (map _) (search (law.pairs_coded, tuple_laws, left_known))
 pairs_are texts Outer left right = cc (keys_are texts true left right, law.outer_coded same_tuple tuple_laws (keys_of texts true left right) [] (apart texts true left right) left right (left_known texts true left right) (right_known texts true left right))

@@ -12,13 +12,13 @@ module _ {X : Type 0} where
   count p xs = length (filter p xs)
 
   pub count_append : (p : X → Bool) (xs ys : List X) → count p (xs ++ ys) ≡ count p xs + count p ys
-  count_append p xs ys = search (filter-append, length-append)
+  count_append = search (filter-append, length-append)
 
   pub count_cons : (p : X → Bool) (x : X) (xs : List X) → count p (x ∷ xs) ≡ cond (p x) 1 0 + count p xs
-  count_cons p x xs = grind arith
+  count_cons = grind arith
 
   pub count_same : (p q : X → Bool) → ((x : X) → p x ≡ q x) → (xs : List X) → count p xs ≡ count q xs
-  count_same p q same [] = refl
+  count_same p q _ [] = refl
   count_same p q same (x ∷ xs) = grind (arith, count_cons, count_same p q same xs)
 
   pub count_none : (xs : List X) → count (λ x. false) xs ≡ 0
@@ -35,7 +35,7 @@ row_often r rows = length (filter (same_row r) rows)
 -- a row with rows of the other side
 pub with_row : (a b l : Option ℕ) (rows : List (Option ℕ)) → how_often (pair a b) (map (pair l) rows) ≡ cond (same_row a l) (row_often b rows) 0
 with_row a b l rows =
-    count_map (same_pair (pair a b)) (pair l) rows
+    count_map (same_pair (pair a b)) _ _
     ∙ (elim (same_row a l) as (λ c. length (filter (λ r. c && same_row b r) rows) ≡ cond c (row_often b rows) 0) [ true ↦ refl | false ↦ count_none rows ])
 
 -- a row among the rows that pass
@@ -44,18 +44,18 @@ module _ {X : Type 0} (p : X → Bool) where
   among j at xs = row_often (Some j) (map Some (rows_where p at xs))
 
   among_cons : (j at : ℕ) (x : X) (xs : List X) → among j at (x ∷ xs) ≡ cond (p x) (cond (nat_eq j at) 1 0) 0 + among j (at + 1) xs
-  among_cons j at x xs = grind (arith, nat_eq, count_cons)
+  among_cons = grind (arith, nat_eq, count_cons)
 
   not_here : (j at : ℕ) (b : Bool) → nat_eq j at ≡ false → ◌≡◌ {A = ℕ} (cond b (cond (nat_eq j at) 1 0) 0) 0
-  not_here j at x e = grind arith
+  not_here = grind arith
 
   before : (j at : ℕ) (xs : List X) → j < at → among j at xs ≡ 0
-  before j at [] lt = refl
+  before j _ [] _ = refl
   before j at (x ∷ xs) lt = grind (arith, nat_eq, ne_eqb, among_cons, not_here, before j (at + 1) xs (omega (arith, lt)))
 
   pub row_there : (at k : ℕ) (d : X) (xs : List X) → k < length xs → among (at + k) at xs ≡ once_if (p (slice_index_or xs k d))
-  row_there at k d [] lt = grind arith
-  row_there at zero d (x ∷ xs) lt = grind (arith, nat_eq, eq-eqb, among_cons, before)
+  row_there _ k d [] lt = grind arith
+  row_there _ zero d (x ∷ xs) lt = grind (arith, nat_eq, eq-eqb, among_cons, before)
   row_there at (suc k) d (x ∷ xs) lt = grind (arith, nat_eq, ne_eqb, among_cons, not_here, row_there (at + 1) k d xs (omega (arith, lt)))
 
   no_gap : (rows : List ℕ) → row_often None (map Some rows) ≡ 0
@@ -63,23 +63,23 @@ module _ {X : Type 0} (p : X → Bool) where
   no_gap (r ∷ rows) = no_gap rows
 
   some_or_gap : (j : ℕ) (rows : List ℕ) → row_often (Some j) (or_gap rows) ≡ row_often (Some j) (map Some rows)
-  some_or_gap j x = grind arith
+  some_or_gap = grind arith
 
   pub gap_there : (at : ℕ) (xs : List X) → row_often None (or_gap (rows_where p at xs)) ≡ once_if (not (list_any p xs))
-  gap_there at [] = refl
+  gap_there _ [] = refl
   gap_there at (x ∷ xs) = grind (arith, no_gap, gap_there (at + 1) xs)
 
   -- and with a gap where none passes
   pub or_gap_there : (k : ℕ) (d : X) (xs : List X) → k < length xs → row_often (Some k) (or_gap (rows_where p 0 xs)) ≡ once_if (p (slice_index_or xs k d))
-  or_gap_there k d xs lt =
+  or_gap_there k d _ lt =
       let same : k ≡ 0 + k = omega arith in
       grind (arith, some_or_gap, row_there)
 
   pub partner_there : (stays : Bool) (k : ℕ) (d : X) (xs : List X) → k < length xs → row_often (Some k) (partners stays (rows_where p 0 xs)) ≡ once_if (p (slice_index_or xs k d))
-  partner_there x k d xs lt = grind (arith, or_gap_there, some_or_gap)
+  partner_there = grind (arith, or_gap_there, some_or_gap)
 
   pub partner_gap : (stays : Bool) (xs : List X) → row_often None (partners stays (rows_where p 0 xs)) ≡ once_if (stays && not (list_any p xs))
-  partner_gap x xs = grind (arith, gap_there, no_gap)
+  partner_gap = grind (arith, gap_there, no_gap)
 
 -- a pair among the pairs of a side's rows
 module _ {K : Type 0} (same : K → K → Bool) (stays : Bool) (right : List K) (b : Option ℕ) where
@@ -90,31 +90,31 @@ module _ {K : Type 0} (same : K → K → Bool) (stays : Bool) (right : List K) 
   often a at left = how_often (pair a b) (pairs_from same stays at left right)
 
   often_cons : (a : Option ℕ) (at : ℕ) (key : K) (keys : List K) → often a at (key ∷ keys) ≡ cond (same_row a (Some at)) (row_often b (met key)) 0 + often a (at + 1) keys
-  often_cons a at key keys = search (count_append, with_row)
+  often_cons = search (count_append, with_row)
 
   pub never : (at : ℕ) (keys : List K) → often None at keys ≡ 0
-  never at [] = refl
+  never _ [] = refl
   never at (key ∷ keys) = omega (arith, often_cons None at key keys, never (at + 1) keys)
 
   earlier : (i at : ℕ) (keys : List K) → i < at → often (Some i) at keys ≡ 0
-  earlier i at [] lt = refl
+  earlier i _ [] _ = refl
   earlier i at (key ∷ keys) lt = grind (arith, nat_eq, ne_eqb, often_cons, earlier i (at + 1) keys (omega (arith, lt)))
 
   pub met_there : (at k : ℕ) (d : K) (keys : List K) → k < length keys → often (Some (at + k)) at keys ≡ row_often b (met (slice_index_or keys k d))
-  met_there at k d [] lt = grind arith
-  met_there at zero d (key ∷ keys) lt = grind (arith, nat_eq, eq-eqb, often_cons, earlier)
+  met_there _ k d [] lt = grind arith
+  met_there _ zero d (key ∷ keys) lt = grind (arith, nat_eq, eq-eqb, often_cons, earlier)
   met_there at (suc k) d (key ∷ keys) lt = grind (arith, nat_eq, ne_eqb, often_cons, met_there (at + 1) k d keys (omega (arith, lt)))
 
 -- the sides exchanged
 both : (a b : Bool) → (a && b) ≡ (b && a)
-both x x1 = grind arith
+both = grind arith
 
 pub often_exchanged : (p : Pair) (ps : List Pair) → how_often p (map exchanged ps) ≡ how_often (exchanged p) ps
-often_exchanged p ps = search (count_map, count_same, both)
+often_exchanged = search (count_map, count_same, both)
 
 -- each of some left rows with each of some right rows
 pub often_product : (a b : Option ℕ) (lefts rights : List (Option ℕ)) → how_often (pair a b) (flat_map (λ l. map (pair l) rights) lefts) ≡ row_often a lefts * row_often b rights
-often_product a b [] rights = omega arith
+often_product a b [] _ = omega arith
 often_product a b (l ∷ ls) rights = search (rules, count_append, with_row, count_cons, often_product a b ls rights)
 
 pub often_parts : {X : Type 0} (p : Pair) (f : X → List Pair) (xs : List X) → how_often p (flat_map f xs) ≡ sum_by (λ x. how_often p (f x)) xs

@@ -1,49 +1,39 @@
 -- More pairs, and then more.
 use Rattle.{
-  std.{proofs.{Common.{◌≡◌, ◌<◌, ◌++◌, ◌∷◌, [], ◌+◌, ℕ, Bool, List, Option, Some, arith, map, length, take, slice_index_or}, lemmas.{List.{map-id, map-append, append-nil, append_assoc, take_more, length-take-le, Folds.{flat_map-map}, Concat.{flat_map-append}, FromFn.{map-range_with_len_more}}, Simd.{map-map}}}, specs.List.{flat_map, range_with_len}},
+  std.{proofs.{Common.{◌≡◌, ◌<◌, ◌++◌, ◌∷◌, [], ◌+◌, ℕ, Bool, List, Some, arith, map, length, take, slice_index_or}, lemmas.List.{map-id, map-append, append-nil, append_assoc, take_more, length-take-le, Folds.{flat_map-map}, Concat.{flat_map-append}, FromFn.{map-range_with_len_more}}}, specs.List.{flat_map, range_with_len}},
   pick_meaning.specs.Rows.{rows_where},
   join_meaning.specs.Pairs.{Pair, pair, partners, pairs_from},
-  merge_concat.specs.{declared.pairs.{Pairs.{Pairs}, PairLists.{PairLists}}, Codes.{pairs_with, pairs_of, pairs_at, outer_pairs}, Pairs.{ArePairs, AreListed, HasMore}},
+  merge_concat.specs.{declared.pairs.PairLists.{PairLists}, Codes.{pairs_with, pairs_of, pairs_at, outer_pairs}, Pairs.{AreListed, HasMore}},
 }
 
 step : {X Y : Type 0} (f : X → Y) (a b c : List Y) (es fs : List X) → b ≡ a ++ map f es → c ≡ b ++ map f fs → c ≡ a ++ map f (es ++ fs)
-step f a b c es fs p q = grind (arith, append_assoc, map-append)
+step = grind (arith, append_assoc, map-append)
 
 pub more_more : (a b c : PairLists) (es fs : List Pair) → HasMore a b es → HasMore b c fs → HasMore a c (es ++ fs)
-more_more a b c es fs p q = search step
+more_more a b c _ _ p q = search step
 
 pub more_none : (a : PairLists) → HasMore a a []
-more_none a = search append-nil
+more_none = search append-nil
 
 pub pairs_more : (a b : PairLists) (es fs : List Pair) → AreListed a es → HasMore a b fs → AreListed b (es ++ fs)
 pairs_more a b es fs p q = record {
-  left = step (λ e. e.left) [] a.left.items b.left.items es fs p.left q.left;
-  right = step (λ e. e.right) [] a.right.items b.right.items es fs p.right q.right;
+  left = step (λ e. e.left) [] _ _ es fs p.left q.left;
+  right = step (λ e. e.right) [] _ _ es fs p.right q.right;
 }
-
-pub pairs_listed : (lists : PairLists) (made : Pairs) (es : List Pair) → made.left ≡ lists.left.items → made.right ≡ lists.right.items → AreListed lists es → ArePairs made es
-pairs_listed lists made es l r p = search
 
 -- one row more of a side
 pub flat_more : {X C : Type 0} (f : X → List C) (xs : List X) (i : ℕ) (d : X) → i < length xs → flat_map f (take (i + 1) xs) ≡ flat_map f (take i xs) ++ f (slice_index_or xs i d)
 flat_more f xs i d lt = cc (take_more xs i d lt, flat_map-append f (take i xs) (slice_index_or xs i d ∷ []), append-nil (f (slice_index_or xs i d)))
 
-pub with_some : (left : Option ℕ) (rs : List ℕ) → 0 < length rs → map (λ r. pair left (Some r)) rs ≡ pairs_with rs left
-with_some left x h = grind (arith, map-map)
-
 pub of_some : (ls rs : List ℕ) → 0 < length ls → flat_map (λ l. pairs_with rs (Some l)) ls ≡ pairs_of ls rs
-of_some x rs h = grind (arith, flat_map-map)
-
--- the rows that a row meets, where it meets some or stays
-pub partners_some : (stays : Bool) (row : ℕ) (rs : List ℕ) → 0 < length rs → pairs_with rs (Some row) ≡ map (pair (Some row)) (partners stays rs)
-partners_some stays row x h = grind arith
+of_some = grind (arith, flat_map-map)
 
 module _ {K : Type 0} (same : K → K → Bool) (stays : Bool) (others : List K) where
   abbrev pub pairs_in : ℕ → K → List Pair
   pairs_in row key = map (pair (Some row)) (partners stays (rows_where (same key) 0 others))
 
   from_append : (row : ℕ) (xs : List K) (x : K) → pairs_from same stays row (xs ++ x ∷ []) others ≡ pairs_from same stays row xs others ++ pairs_in (row + length xs) x
-  from_append row [] x = grind (arith, append-nil)
+  from_append _ [] x = grind (arith, append-nil)
   from_append row (y ∷ ys) x = grind (arith, append_assoc, from_append (row + 1) ys x)
 
   pub from_more : (xs : List K) (i : ℕ) (d : K) → i < length xs → pairs_from same stays 0 (take (i + 1) xs) others ≡ pairs_from same stays 0 (take i xs) others ++ pairs_in i (slice_index_or xs i d)
@@ -56,4 +46,4 @@ pub range_more : (n : ℕ) → range_with_len 0 (n + 1) ≡ range_with_len 0 n +
 range_more n = cc (map-id (range_with_len 0 (n + 1)), map-range_with_len_more (λ k. k) 0 n n (omega arith), map-id (range_with_len 0 n))
 
 pub outer_more : (n : ℕ) (left right : List ℕ) → outer_pairs (n + 1) left right ≡ outer_pairs n left right ++ pairs_at left right n
-outer_more n left right = search (range_more, flat_map-append, append-nil)
+outer_more = search (range_more, flat_map-append, append-nil)

@@ -17,26 +17,26 @@ use Rattle.form_meaning.specs.Finish as finish
 
 -- one heading more in a set
 among : (q h : Option Label) (keys : List (Option Label)) → list_any (same_heading h) keys ≡ true → same_heading q h ≡ true → list_any (same_heading q) keys ≡ true
-among q h keys there same = grind (arith, heading_decides)
+among = grind (arith, heading_decides)
 
 or_there : (a k : Bool) → (a ≡ true → k ≡ true) → k ≡ (k || (a || false))
-or_there x k there = grind arith
+or_there = grind arith
 
 set_more : (q h : Option Label) (keys : List (Option Label)) → list_any (same_heading q) (insert_key same_heading keys h) ≡ (list_any (same_heading q) keys || (same_heading q h || false))
-set_more q h keys = search (rules, or_there, among, list_any-append)
+set_more = search (rules, or_there, among, list_any-append)
 
 pub one_more_among : (t : NumberedTable) (places : List ℕ) (k place : ℕ) (h : Option Label) (keys keys' : List (Option Label)) → slice_get places k ≡ Some place → h ≡ heading_of t place → keys' ≡ insert_key same_heading keys h
     → AreAmong keys (headings_at t (take k places)) → AreAmong keys' (headings_at t (take (k + 1) places))
-one_more_among t places k place h keys keys' at is put before = λ q.
+one_more_among t places k place h keys _ at is put before = λ q.
     let here : h ≡ heading_of t (slice_index_or places k 0) = grind (arith, get_or_from_slice_get) in
     rw (put, set_more q h keys, before q, here, take_more places k 0 (slice_get_within places k place at), map-append, list_any-append)
 
 -- whether one of some headings is equal, by numbers and by texts
 any_seen : (texts : List Text) (h : Option Label) (hs : List (Option Label)) → AreDistinct texts → IsSettled heading_value texts h → IsSettled headings_value texts hs
     → list_any (same_heading h) hs ≡ list_any (finish.same_heading (heading_value texts h)) (headings_value texts hs)
-any_seen texts h [] distinct here settled = refl
-any_seen texts h (g ∷ gs) distinct here settled =
-    λ j. same_seen texts h g distinct here (head_settled heading_value texts g gs settled) j || any_seen texts h gs distinct here (rest_settled heading_value texts g _ settled) j
+any_seen _ h [] _ _ _ = refl
+any_seen _ h (g ∷ gs) distinct here settled =
+    λ j. same_seen _ h g distinct here (head_settled heading_value _ g gs settled) j || any_seen _ h gs distinct here (rest_settled heading_value _ g _ settled) j
 
 module _ (texts : List Text) (distinct : AreDistinct texts) (t other : NumberedTable) (here : IsSettled table_value texts t) (there : IsSettled table_value texts other) (places : List ℕ) (set : List (Option Label)) (set_is : AreAmong set (headings_at other places)) where
   abbrev T : Table
@@ -52,7 +52,7 @@ module _ (texts : List Text) (distinct : AreDistinct texts) (t other : NumberedT
   among_at place = cc (is_among _ (heading_settled _ _ _ _ refl (headings_part _ t here)), heading_seen texts t.headings place)
 
   pub labels_are : (keys : List ℕ) (suffix : Text) (xs : List ℕ) → map (label_beside T t keys suffix set) xs ≡ map (λ place. if is_key keys place then heading_at T place else suffixed_heading suffix others (heading_at T place)) xs
-  labels_are keys suffix xs = grind (arith, among_at)
+  labels_are = grind (arith, among_at)
 
 -- the label of a column that is a key, and of another
 module _ (texts : List Text) (t : NumberedTable) (keys : List ℕ) (suffix : Text) (others : List (Option Label)) (place : ℕ) (h : Option Label) (is : h ≡ heading_of t place) where
@@ -71,10 +71,10 @@ module _ (texts : List Text) (t : NumberedTable) (keys : List ℕ) (suffix : Tex
 -- a label with a suffix
 pub suffix_put : (old new : List Text) (heading : Option Label) (l : Label) (suffix words : Text) (id : TextId) (b : Bool) → b ≡ true → heading ≡ Some l → words ≡ cell_text (label_cell (label_datum old l)) ++ suffix → slice_get new id.0 ≡ Some words
     → heading_value new (Some (label.Text id)) ≡ suffixed_if b suffix (heading_value old heading)
-suffix_put old new heading l suffix words id b is headed same given = grind (arith, text_seen)
+suffix_put = grind (arith, text_seen)
 
 pub text_given : (texts : List Text) (id : TextId) (words : Text) → slice_get texts id.0 ≡ Some words → IsSettled heading_value texts (Some (label.Text id))
-text_given texts id words given = search text_settled
+text_given = search text_settled
 
 -- the labels of some columns, one more of them
 module _ (first old new : List Text) (f : Table → ℕ → Option LabelValue) (t : NumberedTable) (places : List ℕ) (k place : ℕ) (h : Option Label) (labels labels' : List (Option Label)) (longer : IsLonger old new) (given : IsSettled headings_value old labels) (pushed : labels' ≡ labels ++ h ∷ []) where
@@ -83,7 +83,7 @@ module _ (first old new : List Text) (f : Table → ℕ → Option LabelValue) (
 
   pub one_more_label : slice_get places k ≡ Some place → IsLonger first old → IsSettled table_value first t → heading_value new h ≡ f (table_value old t) place
       → headings_value old labels ≡ map (f (table_value first t)) (take k places) → headings_value new labels' ≡ map (f (table_value first t)) (take (k + 1) places)
-  one_more_label at before settled is so_far = grind (arith, pushed, map-append, seen_later headings_value old new labels longer given, seen_later table_value first old t before settled, take_more places k 0 (slice_get_within places k place at), get_or_from_slice_get places k place 0 at)
+  one_more_label at before settled = grind (arith, pushed, map-append, seen_later headings_value old new labels longer given, seen_later table_value first old t before settled, take_more places k 0 (slice_get_within places k place at), get_or_from_slice_get places k place 0 at)
 
 -- the labels of both frames
 module _ (texts mid new : List Text) (l r : NumberedTable) (keys : MergeKeys) (distinct : AreDistinct texts) (of_left : IsSettled table_value texts l) (of_right : IsSettled table_value texts r) where
@@ -96,7 +96,7 @@ module _ (texts mid new : List Text) (l r : NumberedTable) (keys : MergeKeys) (d
   pub labels_meant : (lefts rights all : List ℕ) (set set' labels own whole : List (Option Label)) → AreAmong set' (headings_at r rights) → AreAmong set (headings_at l lefts) → lefts ≡ places_besides L keys.left → rights ≡ right_places R keys → all ≡ all_places L
       → IsLonger texts mid → IsLonger mid new → IsSettled headings_value mid labels → headings_value mid labels ≡ map (label_beside L l keys.left (codes "_x") set') all
       → headings_value new own ≡ map (label_beside (table_value mid r) r [] (codes "_y") set) rights → whole ≡ labels ++ own → headings_value new whole ≡ merged_headings L R keys
-  labels_meant lefts rights all set set' labels own whole of_r of_l lefts_are rights_are all_are before longer given first second is =
+  labels_meant lefts rights all set set' labels _ _ of_r of_l lefts_are rights_are all_are before longer given first second is =
       rw (
         is,
         map-append,
@@ -113,4 +113,4 @@ module _ (texts mid new : List Text) (l r : NumberedTable) (keys : MergeKeys) (d
 
 -- and they were given
 pub labels_given : (mid new : List Text) (labels own whole : List (Option Label)) → IsLonger mid new → IsSettled headings_value mid labels → IsSettled headings_value new own → whole ≡ labels ++ own → IsSettled headings_value new whole
-labels_given mid new labels own whole longer given given' is = rw is (λ more. rw (map-append, map-append, settled_later headings_value mid new labels longer given more, given' more))
+labels_given mid new labels _ _ longer given given' is = rw is (λ more. rw (map-append, map-append, settled_later headings_value mid new labels longer given more, given' more))

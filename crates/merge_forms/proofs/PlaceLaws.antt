@@ -5,23 +5,23 @@ use Rattle.{
 }
 
 nat_same : (a b : ℕ) → nat_eq a b ≡ true → a ≡ b
-nat_same a b is = grind (arith, nat_tests)
+nat_same = grind (arith, nat_tests)
 
 nat_other : (a b : ℕ) → (a ≡ b → ⊥) → nat_eq a b ≡ false
-nat_other a b apart = grind (arith, nat_eq, nat_same)
+nat_other = grind (arith, nat_eq, nat_same)
 
 module _ (keys : List ℕ) (column place there : ℕ) (lt : place < length keys) (at : slice_get keys place ≡ Some there) where
   here : column ≡ there → nat_eq column (slice_index_or keys place 0) ≡ true
-  here same = grind (arith, nat_tests, get_or_from_slice_get)
+  here = grind (arith, nat_tests, get_or_from_slice_get)
 
   pub key_met : column ≡ there → true ≡ is_key keys column
   key_met same = sym (list_any_at _ _ _ 0 lt (here same))
 
   pub key_place : column ≡ there → ((k : ℕ) → k < place → nat_eq column (slice_index_or keys k 0) ≡ false) → position_or_len (nat_eq column) keys ≡ place
-  key_place same before = grind (arith, position_or_len_is, nat_eq, here)
+  key_place = grind (arith, position_or_len_is, nat_eq, here)
 
   pub key_passed : (column ≡ there → ⊥) → ((k : ℕ) → k < place → nat_eq column (slice_index_or keys k 0) ≡ false) → (k : ℕ) → k < place + 1 → nat_eq column (slice_index_or keys k 0) ≡ false
-  key_passed apart before k below = grind (arith, nat_eq, nat_other, nat_same, get_or_from_slice_get, nat_tests)
+  key_passed = grind (arith, nat_eq, nat_other, nat_same, get_or_from_slice_get, nat_tests)
 
 pub no_key : (keys : List ℕ) (column place : ℕ) → length keys ≤ place → ((k : ℕ) → k < place → nat_eq column (slice_index_or keys k 0) ≡ false) → false ≡ is_key keys column
-no_key keys column place end before = search (rules, list_any_none, nat_eq, get_or_default)
+no_key = search (rules, list_any_none, nat_eq, get_or_default)

@@ -1,8 +1,8 @@
 -- The rows of two frames that have equal keys, with texts by number and with texts.
 use Rattle.{
-  std.{proofs.{Common.{rules, ◌≡◌, ◌∙◌, ◌≤◌, ◌^◌, ap, refl, sym, subst, arith, ℕ, Bool, cond, List, [], ◌∷◌, ◌++◌, length, All, Option, Some, None, Result, Ok, Err, option_map}, lemmas.{Bool.Decides.{nat_tests}, List.{length-map, Elements.{All-map}, FromFn.{length-range_with_len}}}}, specs.Prelude.{IfOk, IfSome}},
+  std.{proofs.{Common.{rules, ◌≡◌, ◌∙◌, ◌≤◌, ◌^◌, refl, sym, subst, arith, ℕ, Bool, cond, List, [], ◌∷◌, ◌++◌, length, All, Option, Some, None, Result, Ok, Err, option_map}, lemmas.{Bool.Decides.{nat_tests}, List.{length-map, Elements.{All-map}, FromFn.{length-range_with_len}}}}, specs.Prelude.{IfOk, IfSome}},
   cell_core.specs.{declared.{cell.{Side.{Side}, Label.{Label}}, code.Code.TheVariants.{BadMerge}}, Texts.{AreDistinct}},
-  meaning.specs.{Text.{Text}, Fault.{bad_merge}, FaultOf.{side_of}},
+  meaning.specs.{Text.{Text}, FaultOf.{side_of}},
   column_core.specs.{Columns.{CellColumn}, Moves.{IsPlaceOf}},
   multi_index.specs.Axes.{HaveLevels},
   row_keys.specs.Keys.{same_tuple as same_numbers},
@@ -25,11 +25,11 @@ use Rattle.merge_concat.specs.declared.fault.MergeFault.TheVariants as fault
 
 -- a label for each level
 alike : (levels : ℕ) (keys : List (List Label)) → HaveLevels levels keys → HaveLevels (levels_of keys) keys
-alike levels x have = grind arith
+alike = grind arith
 
 few_levels : (levels : ℕ) (keys : List (List Label)) → HaveLevels levels keys → levels ≤ 4 → levels_of keys ≤ 4
-few_levels levels [] have few = omega arith
-few_levels levels (key ∷ keys) have few = search rules
+few_levels _ [] = omega arith
+few_levels _ (key ∷ keys) = search rules
 
 module _ (of_left of_right : List CellColumn) (m n : ℕ) where
   abbrev both : List (List Label)
@@ -51,10 +51,10 @@ module _ {K : Type 0} where
   no_key = None
 
   joined_ok : (again : Option (RepeatedKey K)) (ps pairs : List Pair) → unless again (within_limit ps) ≡ Ok pairs → (again ≡ None) × (pairs ≡ ps) × (length ps ≤ 2 ^ 26)
-  joined_ok x ps pairs is = grind (arith, nat_tests)
+  joined_ok = grind (arith, nat_tests)
 
   joined_twice : (again : Option (RepeatedKey K)) (ps : List Pair) (k : RepeatedKey K) → unless again (within_limit ps) ≡ Err (not_one_to_one k) → again ≡ Some k
-  joined_twice x1 ps k is = grind arith
+  joined_twice = grind arith
 
 -- the join by numbers is the join by texts
 module _ (texts : List Text) (distinct : AreDistinct texts) (l r : NumberedTable) (of_left : IsSettled table_value texts l) (of_right : IsSettled table_value texts r) (keys : MergeKeys) (how : How) (once : Validate) where
@@ -71,13 +71,13 @@ module _ (texts : List Text) (distinct : AreDistinct texts) (l r : NumberedTable
   kr = numbered_keys r keys.right
 
   kl_settled : All (IsSettled tuple_value texts) kl
-  kl_settled = tuples_settled _ _ (settled_by table_value labels_value (λ v. row_keys v keys.left) texts l kl (λ ts. sym (tuples_seen _ l _)) of_left)
+  kl_settled = tuples_settled _ _ (settled_by table_value labels_value (λ v. row_keys v keys.left) _ l kl (λ ts. sym (tuples_seen _ l _)) of_left)
 
   kr_settled : All (IsSettled tuple_value texts) kr
-  kr_settled = tuples_settled _ _ (settled_by table_value labels_value (λ v. row_keys v keys.right) texts r kr (λ ts. sym (tuples_seen _ r _)) of_right)
+  kr_settled = tuples_settled _ _ (settled_by table_value labels_value (λ v. row_keys v keys.right) _ r kr (λ ts. sym (tuples_seen _ r _)) of_right)
 
   equal : (x y : List Label) → IsSettled tuple_value texts x → IsSettled tuple_value texts y → same_tuple (tuple_value texts x) (tuple_value texts y) ≡ same_numbers x y
-  equal x y f g = search tuple_by_number
+  equal = search tuple_by_number
 
   abbrev again : Option (RepeatedKey (List Label))
   again = repeated_key same_numbers once kl kr
@@ -88,7 +88,7 @@ module _ (texts : List Text) (distinct : AreDistinct texts) (l r : NumberedTable
   pairs_are : pairs_in how L R (keys_value keys) ≡ pairs
   pairs_are =
       (λ i. key_pairs same_tuple tuple_before how (sym (tuples_seen texts l keys.left) i) (sym (tuples_seen texts r keys.right) i))
-      ∙ pairs_seen (tuple_value texts) _ _ _ equal _ _ (λ x y f g. refl) _ _ kl_settled kr_settled _
+      ∙ pairs_seen _ _ _ _ equal _ _ (λ x y f g. refl) _ _ kl_settled kr_settled _
 
   again_is : repeated_in once L R (keys_value keys) ≡ option_map (repeated_seen (tuple_value texts)) again
   again_is =
@@ -99,9 +99,9 @@ module _ (texts : List Text) (distinct : AreDistinct texts) (l r : NumberedTable
   none_again is = cc again_is
 
   twice : (side : Side) (key : List Label) → again ≡ Some record { side = side_of side; key = key } → (rest : Result Entry _) → Refuses texts (BadMerge side key) (unless_twice (repeated_in once L R (keys_value keys)) rest)
-  twice side key is rest = (
+  twice _ _ is rest = (
     grind (arith, again_is),
-    λ more. ap (bad_merge (side_of side)) (subst (λ (o : Option (RepeatedKey (List Label))). IfSome o (λ k. IsSettled tuple_value texts k.key)) is (again_keeps _ _ _ _ _ kl_settled kr_settled) more),
+    λ more. cc (subst (λ (o : Option (RepeatedKey (List Label))). IfSome o (λ k. IsSettled tuple_value texts k.key)) is (again_keeps _ _ _ _ _ kl_settled kr_settled) more),
   )
 
   module _ (lks rks : List (List Label)) (lks_are : lks ≡ kl) (rks_are : rks ≡ kr) where
@@ -124,18 +124,16 @@ module _ (texts : List Text) (distinct : AreDistinct texts) (l r : NumberedTable
 -- the rows that are joined are those of their sides
 module _ (l r : NumberedTable) (keys : MergeKeys) (how : How) where
   rows_of : (t : NumberedTable) (places : List ℕ) → length (numbered_keys t places) ≡ length t.labels
-  rows_of t places = search (length-map, all_rows, length-range_with_len)
+  rows_of = search (length-map, all_rows, length-range_with_len)
 
   rows_met : (made : Pairs) → IsJoinOf same_numbers how (numbered_keys l keys.left) (numbered_keys r keys.right) made → AreRowsMet l r made
-  rows_met made is =
-      let lefts = subst (λ n. All (λ p. IsPlaceOf n p.left) is.pairs) (rows_of l _) is.join.left_rows in
-      let rights = subst (λ n. All (λ p. IsPlaceOf n p.right) is.pairs) (rows_of r _) is.join.right_rows in
+  rows_met _ is =
       record {
-        left = rw is.seen.left (All-map (IsPlaceOf (length l.labels)) (λ p. p.left) _ lefts);
-        right = rw is.seen.right (All-map (IsPlaceOf (length r.labels)) (λ p. p.right) _ rights);
+        left = rw is.seen.left (All-map (IsPlaceOf (length l.labels)) (λ p. p.left) _ (subst (λ n. All (λ p. IsPlaceOf n p.left) is.pairs) (rows_of l _) is.join.left_rows));
+        right = rw is.seen.right (All-map (IsPlaceOf (length r.labels)) (λ p. p.right) _ (subst (λ n. All (λ p. IsPlaceOf n p.right) is.pairs) (rows_of r _) is.join.right_rows));
         same = grind (arith, length-map);
       }
 
   pub joins_inside : (lks rks : List (List Label)) → lks ≡ numbered_keys l keys.left → rks ≡ numbered_keys r keys.right → (made : Result Pairs MergeFault)
       → IfOk made (IsJoinOf same_numbers how lks rks) → IfOk (met_result made) (λ met. IfSome met (AreRowsMet l r))
-  joins_inside lks rks lks_are rks_are x is = grind (arith, rows_met)
+  joins_inside = grind (arith, rows_met)

@@ -9,11 +9,11 @@ use Rattle.{
 
 merge_of_frame : (shape : Shape) → fits_shape (Other Merge) shape ≡ true → shape ≡ Frame
 unfolding method_names
-merge_of_frame shape = search of_frame
+merge_of_frame = search of_frame
 
 pub merge_is_of_frame : (shape : Shape) (name : Text) → is_merge (method_named shape name) ≡ true → shape ≡ Frame
-merge_is_of_frame shape name is = by (method_named shape name) refl is
+merge_is_of_frame shape name is = by _ refl is
   where
     by : (o : Option Method) → method_named shape name ≡ o → is_merge o ≡ true → shape ≡ Frame
-    by (Some (Other Merge)) named is = merge_of_frame _ (named_fits _ name _ named)
+    by (Some (Other Merge)) named _ = merge_of_frame _ (named_fits _ _ _ named)
     by o named is = cc

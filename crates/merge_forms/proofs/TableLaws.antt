@@ -1,6 +1,6 @@
 -- The frame of joined rows.
 use Rattle.{
-  std.{proofs.{Common.{◌≡◌, ◌∙◌, ◌^◌, ◌<◌, ◌≤◌, ap, refl, sym, subst, arith, ℕ, suc, Bool, true, false, List, [], ◌∷◌, map, length, slice_index_or, All, Option, Some, None, Result, Ok, Err, if◌then◌else◌}, lemmas.{Bool.Decides.{nat_tests}, List.{length-map, length-append, Elements.{All-append, All-map, All-cons, All-nil, All-filter}, FromFn.{length-map-range_with_len}}}}, specs.Prelude.{IsSome, codes}},
+  std.{proofs.{Common.{◌≡◌, ◌∙◌, ◌^◌, ◌<◌, ◌≤◌, ap, refl, sym, subst, arith, ℕ, suc, Bool, true, false, List, [], ◌∷◌, map, length, slice_index_or, All, Option, Some, None, Result, Ok, Err, if◌then◌else◌}, lemmas.{Bool.Decides.{nat_tests}, List.{length-map, length-append, Elements.{All-append, All-map, All-cons, All-nil, All-filter}, FromFn.{length-map-range_with_len}}}}, specs.Prelude.{IsSome}},
   sorting.proofs.RankLaws.{below_range},
   cell_core.specs.{declared.{cell.{Cell.TheVariants.{Na}, Label.{Label}}, code.Code.TheVariants.{Limit}, grid.Shape.TheVariants.{Frame}}, Texts.{AreDistinct, IsLonger}},
   meaning.specs.{Text.{Text}, Cell.{LabelValue}, Fault.{FaultValue, limit, then_value}, FaultOf.{fault_of}},
@@ -11,8 +11,8 @@ use Rattle.{
   table_meaning.specs.{Settled.{IsSettled}, Table.{NumberedTable, Table, table_value, heading_value}, Valid.{IsWhole}, Value.{Entry, table}},
   form_meaning.specs.{Finish.{within_limits, limited, unless_repeated, finished, default_labels}, Infix.{common_name}, Select.{heading_at}},
   form_parts.proofs.LabelLaws.{default_seen},
-  method_meaning.specs.{Rows.{all_places, places_besides}, Groups.{headings_of}, Merge.{MergeKeys, is_key, suffixed_heading, left_heading, right_heading, right_places, merged, merged_rows}},
-  frame_store.{specs.{declared.fault.OpFault.{OpFault, TheVariants.{Refused, NoMemory}}, Parts.{HeadingList, HaveRows, columns_of, table_of}, Shown.{headings_value, columns_value, Makes, Refuses}}, proofs.Settling.{table_settled, settled_later, seen_later, columns_part}},
+  method_meaning.specs.{Rows.{all_places}, Merge.{MergeKeys, is_key, suffixed_heading, left_heading, right_heading, right_places, merged, merged_rows}},
+  frame_store.{specs.{declared.fault.OpFault.{OpFault, TheVariants.{Refused, NoMemory}}, Parts.{HeadingList, columns_of, table_of}, Shown.{headings_value, columns_value, Makes, Refuses}}, proofs.Settling.{table_settled, settled_later, seen_later, columns_part}},
   selections.{specs.Headings.{NamesRepeated, repeated_heading}, proofs.{HeadingLaws.{repeated_seen}, RefusalLaws.{repeated_settled}}},
   frame_methods.proofs.RenameLaws.{frame_heads},
   label_methods.proofs.TableLaws.{limited_within},
@@ -24,31 +24,31 @@ abbrev within_then : Table → Bool → Result Entry FaultValue
 within_then t b = then_value (if b then Ok t else Err limit) (λ t. Ok (table t))
 
 too_many : (rows columns : ℕ) → 2 ^ 26 < rows → within_limits rows columns ≡ false
-too_many rows columns many = grind (arith, nat_tests)
+too_many = grind (arith, nat_tests)
 
 module _ (texts : List Text) (distinct : AreDistinct texts) (labels : List (Option Label)) (settled : IsSettled headings_value texts labels) (t : Table) (h : IsHeaded texts labels t) where
   finished_by : (found : Option Label) → repeated_heading labels ≡ found → finished t ≡ unless_repeated (heading_value texts found) (limited t)
-  finished_by found is = grind (arith, repeated_seen)
+  finished_by = grind (arith, repeated_seen)
 
   pub may_within : (count : ℕ) → repeated_heading labels ≡ None → length t.labels ≡ count → within_limits count (length labels) ≡ true → finished t ≡ Ok (table t)
-  may_within count none rows within = grind (arith, finished_by, limited_within)
+  may_within = grind (arith, finished_by, limited_within)
 
   pub may_beyond : (count : ℕ) → repeated_heading labels ≡ None → length t.labels ≡ count → within_limits count (length labels) ≡ false → Refuses texts Limit (finished t)
-  may_beyond count none rows beyond = grind (arith, finished_by)
+  may_beyond = grind (arith, finished_by)
 
   pub may_many : repeated_heading labels ≡ None → 2 ^ 26 < length t.labels → Refuses texts Limit (finished t)
-  may_many none many = grind (arith, finished_by, too_many)
+  may_many = grind (arith, finished_by, too_many)
 
   pub may_repeated : (why : OpFault) → NamesRepeated why (repeated_heading labels) → MayFinish {X = HeadingList} texts (Err why) t
   may_repeated (Refused code) named = (finished_by _ named.1 ∙ ap (λ c. Err (fault_of texts c)) (sym named.2), search repeated_settled)
-  may_repeated NoMemory named = tt
+  may_repeated NoMemory _ = tt
 
 pub within_few : (rows columns : ℕ) → within_limits rows columns ≡ true → rows ≤ 2 ^ 26
-within_few rows columns is = grind (arith, nat_tests)
+within_few = grind (arith, nat_tests)
 
 -- as many numbered rows
 pub rows_numbered : (count : ℕ) → length (range_axis count).tuples ≡ count
-rows_numbered count = grind (arith, length-map, length-map-range_with_len)
+rows_numbered = grind (arith, length-map, length-map-range_with_len)
 
 -- the frame that is meant
 module _ (l r : Table) (keys : MergeKeys) (ps : List Pair) where
@@ -56,50 +56,49 @@ module _ (l r : Table) (keys : MergeKeys) (ps : List Pair) where
   rows_meant = search length-map-range_with_len
 
   pub is_headed : (texts : List Text) (labels : List (Option Label)) → headings_value texts labels ≡ merged_headings l r keys → IsHeaded texts labels (merged l r keys ps)
-  is_headed texts labels is = grind (arith, length-append, length-map)
+  is_headed = grind (arith, length-append, length-map)
 
 -- each column has a label
 some_suffixed : (suffix : Text) (others : List (Option LabelValue)) (h : Option LabelValue) → IsSome h → IsSome (suffixed_heading suffix others h)
-some_suffixed suffix others h some = grind arith
+some_suffixed = grind arith
 
 some_if : (b : Bool) (x y : Option LabelValue) → IsSome x → IsSome y → IsSome (if b then x else y)
-some_if x1 x y h k = grind arith
+some_if = grind arith
 
 module _ (l r : Table) (keys : MergeKeys) (of_left : All IsSome l.headings) (of_right : All IsSome r.headings) (left_counted : length l.headings ≡ length l.columns) (right_counted : length r.headings ≡ length r.columns) where
   some_at : (t : Table) → All IsSome t.headings → length t.headings ≡ length t.columns → (place : ℕ) → place < length t.columns → IsSome (heading_at t place)
-  some_at t all count place lt = grind arith
+  some_at = grind arith
 
   lefts_some : All IsSome (map (left_heading l r keys) (all_places l))
   lefts_some = All-map IsSome _ _ (λ k d lt.
       let place = slice_index_or (all_places l) k d in
       let some = some_at l of_left left_counted _ (below_range (length l.columns) k d lt) in
-      some_if (is_key keys.left place) _ (suffixed_heading (codes "_x") (headings_of r (right_places r keys)) (heading_at l place)) some (search some_suffixed))
+      some_if (is_key keys.left place) _ _ some (search some_suffixed))
 
   rights_below : All (λ place. place < length r.columns) (right_places r keys)
-  rights_below = All-filter _ (λ place. place < length r.columns) _ (below_range (length r.columns))
+  rights_below = All-filter _ (λ place. place < length r.columns) _ (below_range (length _))
 
   rights_some : All IsSome (map (right_heading l r keys) (right_places r keys))
   rights_some = All-map IsSome _ _ (λ k d lt.
-      let place = slice_index_or (right_places r keys) k d in
-      some_suffixed (codes "_y") (headings_of l (places_besides l keys.left)) _ (some_at r of_right right_counted _ (rights_below k d lt)))
+      some_suffixed _ _ _ (some_at r of_right right_counted _ (rights_below k d lt)))
 
   pub all_labelled : All IsSome (merged_headings l r keys)
   all_labelled = All-append IsSome _ _ lefts_some rights_some
 
 -- the same by numbers
 some_seen : (texts : List Text) (h : Option Label) → IsSome (heading_value texts h) → IsSome h
-some_seen texts x some = grind arith
+some_seen = grind arith
 
 seen_some : (texts : List Text) (h : Option Label) → IsSome h → IsSome (heading_value texts h)
-seen_some texts x some = grind arith
+seen_some = grind arith
 
 pub headings_some : (texts : List Text) (hs : List (Option Label)) → All IsSome hs → All IsSome (headings_value texts hs)
-headings_some texts hs all = All-map IsSome _ _ (λ k d lt. seen_some texts _ (all k d lt))
+headings_some _ _ all = All-map IsSome _ _ (λ k d lt. seen_some _ _ (all k d lt))
 
 pub some_headings : (texts : List Text) (hs : List (Option Label)) → All IsSome (headings_value texts hs) → All IsSome hs
-some_headings texts [] all = All-nil _
-some_headings texts (h ∷ hs) all =
-    All-cons IsSome h _ (some_seen _ h (all 0 None (omega arith))) (some_headings texts hs (λ k d lt. all (suc k) d (omega (arith, lt))))
+some_headings _ [] _ = All-nil _
+some_headings _ (h ∷ hs) all =
+    All-cons IsSome h _ (some_seen _ h (all 0 None (omega arith))) (some_headings _ hs (λ k d lt. all (suc k) d (omega (arith, lt))))
 
 module _ (old new : List Text) (longer : IsLonger old new) (l r : NumberedTable) (left_given : IsSettled table_value old l) (right_given : IsSettled table_value old r) (keys : MergeKeys) where
   abbrev L : Table
@@ -109,7 +108,7 @@ module _ (old new : List Text) (longer : IsLonger old new) (l r : NumberedTable)
   R = table_value old r
 
   pub labels_some : IsWhole l → IsWhole r → l.shape ≡ Frame → r.shape ≡ Frame → (labels : List (Option Label)) → headings_value new labels ≡ merged_headings L R keys → All IsSome labels
-  labels_some left_whole right_whole left_frame right_frame labels is =
+  labels_some left_whole right_whole left_frame right_frame _ is =
       some_headings _ _ (subst (All IsSome) (sym is)
       (all_labelled L R _ (headings_some _ _ (left_whole.headings.labelled left_frame)) (headings_some _ _ (right_whole.headings.labelled right_frame))
       (search length-map)
@@ -130,16 +129,13 @@ module _ (old new : List Text) (longer : IsLonger old new) (l r : NumberedTable)
       columns = merged_columns Na l.columns r.columns keys rights made.left made.right;
     }
 
-    whole_is : table_of Frame axis headings blocks ≡ whole
-    whole_is = search
-
     columns_are : columns_value new (merged_columns Na l.columns r.columns keys rights made.left made.right) ≡ (merged L R keys ps).columns
     columns_are = grind (arith, columns_seen, seen_later, columns_part, columns_meant)
 
     whole_seen : table_value new whole ≡ merged L R keys ps
     whole_seen = λ i. record {
       shape = Frame;
-      columns_name = (seen_later heading_value old new name longer name_given ∙ named) i;
+      columns_name = (seen_later heading_value old new _ longer name_given ∙ named) i;
       level_names = None ∷ [];
       labels = (default_seen new _ ∙ ap default_labels (counted ∙ rows_are)) i;
       headings = labels_are i;
@@ -148,41 +144,37 @@ module _ (old new : List Text) (longer : IsLonger old new) (l r : NumberedTable)
 
     whole_settled : IsSettled table_value new whole
     whole_settled =
-        table_settled _ whole (settled_later heading_value old new name longer name_given) (λ more. refl) (λ more. default_seen _ _ ∙ sym (default_seen _ _)) labels_given
+        table_settled _ whole (settled_later heading_value old new name longer name_given) (λ more. refl) (λ more. search default_seen) labels_given
         (search (columns_settled, settled_later, columns_part))
 
     -- the frame that is made is the one that is meant
     pub made_is : (how : How) (once : Validate) (made' : NumberedTable) → repeated_in once L R keys ≡ None → ps ≡ pairs_in how L R keys → finished (merged L R keys ps) ≡ Ok (table (merged L R keys ps)) → made' ≡ table_of Frame axis headings blocks
         → Makes new (Ok made') (merged_rows L R how once keys)
-    made_is how once made' again ps_are shows tabled = grind (arith, whole_is, whole_seen, whole_settled)
+    made_is = grind (arith, whole_seen, whole_settled)
 
     -- its parts fit
     pub parts_fit : length made.right ≡ length made.left → All IsSome labels → repeated_heading labels ≡ None → IsWhole (table_of Frame axis headings blocks)
-    parts_fit same some none = rw whole_is record {
-      headed = grind (arith, length-map, length-append, whole_seen);
-      filled = subst (λ n. HaveRows n whole.columns) (sym counted ∙ sym (rows_numbered _)) (columns_counted _ _ _ _ _ _ same _);
-      headings = frame_heads _ _ some none;
-    }
+    parts_fit = grind (arith, length-map, length-append, whole_seen, rows_numbered, columns_counted, frame_heads)
 
 -- as many rows as pairs
 pub pairs_counted : (l r : Table) (keys : MergeKeys) (ps : List Pair) (made : Pairs) (count : ℕ) → ArePairs made ps → count ≡ length made.left → length (merged l r keys ps).labels ≡ count
-pairs_counted l r keys ps made count are is = rows_meant l r keys _ ∙ sym (is ∙ ap length are.left ∙ length-map ps _)
+pairs_counted l r keys ps _ _ are is = rows_meant l r keys _ ∙ sym (is ∙ ap length are.left ∙ length-map ps _)
 
 pub met_some : (met : Option Pairs) (ps : List Pair) (made : Pairs) → met ≡ Some made → HasMet met ps → ArePairs made ps
-met_some met ps made is has = grind arith
+met_some = grind arith
 
 pub met_none : (met : Option Pairs) (ps : List Pair) → met ≡ None → HasMet met ps → 2 ^ 26 < length ps
-met_none met ps is has = rw is at has
+met_none _ _ is has = rw is at has
 
 -- why no frame is made
 abbrev refused : {X : Type 0} → OpFault → Result X OpFault
 refused fault = Err fault
 
 pub refused_is : (new : List Text) (L R : Table) (keys : MergeKeys) (how : How) (once : Validate) (why : OpFault) → repeated_in once L R keys ≡ None → MayFinish {X = HeadingList} new (Err why) (merged L R keys (pairs_in how L R keys)) → Makes new (Err why) (merged_rows L R how once keys)
-refused_is new x x1 keys how once x2 again may = grind arith
+refused_is _ L R = grind arith
 
 -- the columns of the right side are its own
 pub rights_inside : (texts : List Text) (r : NumberedTable) (keys : MergeKeys) (rights : List ℕ) → rights ≡ right_places (table_value texts r) keys → All (λ place. place < length r.columns) rights
-rights_inside texts r keys rights is =
+rights_inside texts r keys _ is =
     rw is
     (subst (λ n. All (λ place. place < n) (right_places (table_value texts r) keys)) (length-map r.columns _) (All-filter _ (λ place. place < length (table_value texts r).columns) _ (below_range (length (table_value texts r).columns))))

@@ -22,7 +22,7 @@ module _ {X : Type 0} (x : X) where
   read_next (a ∷ old) m = cc (read_next old m)
 
   read_only : (old others : List X) → take (length old) (old ++ others) ≡ old
-  read_only [] others = refl
+  read_only [] _ = refl
   read_only (a ∷ old) others = cc (read_only old others)
 
   counted : (old : List X) (y : X) → length (old ++ y ∷ []) ≡ suc (length old)
@@ -42,15 +42,15 @@ module _ {X : Type 0} (x : X) where
       grind (arith, put_next)
 
   pub all_written : (outer : Bool) (old : List X) (n : ℕ) → length old ≤ 3 → n ≡ length old → take (n + 1) (four_with outer x old) ≡ with_one outer x old
-  all_written true old n few long = grind (arith, read_only)
+  all_written true _ n few long = grind (arith, read_only)
   all_written false old n few long =
       let left : 4 - length old ≡ suc (3 - length old) = omega arith in
       grind (arith, read_next)
 
 -- tuples with one label more have one level more
 pub levels_with : (outer : Bool) (levels : ℕ) (labels : List Label) (tuples : List (List Label)) → HaveLevels levels tuples → HaveLevels (levels + 1) (tuples_with outer labels tuples)
-levels_with outer levels [] tuples alike = grind arith
-levels_with outer levels (l ∷ labels) [] alike = grind arith
+levels_with _ _ [] _ alike = grind arith
+levels_with _ _ (l ∷ labels) [] alike = grind arith
 levels_with outer levels (l ∷ labels) (t ∷ tuples) alike =
     All-cons (λ t. length t ≡ levels + 1) (with_one outer l t) (tuples_with outer labels tuples) (longer outer) (levels_with outer levels labels tuples (All-tail (λ t. length t ≡ levels) t tuples alike))
   where
@@ -61,24 +61,22 @@ levels_with outer levels (l ∷ labels) (t ∷ tuples) alike =
 -- one more tuple
 pub added_more : (outer : Bool) (k : ℕ) (labels : List Label) (tuples : List (List Label)) (d : Label) → k < length labels → k < length tuples
     → tuples_with outer (take (suc k) labels) (take (suc k) tuples) ≡ tuples_with outer (take k labels) (take k tuples) ++ with_one outer (slice_index_or labels k d) (slice_index_or tuples k []) ∷ []
-added_more outer k [] tuples d lt lt' = absurd (omega arith)
-added_more outer k (l ∷ labels) [] d lt lt' = absurd (omega arith)
-added_more outer zero (l ∷ labels) (t ∷ tuples) d lt lt' = refl
+added_more _ k [] _ d lt lt' = absurd (omega arith)
+added_more _ k (l ∷ labels) [] d lt lt' = absurd (omega arith)
+added_more _ zero (l ∷ labels) (t ∷ tuples) d _ _ = refl
 added_more outer (suc k) (l ∷ labels) (t ∷ tuples) d lt lt' = cc (added_more outer k labels tuples d (omega arith) (omega arith))
 
 pub added_next : (outer : Bool) (k : ℕ) (labels : List Label) (tuples made made' : List (List Label)) (tuple : List Label) (d : Label) → k < length labels → k < length tuples → tuple ≡ with_one outer (slice_index_or labels k d) (slice_index_or tuples k [])
     → made ≡ tuples_with outer (take k labels) (take k tuples) → made' ≡ made ++ tuple ∷ [] → made' ≡ tuples_with outer (take (k + 1) labels) (take (k + 1) tuples)
-added_next outer k labels tuples made made' tuple d lt lt' is before pushed =
-    let next : suc k ≡ k + 1 = omega arith in
-    grind (arith, added_more)
+added_next = grind (arith, added_more)
 
 -- one more of the old ones
 pub next_written : {X : Type 0} (outer : Bool) (x : X) (room xs : List X) (k place : ℕ) (y : X) → k < length xs → length xs ≤ 3 → place ≡ first_of outer + k → y ≡ slice_index_or xs k y
     → room ≡ four_with outer x (take k xs) → set room place y ≡ four_with outer x (take (k + 1) xs)
-next_written outer x room xs k place y lt few at is before = grind (arith, length-take-le, written, take_more)
+next_written = grind (arith, length-take-le, written, take_more)
 
 pub end_written : {X : Type 0} (outer : Bool) (x : X) (room xs : List X) (k n : ℕ) → length xs ≤ k → n ≡ length xs → length xs ≤ 3 → room ≡ four_with outer x (take k xs) → take (n + 1) room ≡ with_one outer x xs
-end_written outer x room xs k n end size few before = grind (arith, take_all, all_written)
+end_written = grind (arith, take_all, all_written)
 
 pub four_long : {X : Type 0} (outer : Bool) (x : X) (xs : List X) → length xs ≤ 3 → length (four_with outer x xs) ≡ 4
-four_long x1 x xs few = grind (arith, length-append, length-replicate)
+four_long = grind (arith, length-append, length-replicate)

@@ -3,7 +3,7 @@ use Rattle.{
   std.{proofs.{Common.{◌≡◌, ◌∙◌, ap, sym, refl, arith, ℕ, zero, suc, ◌+◌, ◌<◌, ◌≤◌, Bool, true, false, not, ◌&&◌, List, [], ◌∷◌, length, drop, slice_index_or, Option, Some, Ok}, lemmas.{Bool.Decides.{nat_tests}, List.{drop_more, drop_all}}}, specs.{Ordering.{is_lt, is_gt, ordering_then}, declared.cmp.Ordering.{Ordering, TheVariants.{Less, Equal, Greater}}}},
   cell_core.specs.declared.{cell.Label.{Label}, grid.Rows.{Rows}},
   meaning.specs.Text.{Text},
-  pick_meaning.{specs.{Leading.{leads, leading_cmp}, Rows.{rows_of, rows_between}, Slices.{is_in_order, reaches, stays_within, label_slice, leading_slice, slice_on}}, proofs.{OrderLaws.{sorted_in_order}, LeadingLaws.{leading_below, leading_within}, RowLaws.{when_so, when_not}}},
+  pick_meaning.{specs.{Leading.{leads, leading_cmp}, Rows.{rows_of, rows_between}, Slices.{is_in_order, reaches, stays_within, label_slice, leading_slice, slice_on}}, proofs.{OrderLaws.{sorted_in_order}, LeadingLaws.{leading_below, leading_within}, RowLaws.{when_so}}},
   index_core.{specs.{Labels.{order_in}, Splits.{IsSplitAt}}, proofs.SplitLaws.{order_total, rows_of_splits, split_at_first}},
 }
 
@@ -11,53 +11,53 @@ use Rattle.{
 module _ {L : Type 0} (same : L → L → Bool) where
   leads_both : (key tuple : List L) (level : ℕ) (d : L) → level < length key → level < length tuple
       → leads same (drop level key) (drop level tuple) ≡ (same (slice_index_or key level d) (slice_index_or tuple level d) && leads same (drop (level + 1) key) (drop (level + 1) tuple))
-  leads_both key tuple level d lt inside = grind (arith, drop_more)
+  leads_both = grind (arith, drop_more)
 
   pub leads_more : (key tuple : List L) (level : ℕ) (d : L) (whole : Bool) → level < length key → level < length tuple → same (slice_index_or key level d) (slice_index_or tuple level d) ≡ true
       → leads same (drop level key) (drop level tuple) ≡ whole → leads same (drop (level + 1) key) (drop (level + 1) tuple) ≡ whole
-  leads_more key tuple level d whole lt inside is before = cc (leads_both key tuple level d lt inside)
+  leads_more key tuple level d _ lt inside is before = cc (leads_both key tuple level d lt inside)
 
   pub leads_not : (key tuple : List L) (level : ℕ) (d : L) (whole : Bool) → level < length key → level < length tuple → same (slice_index_or key level d) (slice_index_or tuple level d) ≡ false
       → leads same (drop level key) (drop level tuple) ≡ whole → false ≡ whole
-  leads_not key tuple level d whole lt inside is before = cc (leads_both key tuple level d lt inside)
+  leads_not key tuple level d _ lt inside is before = cc (leads_both key tuple level d lt inside)
 
   pub leads_all : (key tuple : List L) (level : ℕ) (whole : Bool) → length key ≤ level → leads same (drop level key) (drop level tuple) ≡ whole → true ≡ whole
-  leads_all key tuple level whole all before = grind (arith, drop_all)
+  leads_all = grind (arith, drop_all)
 
   pub leads_short : (key tuple : List L) → length tuple < length key → false ≡ leads same key tuple
-  leads_short [] tuple lt = absurd (omega arith)
-  leads_short (k ∷ key) [] lt = refl
+  leads_short [] _ lt = absurd (omega arith)
+  leads_short (k ∷ key) [] _ = refl
   leads_short (k ∷ key) (l ∷ tuple) lt = grind (arith, leads_short key tuple (omega arith))
 
 -- a bound, one label more at a time
 module _ {L : Type 0} (cmp : L → L → Ordering) where
   stands_both : (tuple bound : List L) (level : ℕ) (d : L) → level < length tuple → level < length bound
       → leading_cmp cmp (drop level tuple) (drop level bound) ≡ ordering_then (cmp (slice_index_or tuple level d) (slice_index_or bound level d)) (leading_cmp cmp (drop (level + 1) tuple) (drop (level + 1) bound))
-  stands_both tuple bound level d inside lt = grind (arith, drop_more)
+  stands_both = grind (arith, drop_more)
 
   pub stands_on : (tuple bound : List L) (level : ℕ) (d : L) (whole : Ordering) → level < length tuple → level < length bound → cmp (slice_index_or tuple level d) (slice_index_or bound level d) ≡ Equal
       → leading_cmp cmp (drop level tuple) (drop level bound) ≡ whole → leading_cmp cmp (drop (level + 1) tuple) (drop (level + 1) bound) ≡ whole
-  stands_on tuple bound level d whole inside lt is before = cc (stands_both tuple bound level d inside lt)
+  stands_on tuple bound level d _ inside lt is before = cc (stands_both tuple bound level d inside lt)
 
   pub stands_apart : (tuple bound : List L) (level : ℕ) (d : L) (order whole : Ordering) → level < length tuple → level < length bound → order ≡ cmp (slice_index_or tuple level d) (slice_index_or bound level d) → (order ≡ Equal → ⊥)
       → leading_cmp cmp (drop level tuple) (drop level bound) ≡ whole → order ≡ whole
-  stands_apart tuple bound level d order whole inside lt is apart before =
+  stands_apart tuple bound level d order _ inside lt is apart before =
       stays order (leading_cmp cmp (drop (level + 1) tuple) (drop (level + 1) bound)) apart
       ∙ ap (λ o. ordering_then o (leading_cmp cmp (drop (level + 1) tuple) (drop (level + 1) bound))) is
       ∙ sym (stands_both tuple bound level d inside lt)
       ∙ before
     where
       stays : (o rest : Ordering) → (o ≡ Equal → ⊥) → o ≡ ordering_then o rest
-      stays Less rest apart = refl
-      stays Equal rest apart = absurd (apart refl)
-      stays Greater rest apart = refl
+      stays Less _ _ = refl
+      stays Equal _ apart = absurd (apart refl)
+      stays Greater _ _ = refl
 
   pub stands_short : (tuple bound : List L) (level : ℕ) (whole : Ordering) → length tuple ≤ level → level < length bound → leading_cmp cmp (drop level tuple) (drop level bound) ≡ whole → Less ≡ whole
-  stands_short tuple bound level whole all lt before = sym (none_left (drop level bound) (left bound level lt)) ∙ ap (λ l. leading_cmp cmp l (drop level bound)) (sym (drop_all level tuple all)) ∙ before
+  stands_short tuple bound level _ all lt before = sym (none_left (drop level bound) (left bound level lt)) ∙ ap (λ l. leading_cmp cmp l (drop level bound)) (sym (drop_all level tuple all)) ∙ before
     where
       none_left : (bs : List L) → 1 ≤ length bs → leading_cmp cmp [] bs ≡ Less
       none_left [] some = absurd (omega arith)
-      none_left (b ∷ bs) some = refl
+      none_left (b ∷ bs) _ = refl
 
       left : (bs : List L) (k : ℕ) → k < length bs → 1 ≤ length (drop k bs)
       left [] k lt = absurd (omega arith)
@@ -65,14 +65,14 @@ module _ {L : Type 0} (cmp : L → L → Ordering) where
       left (b ∷ bs) (suc k) lt = left bs k (omega arith)
 
   pub stands_equal : (tuple bound : List L) (level : ℕ) (whole : Ordering) → length bound ≤ level → leading_cmp cmp (drop level tuple) (drop level bound) ≡ whole → Equal ≡ whole
-  stands_equal tuple bound level whole all before = grind (arith, drop_all)
+  stands_equal = grind (arith, drop_all)
 
 -- tuples in order, split at a bound
 reach_on : (s t : Bool) → (s ≡ true → t ≡ true) → not t ≡ true → not s ≡ true
-reach_on x t h e = grind arith
+reach_on = grind arith
 
 leave_on : (s t : Bool) → (s ≡ false → t ≡ false) → not (not t) ≡ true → not (not s) ≡ true
-leave_on x t h e = grind arith
+leave_on = grind arith
 
 module _ (texts : List Text) (tuples : List (List Label)) (sorted : is_in_order (leading_cmp (order_in texts)) tuples ≡ true) where
   abbrev cmp : List Label → List Label → Ordering
@@ -98,12 +98,9 @@ module _ (texts : List Text) (tuples : List (List Label)) (sorted : is_in_order 
   -- their slice
   pub slice_found : (lower upper : Option (List Label)) (first end : ℕ) (rows : Rows) → rows_of rows ≡ rows_between first end → IsSplitAt (reaches cmp lower) tuples first
       → IsSplitAt (λ tuple. not (stays_within cmp upper tuple)) tuples end → leading_slice cmp lower upper tuples ≡ Ok (rows_of rows)
-  slice_found lower upper first end rows is from to = grind (arith, when_so, rows_of_splits)
+  slice_found = grind (arith, when_so, rows_of_splits)
 
 -- a slice on one level, and on several
 module _ {X : Type 0} (cmp : X → X → Ordering) (lower upper : Option X) (xs : List X) where
   pub on_one : (levels : ℕ) → levels ≡ 1 → slice_on levels cmp lower upper xs ≡ label_slice cmp lower upper xs
-  on_one levels one = search (when_so, nat_tests)
-
-  pub on_several : (levels : ℕ) → 2 ≤ levels → slice_on levels cmp lower upper xs ≡ leading_slice cmp lower upper xs
-  on_several levels several = grind (arith, when_not, nat_tests)
+  on_one _ one = search (when_so, nat_tests)

@@ -7,28 +7,28 @@ use Rattle.{
 
 -- there are as many names as levels
 pub count_of_names : (kept seen : List (Option Label)) (levels : ℕ) → take levels kept ≡ seen → length kept ≡ 4 → levels ≤ 4 → levels ≡ length seen
-count_of_names kept seen levels is room few = omega (arith, ap length is, length-take levels kept)
+count_of_names kept _ levels is = omega (arith, ap length is, length-take levels kept)
 
 -- the name of a level
 pub name_of_level : (kept seen : List (Option Label)) (levels level : ℕ) → take levels kept ≡ seen → length kept ≡ 4 → levels ≤ 4 → level < length seen
     → slice_get seen level ≡ Some (slice_index_or kept level None)
-name_of_level kept seen levels level is room few inside = grind (arith, count_of_names, slice_get-get_or, get_or-take)
+name_of_level = grind (arith, count_of_names, slice_get-get_or, get_or-take)
 
 -- another name of a level
 pub name_is_set : (kept seen : List (Option Label)) (levels level : ℕ) (name : Option Label) → take levels kept ≡ seen → length kept ≡ 4 → levels ≤ 4 → level < length seen
     → take levels (slice_set kept level name) ≡ slice_set seen level name
-name_is_set kept seen levels level name is room few inside = grind (arith, count_of_names, take-set-lt)
+name_is_set = grind (arith, count_of_names, take-set-lt)
 
 -- the axis with another name of a level
 pub axis_is_named : (tuples : List (List Label)) (kept : List (Option Label)) (axis : AxisValue) (levels level : ℕ) (name : Option Label)
     → record { tuples = tuples; names = take levels kept } ≡ axis → length kept ≡ 4 → levels ≤ 4 → level < length axis.names
     → record { tuples = tuples; names = take levels (slice_set kept level name) } ≡ with_name axis level name
-axis_is_named tuples kept axis levels level name is room few inside = grind (arith, name_is_set)
+axis_is_named = grind (arith, name_is_set)
 
 -- the axis without names
 pub axis_is_nameless : (copied tuples : List (List Label)) (levels : ℕ) → copied ≡ tuples → levels ≤ 4
     → record { tuples = copied; names = take levels (replicate 4 None) } ≡ nameless_axis tuples levels
-axis_is_nameless copied tuples levels same few =
+axis_is_nameless _ _ levels same few =
     let missing : Option Label = None in
     let none : take levels (replicate 4 missing) ≡ replicate levels missing = search take-replicate in
     search

@@ -24,12 +24,12 @@ singles_same a b x y r e f is = (
 
 -- a tuple of an axis
 tuple_there : (axis : AxisValue) (row : ℕ) → row < length axis.tuples → slice_get axis.tuples row ≡ Some (slice_index_or axis.tuples row [])
-tuple_there axis row lt = search slice_get-get_or
+tuple_there = search slice_get-get_or
 
 -- the same labels at each level are the same tuple
 pub same_at_row : (a b : AxisValue) (row levels : ℕ) → row < length a.tuples → row < length b.tuples → HaveLevels levels a.tuples → HaveLevels levels b.tuples
     → ((level : ℕ) → level < levels → label_at a row level ≡ label_at b row level) → slice_get a.tuples row ≡ slice_get b.tuples row
-same_at_row a b row levels lt lt' alike alike' same =
+same_at_row a b row _ lt lt' alike alike' same =
     let x = slice_index_or a.tuples row [] in
     let y = slice_index_or b.tuples row [] in
     let e = tuple_there a row lt in

@@ -1,6 +1,6 @@
 -- The tuples of an axis.
 use Rattle.{
-  std.{specs.Prelude.{◌≡◌, ℕ, ◌+◌, ◌<◌, List, [], ◌∷◌, ◌++◌, length, take, slice_get, slice_index_or, Some, All}, proofs.{Common.{refl, arith, suc}, lemmas.{List.{take_more, map-append, get_or-map, length-map, Elements.{All-map, All-take}}, Option.{get_or_from_slice_get}}}},
+  std.{specs.Prelude.{◌≡◌, ℕ, ◌+◌, ◌<◌, List, [], ◌∷◌, ◌++◌, length, take, slice_get, slice_index_or, Some, All}, proofs.{Common.{refl, arith, suc}, lemmas.{List.{take_more, map-append, get_or-map, length-map, Elements.{All-map}}, Option.{get_or_from_slice_get}}}},
   cell_core.specs.declared.cell.Label.{Label, TheVariants.{Na}},
   index_core.specs.Labels.{labels_at},
   multi_index.specs.Axes.{HaveLevels, single_tuples, tuples_at},
@@ -15,16 +15,11 @@ pub levels_of_taken : (tuples : List (List Label)) (places : List ℕ) (levels :
 levels_of_taken tuples places levels alike inside =
     All-map (λ t. length t ≡ levels) (λ place. slice_index_or tuples place []) places (λ k d h. alike (slice_index_or places k d) [] (inside k d h))
 
--- and so have those that are taken so far
-pub levels_so_far : (tuples taken : List (List Label)) (places : List ℕ) (k levels : ℕ) → taken ≡ tuples_at tuples (take k places) → HaveLevels levels tuples → All (λ place. place < length tuples) places
-    → HaveLevels levels taken
-levels_so_far tuples taken places k levels is alike inside = rw is (levels_of_taken tuples (take k places) levels alike (All-take (λ place. place < length tuples) k places inside))
-
 -- one more tuple is taken
 pub one_more_taken : (tuples : List (List Label)) (places : List ℕ) (k place : ℕ) (tuple : List Label) (taken taken' : List (List Label))
     → taken ≡ tuples_at tuples (take k places) → k < length places → slice_get places k ≡ Some place → slice_get tuples place ≡ Some tuple → taken' ≡ taken ++ tuple ∷ []
     → taken' ≡ tuples_at tuples (take (k + 1) places)
-one_more_taken tuples places k place tuple taken taken' before inside at is pushed =
+one_more_taken tuples places k _ tuple _ _ before inside at is pushed =
     let same : slice_index_or tuples (slice_index_or places k 0) [] ≡ tuple = grind (arith, get_or_from_slice_get)
     in
     cc (take_more places k 0 inside, map-append (λ p. slice_index_or tuples p []) (take k places) (slice_index_or places k 0 ∷ []))
@@ -32,7 +27,7 @@ one_more_taken tuples places k place tuple taken taken' before inside at is push
 -- one more tuple is copied
 pub one_more_copied : (tuples : List (List Label)) (k : ℕ) (tuple : List Label) (copied copied' : List (List Label))
     → copied ≡ take k tuples → k < length tuples → slice_get tuples k ≡ Some tuple → copied' ≡ copied ++ tuple ∷ [] → copied' ≡ take (k + 1) tuples
-one_more_copied tuples k tuple copied copied' before inside is pushed = cc (take_more tuples k [] inside, get_or_from_slice_get tuples k tuple [] is)
+one_more_copied tuples k tuple _ _ before inside is pushed = cc (take_more tuples k [] inside, get_or_from_slice_get tuples k tuple [] is)
 
 -- a tuple of one label
 pub only_label_is : (t : List Label) (l : Label) → length t ≡ 1 → slice_get t 0 ≡ Some l → t ≡ l ∷ []
@@ -44,16 +39,16 @@ only_label_is (x ∷ (y ∷ ys)) l one at = search
 pub one_more_single : (labels labels' : List Label) (tuples : List (List Label)) (row : ℕ) (t : List Label) (l : Label)
     → single_tuples labels ≡ take row tuples → row < length tuples → HaveLevels 1 tuples → slice_get tuples row ≡ Some t → slice_get t 0 ≡ Some l → labels' ≡ labels ++ l ∷ []
     → single_tuples labels' ≡ take (row + 1) tuples
-one_more_single labels labels' tuples row t l before inside alike at first pushed =
+one_more_single _ _ tuples row t l before inside alike at first pushed =
     let here : slice_index_or tuples row [] ≡ t = search get_or_from_slice_get in
     grind (arith, map-append, only_label_is, take_more)
 
 -- labels that are taken, as tuples
 pub single_taken : (labels : List Label) (places : List ℕ) → All (λ place. place < length labels) places → single_tuples (labels_at labels places) ≡ tuples_at (single_tuples labels) places
-single_taken labels [] inside = refl
+single_taken _ [] inside = refl
 single_taken labels (place ∷ places) inside =
     let here = get_or-map (λ l. l ∷ []) labels place Na [] (inside 0 place (omega arith)) in
     search (single_taken labels places (λ k d lt. inside (suc k) d (omega arith)))
 
 pub places_of_single : (labels : List Label) (tuples : List (List Label)) (places : List ℕ) → single_tuples labels ≡ tuples → All (λ place. place < length tuples) places → All (λ place. place < length labels) places
-places_of_single labels tuples places is inside = grind (arith, length-map)
+places_of_single = grind (arith, length-map)

@@ -1,6 +1,6 @@
 -- The different values, seen one after another, are the different cells.
 use Rattle.{
-  std.{proofs.{Common.{◌≡◌, ℕ, zero, suc, ◌+◌, ◌<◌, ◌≤◌, Bool, true, false, not, ◌&&◌, ◌||◌, cond, List, [], ◌∷◌, ◌++◌, length, map, refl, ap, sym, ◌∙◌, append_assoc, append-nil, arith, Option, Some, None, Result, Ok, Err, IfOk, IfSome, fold}, lemmas.{List.{length-map, Folds.{list_any-append}}, Map.Text.{is_eq-slice_cmp}, Bool.Decides.{same_from_decides, Decides-eqb, Decides-like}, Slice.Eq.{bytes_eq-Decides}}, Math.Bool.{beq}}, specs.{List.{filter, list_any, range_with_len}, Cmp.{IsEquivalence, Lexicographic.{slice_cmp}}, Ordering.{is_eq, int_cmp, int_eq, bool_cmp, nat_cmp}, Prelude.{ℤ, nat_eq, bytes_eq, slice_index_or}}},
+  std.{proofs.{Common.{◌≡◌, ℕ, zero, suc, ◌+◌, ◌<◌, ◌≤◌, Bool, true, false, not, ◌&&◌, ◌||◌, cond, List, [], ◌∷◌, ◌++◌, length, map, refl, ap, sym, ◌∙◌, append_assoc, append-nil, arith, Option, Some, None, Result, IfOk, IfSome, fold}, lemmas.{List.{length-map, Folds.{list_any-append}}, Map.Text.{is_eq-slice_cmp}, Bool.Decides.{same_from_decides}, Slice.Eq.{bytes_eq-Decides}}, Math.Bool.{beq}}, specs.{List.{filter, list_any, range_with_len}, Cmp.{IsEquivalence, Lexicographic.{slice_cmp}}, Ordering.{is_eq, int_cmp, int_eq, bool_cmp, nat_cmp}, Prelude.{ℤ, nat_eq}}},
   indexmap.specs.IndexSet.{insert_key},
   cell_core.specs.declared.cell.{Cell.{Cell}, TextId.{TextId}},
   meaning.specs.{Cell.{CellValue, na_cell, datum, text_of, AreDistinct, IsGiven}, Column.{tabulate}, Reduce.{is_present, present, same_cell, distinct, distinct_count}},
@@ -10,37 +10,27 @@ use Rattle.{
 
 filter-filter : {X : Type 0} (p q : X → Bool) (xs : List X) → filter p (filter q xs) ≡ filter (λ x. q x && p x) xs
 filter-filter p q [] = refl
-filter-filter p q (x ∷ xs) =
-    elim (q x) as (λ b. filter p (cond b (x ∷ filter q xs) (filter q xs)) ≡ cond (b && p x) (x ∷ filter (λ y. q y && p y) xs) (filter (λ y. q y && p y) xs)) [
-      | true ↦ ap (λ l. cond (p x) (x ∷ l) l) (filter-filter p q xs)
-      | false ↦ filter-filter p q xs
-    ]
+filter-filter p q (x ∷ xs) = grind (arith, filter-filter p q xs)
 
 filter-same : {X : Type 0} (p q : X → Bool) → ((x : X) → p x ≡ q x) → (xs : List X) → filter p xs ≡ filter q xs
-filter-same p q same [] = refl
-filter-same p q same (x ∷ xs) =
-    ap (λ b. cond b (x ∷ filter p xs) (filter p xs)) (same x) ∙ ap (λ l. cond (q x) (x ∷ l) l) (filter-same p q same xs)
+filter-same p q _ [] = refl
+filter-same p q same (x ∷ xs) = cc (same x, filter-same p q same xs)
 
 filter-all : {X : Type 0} (xs : List X) → filter (λ x. true) xs ≡ xs
 filter-all [] = refl
-filter-all (x ∷ xs) = ap (λ l. x ∷ l) (filter-all xs)
+filter-all (x ∷ xs) = cc (filter-all xs)
 
 filter-map : {X Y : Type 0} (p : Y → Bool) (f : X → Y) (xs : List X) → filter p (map f xs) ≡ map f (filter (λ x. p (f x)) xs)
 filter-map p f [] = refl
-filter-map p f (x ∷ xs) =
-    elim (p (f x)) as (λ b. cond b (f x ∷ filter p (map f xs)) (filter p (map f xs)) ≡ map f (cond b (x ∷ filter (λ y. p (f y)) xs) (filter (λ y. p (f y)) xs))) [
-      | true ↦ ap (λ l. f x ∷ l) (filter-map p f xs)
-      | false ↦ filter-map p f xs
-    ]
+filter-map p f (x ∷ xs) = grind (arith, filter-map p f xs)
 
 row_folded : {S T : Type 0} (step : S → T → S) (row : ℕ → Option T) (s : S) (o : Option T) (ks : List ℕ) → ((t : S) → fold (λ u k. step_row step u (row k)) t ks ≡ fold step t (present_values (map row ks)))
     → fold (λ u k. step_row step u (row k)) (step_row step s o) ks ≡ fold step s (present_values (o ∷ map row ks))
-row_folded step row s None ks rest = rest s
-row_folded step row s (Some x) ks rest = rest (step s x)
+row_folded = grind arith
 
 -- a fold of rows is one of the values that are present
 pub values_folded : {S T : Type 0} (step : S → T → S) (row : ℕ → Option T) (s : S) (ks : List ℕ) → fold (λ u k. step_row step u (row k)) s ks ≡ fold step s (present_values (map row ks))
-values_folded step row s [] = refl
+values_folded _ _ s [] = refl
 values_folded step row s (k ∷ ks) = row_folded step row s (row k) ks (λ t. values_folded step row t ks)
 
 -- a value that is not seen
@@ -54,35 +44,19 @@ unseen eq seen keys = filter (not_in eq seen) (distinct eq keys)
 module _ {K : Type 0} (eq : K → K → Bool) (laws : IsEquivalence eq) where
   any_alike : (q k : K) → eq q k ≡ true → (xs : List K) → list_any (eq q) xs ≡ list_any (eq k) xs
   any_alike q k e [] = refl
-  any_alike q k e (x ∷ xs) = ap (λ b. b || list_any (eq q) xs) (laws.congr q k x e) ∙ ap (λ b. eq k x || b) (any_alike q k e xs)
+  any_alike q k e (x ∷ xs) = grind (arith, any_alike q k e xs)
 
   -- a value that was seen adds nothing
   seen_before : (k : K) (seen rest : List K) → list_any (eq k) seen ≡ true → unseen eq seen (k ∷ rest) ≡ unseen eq seen rest
-  seen_before k seen rest h =
-      ap (λ b. cond (not b) (k ∷ filter (not_in eq seen) (filter (λ q. not (eq q k)) (distinct eq rest))) (filter (not_in eq seen) (filter (λ q. not (eq q k)) (distinct eq rest)))) h
-      ∙ filter-filter (not_in eq seen) (λ q. not (eq q k)) (distinct eq rest)
-      ∙ filter-same _ _ (λ q. elim (eq q k) as (λ b. eq q k ≡ b → (not b && not_in eq seen q) ≡ not_in eq seen q) [
-        | true ↦ λ e. sym (ap not (any_alike q k e seen ∙ h))
-        | false ↦ λ e. refl
-      ] refl) (distinct eq rest)
+  seen_before k seen rest h = cc (filter-filter (not_in eq seen) (λ q. not (eq q k)) (distinct eq rest), filter-same _ _ (λ q. elim (eq q k) as (λ b. eq q k ≡ b → (not b && not_in eq seen q) ≡ not_in eq seen q) [ true ↦ λ e. sym (ap not (any_alike q k e seen ∙ h)) | false ↦ λ e. refl ] refl) (distinct eq rest))
 
   -- a new value is the next
   seen_new : (k : K) (seen rest : List K) → list_any (eq k) seen ≡ false → unseen eq seen (k ∷ rest) ≡ k ∷ unseen eq (seen ++ k ∷ []) rest
-  seen_new k seen rest h =
-      ap (λ b. cond (not b) (k ∷ filter (not_in eq seen) (filter (λ q. not (eq q k)) (distinct eq rest))) (filter (not_in eq seen) (filter (λ q. not (eq q k)) (distinct eq rest)))) h
-      ∙ ap (λ l. k ∷ l) (filter-filter (not_in eq seen) (λ q. not (eq q k)) (distinct eq rest)
-      ∙ filter-same _ _ (λ q. elim (eq q k) as (λ b. (not b && not_in eq seen q) ≡ not (list_any (eq q) seen || (b || false))) [
-        | true ↦ elim (list_any (eq q) seen) as (λ t. false ≡ not (t || true)) [ true ↦ refl | false ↦ refl ]
-        | false ↦ elim (list_any (eq q) seen) as (λ t. not t ≡ not (t || false)) [ true ↦ refl | false ↦ refl ]
-      ] ∙ ap not (sym (list_any-append (eq q) seen (k ∷ [])))) (distinct eq rest))
+  seen_new k seen rest h = cc (filter-filter (not_in eq seen) (λ q. not (eq q k)) (distinct eq rest), filter-same _ _ (λ q. elim (eq q k) as (λ b. (not b && not_in eq seen q) ≡ not (list_any (eq q) seen || (b || false))) [ true ↦ elim (list_any (eq q) seen) as (λ t. false ≡ not (t || true)) [ true ↦ refl | false ↦ refl ] | false ↦ elim (list_any (eq q) seen) as (λ t. not t ≡ not (t || false)) [ true ↦ refl | false ↦ refl ] ] ∙ ap not (sym (list_any-append (eq q) seen (k ∷ [])))) (distinct eq rest))
 
   -- the next value is taken
   seen_more : (k : K) (seen rest : List K) → insert_key eq seen k ++ unseen eq (insert_key eq seen k) rest ≡ seen ++ unseen eq seen (k ∷ rest)
-  seen_more k seen rest =
-      elim (list_any (eq k) seen) as (λ b. list_any (eq k) seen ≡ b → cond b seen (seen ++ k ∷ []) ++ unseen eq (cond b seen (seen ++ k ∷ [])) rest ≡ seen ++ unseen eq seen (k ∷ rest)) [
-        | true ↦ λ h. ap (λ l. seen ++ l) (sym (seen_before k seen rest h))
-        | false ↦ λ h. append_assoc seen (k ∷ []) _ ∙ ap (λ l. seen ++ l) (sym (seen_new k seen rest h))
-      ] refl
+  seen_more = grind (arith, seen_before, append_assoc, seen_new)
 
   all_seen : (seen keys : List K) → fold (insert_key eq) seen keys ≡ seen ++ unseen eq seen keys
   all_seen seen [] = sym (append-nil seen)
@@ -107,40 +81,34 @@ each-filter P p (x ∷ xs) (one_more h hs) =
     ]
 
 each-distinct : {T : Type 0} (P : T → Type 0) (eq : T → T → Bool) (xs : List T) → Each P xs → Each P (distinct eq xs)
-each-distinct P eq [] h = h
-each-distinct P eq (x ∷ xs) (one_more h hs) = one_more h (each-filter P (λ y. not (eq y x)) (distinct eq xs) (each-distinct P eq xs hs))
+each-distinct P _ [] h = h
+each-distinct P eq (x ∷ xs) (one_more h hs) = one_more h (search (each-filter, each-distinct P eq xs hs))
 
 filter-each : {T : Type 0} (P : T → Type 0) (p q : T → Bool) → ((x : T) → P x → p x ≡ q x) → (xs : List T) → Each P xs → filter p xs ≡ filter q xs
-filter-each P p q same [] h = refl
-filter-each P p q same (x ∷ xs) (one_more h hs) =
-    ap (λ b. cond b (x ∷ filter p xs) (filter p xs)) (same x h) ∙ ap (λ l. cond (q x) (x ∷ l) l) (filter-each P p q same xs hs)
+filter-each P p q _ [] h = refl
+filter-each P p q same (x ∷ xs) (one_more h hs) = grind (arith, filter-each P p q same xs hs)
 
 -- values that are told apart as their images are
 distinct-map : {X Y : Type 0} (f : X → Y) (same : Y → Y → Bool) (eq : X → X → Bool) (P : X → Type 0) → ((x y : X) → P x → P y → same (f x) (f y) ≡ eq x y) → (xs : List X) → Each P xs → distinct same (map f xs) ≡ map f (distinct eq xs)
-distinct-map f same eq P law [] h = refl
-distinct-map f same eq P law (x ∷ xs) (one_more h hs) =
-    ap (λ l. f x ∷ filter (λ d. not (same d (f x))) l) (distinct-map f same eq P law xs hs)
-    ∙ ap (λ l. f x ∷ l) (filter-map (λ d. not (same d (f x))) f (distinct eq xs)
-    ∙ ap (map f) (filter-each P (λ y. not (same (f y) (f x))) (λ y. not (eq y x)) (λ y p. ap not (law y x p h)) (distinct eq xs) (each-distinct P eq xs hs)))
+distinct-map f _ _ P _ [] h = refl
+distinct-map f same eq P law (x ∷ xs) (one_more h hs) = cc (distinct-map f same eq P law xs hs, filter-map (λ d. not (same d (f x))) f (distinct eq xs), filter-each P (λ y. not (same (f y) (f x))) (λ y. not (eq y x)) (λ y p. ap not (law y x p h)) (distinct eq xs) (each-distinct P eq xs hs))
 
 each_more : {T : Type 0} (P : T → Type 0) (o : Option T) (os : List (Option T)) → IfSome o P → Each P (present_values os) → Each P (present_values (o ∷ os))
-each_more P None os p rest = rest
-each_more P (Some x) os p rest = one_more p rest
+each_more P None _ p rest = rest
+each_more P (Some x) _ p rest = one_more p rest
 
 each_present : {T : Type 0} (P : T → Type 0) (row : ℕ → Option T) (a n : ℕ) → ((k : ℕ) → a ≤ k → k < a + n → IfSome (row k) P) → Each P (present_values (map row (range_with_len a n)))
-each_present P row a zero h = none_left
-each_present P row a (suc n) h =
-    each_more P (row a) (map row (range_with_len (a + 1) n)) (h a (omega arith) (omega arith)) (each_present P row (a + 1) n (λ k le lt. h k (omega arith) (omega arith)))
+each_present P _ a zero h = none_left
+each_present P row a (suc n) h = grind (arith, each_more, each_present P row (a + 1) n (λ k le lt. h k (omega arith) (omega arith)))
 
 module _ {T : Type 0} (texts : List (List ℕ)) (cell : Option T → Cell) (missing : datum texts (cell None) ≡ na_cell) (there : (x : T) → is_present (datum texts (cell (Some x))) ≡ true) where
   present_more : (o : Option T) (cells : List CellValue) (os : List (Option T)) → present cells ≡ map (λ x. datum texts (cell (Some x))) (present_values os)
       → present (datum texts (cell o) ∷ cells) ≡ map (λ x. datum texts (cell (Some x))) (present_values (o ∷ os))
-  present_more None cells os rest = ap (λ c. present (c ∷ cells)) missing ∙ rest
-  present_more (Some x) cells os rest = ap (λ b. cond b (datum texts (cell (Some x)) ∷ present cells) (present cells)) (there x) ∙ ap (λ l. datum texts (cell (Some x)) ∷ l) rest
+  present_more = grind arith
 
   cells_present : (row : ℕ → Option T) (ks : List ℕ) → present (map (λ k. datum texts (cell (row k))) ks) ≡ map (λ x. datum texts (cell (Some x))) (present_values (map row ks))
-  cells_present row [] = refl
-  cells_present row (k ∷ ks) = present_more (row k) (map (λ j. datum texts (cell (row j))) ks) (map row ks) (cells_present row ks)
+  cells_present _ [] = refl
+  cells_present row (k ∷ ks) = search (present_more, cells_present row ks)
 
   -- as many different cells are present as different values
   pub distinct_seen : (eq : T → T → Bool) (P : T → Type 0) → ((x y : T) → P x → P y → same_cell (datum texts (cell (Some x))) (datum texts (cell (Some y))) ≡ eq x y) → (n : ℕ) (row : ℕ → Option T) → ((k : ℕ) → k < n → IfSome (row k) P)
@@ -148,37 +116,26 @@ module _ {T : Type 0} (texts : List (List ℕ)) (cell : Option T → Cell) (miss
   distinct_seen eq P law n row h =
       let f = λ (x : T). datum texts (cell (Some x)) in
       let xs = present_values (tabulate n row) in
-      sym (ap (λ l. distinct_count l) (map-map (λ k. cell (row k)) (datum texts) (range_with_len 0 n))
-      ∙ ap (λ l. length (distinct same_cell l)) (cells_present row (range_with_len 0 n))
-      ∙ ap length (distinct-map f same_cell eq P law xs (each_present P row 0 n (λ k le lt. h k (omega arith))))
-      ∙ length-map (distinct eq xs) f)
+      cc (map-map (λ k. cell (row k)) (datum texts) (range_with_len 0 n), cells_present row (range_with_len 0 n), distinct-map f same_cell eq P law xs (each_present P row 0 n (λ k le lt. h k (omega arith))), length-map (distinct eq xs) f)
 
 -- an answer that is the one that is to be answered
 pub if_ok_same : {E : Type 0} (r : Result ℕ E) (x y : ℕ) → IfOk r (λ n. n ≡ x) → x ≡ y → IfOk r (λ n. n ≡ y)
-if_ok_same (Ok n) x y e f = e ∙ f
-if_ok_same (Err e) x y h f = h
+if_ok_same = grind arith
 
 -- numbers and truth values are told apart as their cells are
 pub numbers_apart : (x y : ℤ) → is_eq (int_cmp x y) ≡ int_eq x y
 numbers_apart x y = refl
 
 pub truths_apart : (x y : Bool) → is_eq (bool_cmp x y) ≡ beq x y
-truths_apart true true = refl
-truths_apart true false = refl
-truths_apart false true = refl
-truths_apart false false = refl
+truths_apart = grind arith
 
 -- and given texts by their numbers
 pub texts_apart : (texts : List (List ℕ)) (x y : TextId) → AreDistinct texts → x.0 < length texts → y.0 < length texts → is_eq (slice_cmp nat_cmp (text_of texts x) (text_of texts y)) ≡ nat_eq x.0 y.0
-texts_apart texts x y apart hx hy = is_eq-slice_cmp (text_of texts x) (text_of texts y)
-    ∙ same_from_decides (bytes_eq (text_of texts x) (text_of texts y)) (nat_eq x.0 y.0) (bytes_eq-Decides (text_of texts x) (text_of texts y))
-    (Decides-like (nat_eq x.0 y.0) (λ e. ap (λ k. slice_index_or texts k []) e) (apart x.0 y.0 hx hy) (Decides-eqb x.0 y.0))
+texts_apart = grind (arith, is_eq-slice_cmp, same_from_decides, bytes_eq-Decides)
 
 -- any row will do where nothing is asked of its value
 pub anything : {T : Type 0} (o : Option T) → IfSome o (λ x. Unit {0})
-anything None = tt
-anything (Some x) = tt
+anything = grind arith
 
 pub given_value : (texts : List (List ℕ)) (o : Option TextId) → IsGiven texts (text_cell o) → IfSome o (λ x. x.0 < length texts)
-given_value texts None g = tt
-given_value texts (Some x) g = g
+given_value = grind arith

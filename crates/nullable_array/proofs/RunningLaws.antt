@@ -1,10 +1,10 @@
 -- What is gathered at each row is the cumulation of the cells.
 use Rattle.{
-  std.{proofs.{Common.{◌≡◌, ℕ, zero, suc, ◌+◌, Bool, true, false, List, [], ◌∷◌, map, refl, sym, ap, ◌∙◌, arith, ℤ, pos, ◌+ℤ◌, Option, Some, None, is_some, unwrap_or, cond, Ok}, lemmas.List.FromFn.{map-range_with_len_more}}, specs.{Int.{int_wrap, w64}, Ordering.{int_cmp}, List.{range_with_len}}},
+  std.{proofs.{Common.{◌≡◌, ℕ, zero, suc, ◌+◌, Bool, true, List, [], map, refl, sym, ap, ◌∙◌, arith, ℤ, pos, ◌+ℤ◌, Option, Some, None, unwrap_or, Ok}, lemmas.List.FromFn.{map-range_with_len_more}}, specs.{Int.{int_wrap, w64}, Ordering.{int_cmp}, List.{range_with_len}}},
   cell_core.specs.declared.cell.{Cell.{Cell}, Kind.TheVariants.{Int64, Boolean}},
-  meaning.specs.{Cell.{CellValue, na_cell, int_cell, datum}, Column.{tabulate}, Reduce.{reduction_cell, is_present, number_in}, Cumulate.{running, unless_missing, cumulate_column}},
+  meaning.specs.{Cell.{CellValue, na_cell, datum}, Column.{tabulate}, Reduce.{reduction_cell, is_present, number_in}, Cumulate.{running, unless_missing, cumulate_column}},
   column_core.{specs.Columns.{column_value, column_with, number_cell, truth_cell}, proofs.CellRows.{map-map}},
-  nullable_array.{specs.Folds.{step_row, folded, sum_step, running_step, running_row, one_of_truth, least_step, greatest_step}, proofs.FoldLaws.{folded_more, folded_seen, least_seen, greatest_seen}},
+  nullable_array.{specs.Folds.{folded, sum_step, running_step, running_row, one_of_truth, least_step, greatest_step}, proofs.FoldLaws.{folded_more, folded_seen, least_seen, greatest_seen}},
 }
 use Rattle.meaning.specs.Reduce as reduction
 use Rattle.meaning.specs.Cumulate as cumulation
@@ -12,21 +12,14 @@ use Rattle.meaning.specs.Cumulate as cumulation
 module _ {T : Type 0} (texts : List (List ℕ)) (cell : Option T → Cell) (f : List CellValue → CellValue) (step : Option ℤ → T → Option ℤ) (row : ℕ → Option T) (missing : datum texts (cell None) ≡ na_cell)
     (there : (x : T) (y : CellValue) → unless_missing (datum texts (cell (Some x))) y ≡ y)
     (up_to : (k : ℕ) (x : T) → row k ≡ Some x → f (map (datum texts) (tabulate (k + 1) (λ j. cell (row j)))) ≡ datum texts (number_cell (folded step None (k + 1) row))) where
-  head_at : (k : ℕ) (o : Option T) → row k ≡ o → unless_missing (datum texts (cell o)) (f (map (λ j. datum texts (cell (row j))) (range_with_len 0 (k + 1)))) ≡ datum texts (number_cell (cond (is_some o) (folded step None (k + 1) row) None))
-  head_at k None e = ap (λ c. unless_missing c (f (map (λ j. datum texts (cell (row j))) (range_with_len 0 (k + 1))))) missing
-  head_at k (Some x) e = there x _ ∙ ap f (sym (map-map (λ j. cell (row j)) (datum texts) (range_with_len 0 (k + 1)))) ∙ up_to k x e
-
   runs : (a n : ℕ) → running f (map (λ k. datum texts (cell (row k))) (range_with_len 0 a)) (map (λ k. datum texts (cell (row k))) (range_with_len a n)) ≡ map (λ k. datum texts (number_cell (running_row step row k))) (range_with_len a n)
   runs a zero = refl
   runs a (suc n) =
-      let rest = map (λ k. datum texts (cell (row k))) (range_with_len (a + 1) n) in
-      ap (λ l. unless_missing (datum texts (cell (row a))) (f l) ∷ running f l rest) (sym (map-range_with_len_more (λ k. datum texts (cell (row k))) 0 a a (omega arith)))
-      ∙ ap (λ c. c ∷ running f (map (λ k. datum texts (cell (row k))) (range_with_len 0 (a + 1))) rest) (head_at a (row a) refl)
-      ∙ ap (λ l. datum texts (number_cell (running_row step row a)) ∷ l) (runs (a + 1) n)
+      grind (arith, map-range_with_len_more (λ k. datum texts (cell (row k))) 0 a a (omega arith), map-map, runs (a + 1) n)
 
   pub running_seen : (n : ℕ) → running f [] (map (datum texts) (tabulate n (λ k. cell (row k)))) ≡ map (datum texts) (tabulate n (λ k. number_cell (running_row step row k)))
   running_seen n =
-      ap (running f []) (map-map (λ k. cell (row k)) (datum texts) (range_with_len 0 n)) ∙ runs 0 n ∙ sym (map-map (λ k. number_cell (running_row step row k)) (datum texts) (range_with_len 0 n))
+      ap (running f []) (map-map (λ k. cell (row k)) (datum texts) (range_with_len 0 n)) ∙ runs 0 n ∙ sym (search map-map)
 
 -- a sum that has begun
 sum_up_to : {T : Type 0} (texts : List (List ℕ)) (cell : Option T → Cell) (value : T → ℤ) (row : ℕ → Option T) → datum texts (cell None) ≡ na_cell → ((x : T) → is_present (datum texts (cell (Some x))) ≡ true)
@@ -34,27 +27,22 @@ sum_up_to : {T : Type 0} (texts : List (List ℕ)) (cell : Option T → Cell) (v
     → reduction_cell reduction.sum (map (datum texts) (tabulate (k + 1) (λ j. cell (row j)))) ≡ datum texts (number_cell (folded (λ s y. running_step s (value y)) None (k + 1) row))
 sum_up_to {T} texts cell value row missing there law k x e =
     let step = λ (s : Option ℤ) (y : T). running_step s (value y) in
-    let begun : folded step None (k + 1) row ≡ step (folded step None k row) x = folded_more step None k row ∙ ap (step_row step (folded step None k row)) e in
-    ap int_cell (folded_seen texts cell (λ total c. int_wrap w64 (total +ℤ number_in c)) step (λ s. unwrap_or s (pos 0)) missing there (λ s y. law (unwrap_or s (pos 0)) y) None (k + 1) row)
-    ∙ ap (λ s. int_cell (unwrap_or s (pos 0))) begun ∙ sym (ap (λ s. datum texts (number_cell s)) begun)
-
-truth_sum : (texts : List (List ℕ)) (s : ℤ) (x : Bool) → int_wrap w64 (s +ℤ number_in (datum texts (truth_cell (Some x)))) ≡ sum_step s (one_of_truth x)
-truth_sum texts s true = refl
-truth_sum texts s false = refl
+    let begun : folded step None (k + 1) row ≡ step (folded step None k row) x = grind (arith, folded_more) in
+    cc (folded_seen texts cell (λ total c. int_wrap w64 (total +ℤ number_in c)) step (λ s. unwrap_or s (pos 0)) missing there (λ s y. law (unwrap_or s (pos 0)) y) None (k + 1) row)
 
 module _ (texts : List (List ℕ)) (n : ℕ) where
   pub number_sums : (row : ℕ → Option ℤ) → cumulate_column cumulation.sum (column_value texts (column_with Int64 number_cell n row)) ≡ Ok (column_value texts (column_with Int64 number_cell n (running_row running_step row)))
-  number_sums row = ap (λ (l : List CellValue). Ok record { kind = Int64; cells = l })
+  number_sums row = ap (λ l. Ok record { kind = Int64; cells = l })
       (running_seen texts number_cell (reduction_cell reduction.sum) running_step row refl (λ x y. refl) (sum_up_to texts number_cell (λ x. x) row refl (λ x. refl) (λ s x. refl)) n)
 
   pub truth_sums : (row : ℕ → Option Bool) → cumulate_column cumulation.sum (column_value texts (column_with Boolean truth_cell n row)) ≡ Ok (column_value texts (column_with Int64 number_cell n (running_row (λ s x. running_step s (one_of_truth x)) row)))
-  truth_sums row = ap (λ (l : List CellValue). Ok record { kind = Int64; cells = l })
-      (running_seen texts truth_cell (reduction_cell reduction.sum) (λ s x. running_step s (one_of_truth x)) row refl (λ x y. refl) (sum_up_to texts truth_cell one_of_truth row refl (λ x. refl) (truth_sum texts)) n)
+  truth_sums row = ap (λ l. Ok record { kind = Int64; cells = l })
+      (running_seen texts truth_cell (reduction_cell reduction.sum) (λ s x. running_step s (one_of_truth x)) row refl (λ x y. refl) (sum_up_to texts truth_cell one_of_truth row refl (λ x. refl) (search)) n)
 
   pub number_leasts : (row : ℕ → Option ℤ) → cumulate_column cumulation.min (column_value texts (column_with Int64 number_cell n row)) ≡ Ok (column_value texts (column_with Int64 number_cell n (running_row (least_step int_cmp) row)))
-  number_leasts row = ap (λ (l : List CellValue). Ok record { kind = Int64; cells = l })
+  number_leasts row = ap (λ l. Ok record { kind = Int64; cells = l })
       (running_seen texts number_cell (reduction_cell reduction.min) (least_step int_cmp) row refl (λ x y. refl) (λ k x e. least_seen texts number_cell int_cmp refl (λ x. refl) (λ b x. refl) (λ x y. refl) (k + 1) row) n)
 
   pub number_greatests : (row : ℕ → Option ℤ) → cumulate_column cumulation.max (column_value texts (column_with Int64 number_cell n row)) ≡ Ok (column_value texts (column_with Int64 number_cell n (running_row (greatest_step int_cmp) row)))
-  number_greatests row = ap (λ (l : List CellValue). Ok record { kind = Int64; cells = l })
+  number_greatests row = ap (λ l. Ok record { kind = Int64; cells = l })
       (running_seen texts number_cell (reduction_cell reduction.max) (greatest_step int_cmp) row refl (λ x y. refl) (λ k x e. greatest_seen texts number_cell int_cmp refl (λ x. refl) (λ b x. refl) (λ x y. refl) (k + 1) row) n)

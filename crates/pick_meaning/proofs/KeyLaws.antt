@@ -1,7 +1,7 @@
 -- What a key of `loc` picks is the same where labels are seen otherwise, and lies within the axis.
 use Rattle.{
-  std.{proofs.{Common.{◌≡◌, ◌∙◌, ap, subst, refl, arith, ℕ, zero, suc, ◌<◌, ◌==◌, Bool, false, ◌&&◌, List, [], ◌∷◌, length, map, All, Ok, nat_lt, slice_index_or, if◌then◌else◌}, lemmas.List.{length-map, FromFn.{length-range_with_len, get_or-range_with_len}}}, specs.{List.{range_with_len}, Ordering.{ordering_then}, declared.cmp.Ordering.{Ordering}}},
-  pick_meaning.{specs.{Faults.{then_pick, pick_seen}, Leading.{leads, leading_cmp}, Labels.{rows_of_key, rows_of_keys}, Slices.{slice_on}, Keys.{LabelKey, all_rows, one_key, each_key, between, key_seen, PlaceKey, one_place, each_place, place_slice, Pick, listed_pick, sliced_pick, single_pick, has_one, key_pick, picked_by_label, picked_by_place}, Positions.{row_at, rows_at, step_or_one, position_slice}, Rows.{rows_of}}, proofs.{SeenLaws.{then_seen, rows_of_key-map, rows_of_keys-map, slice_on-map}, InsideLaws.{went_on, ok_same, key_inside, keys_inside, slice_on_inside}, PositionLaws.{at_inside, rows_at_inside, slice_below, spaced_inside}}},
+  std.{proofs.{Common.{◌≡◌, ◌∙◌, ap, subst, refl, arith, ℕ, suc, ◌<◌, Bool, ◌&&◌, List, [], ◌∷◌, length, map, All, Ok}, lemmas.List.{length-map, FromFn.{length-range_with_len, get_or-range_with_len}}}, specs.declared.cmp.Ordering.{Ordering}},
+  pick_meaning.{specs.{Faults.{then_pick, pick_seen}, Leading.{leads, leading_cmp}, Labels.{rows_of_key, rows_of_keys}, Slices.{slice_on}, Keys.{LabelKey, all_rows, one_key, each_key, between, key_seen, PlaceKey, one_place, each_place, place_slice, Pick, listed_pick, sliced_pick, key_pick, picked_by_label, picked_by_place}, Positions.{step_or_one, position_slice}, Rows.{rows_of}}, proofs.{SeenLaws.{then_seen, rows_of_key-map, rows_of_keys-map, slice_on-map}, InsideLaws.{went_on, ok_same, key_inside, keys_inside, slice_on_inside}, PositionLaws.{at_inside, rows_at_inside, slice_below, spaced_inside}}},
 }
 
 module _ {X Y : Type 0} (cmp' : Y → Y → Ordering) (cmp : X → X → Ordering) (f : X → Y) (alike : (x y : X) → cmp' (f x) (f y) ≡ cmp x y) where
@@ -9,15 +9,14 @@ module _ {X Y : Type 0} (cmp' : Y → Y → Ordering) (cmp : X → X → Orderin
   leading_cmp-map [] [] = refl
   leading_cmp-map (x ∷ tuple) [] = refl
   leading_cmp-map [] (b ∷ bound) = refl
-  leading_cmp-map (x ∷ tuple) (b ∷ bound) = λ j. ordering_then (alike x b j) (leading_cmp-map tuple bound j)
+  leading_cmp-map (x ∷ tuple) (b ∷ bound) = grind (arith, leading_cmp-map tuple bound)
 
 module _ {X Y : Type 0} (P : X → Type 0) (same' : Y → Y → Bool) (same : X → X → Bool) (f : X → Y) (alike : (x y : X) → P x → P y → same' (f x) (f y) ≡ same x y) where
   pub leads-map : (key tuple : List X) → All P key → All P tuple → leads same' (map f key) (map f tuple) ≡ leads same key tuple
-  leads-map [] tuple given all = refl
-  leads-map (k ∷ key) [] given all = refl
+  leads-map [] _ _ _ = refl
+  leads-map (k ∷ key) [] _ _ = refl
   leads-map (k ∷ key) (x ∷ tuple) given all =
-      let later = leads-map key tuple (λ j d lt. given (suc j) d (omega arith)) (λ j d lt. all (suc j) d (omega arith)) in
-      λ j. alike k x (given 0 k (omega arith)) (all 0 x (omega arith)) j && later j
+      λ j. alike k x (given 0 k (omega arith)) (all 0 x (omega arith)) j && (leads-map key tuple (λ j d lt. given (suc j) d (omega arith)) (λ j d lt. all (suc j) d (omega arith))) j
 
 -- the labels of a key have a property
 abbrev pub IsOfKey : {X : Type 0} → (X → Type 0) → LabelKey (List X) → Type 0
@@ -28,53 +27,30 @@ IsOfKey P (between lower upper) = Unit {0}
 
 module _ {X Y : Type 0} (P : X → Type 0) (same' : Y → Y → Bool) (same : X → X → Bool) (cmp' : Y → Y → Ordering) (cmp : X → X → Ordering) (f : X → Y)
     (alike : (x y : X) → P x → P y → same' (f x) (f y) ≡ same x y) (in_order : (x y : X) → cmp' (f x) (f y) ≡ cmp x y) (levels : ℕ) (tuples : List (List X)) (all : All (All P) tuples) where
-  pick_alike : (key : List X) (rows : List ℕ) → key_pick levels (map f key) rows ≡ key_pick levels key rows
-  pick_alike key rows = ap (λ (n : ℕ). record { rows = rows; single = (n == levels) && has_one rows; dropped = if nat_lt n levels then n else 0; sliced = false }) (length-map key f)
-
   pub picked_by_label-map : (key : LabelKey (List X)) → IsOfKey P key → picked_by_label same' cmp' levels (map (map f) tuples) (key_seen (map f) key) ≡ pick_seen (map f) (picked_by_label same cmp levels tuples key)
-  picked_by_label-map all_rows given = ap (λ (n : ℕ). Ok (sliced_pick (range_with_len 0 n))) (length-map tuples (map f))
-  picked_by_label-map (one_key key) given =
-      ap (λ r. then_pick r (λ rows. Ok (key_pick levels (map f key) rows))) (rows_of_key-map (All P) (leads same') (leads same) (map f) (map f) key (λ t there. leads-map P same' same f alike key t given there) tuples all)
-      ∙ then_seen (map f) (rows_of_key (leads same) tuples key) (λ rows. Ok (key_pick levels key rows)) (λ rows. Ok (key_pick levels (map f key) rows)) (λ rows. ap (λ (p : Pick). Ok p) (pick_alike key rows))
+  picked_by_label-map all_rows given = search length-map
+  picked_by_label-map (one_key key) given = cc (rows_of_key-map (All P) (leads same') (leads same) (map f) (map f) key (λ t there. leads-map P same' same f alike key t given there) tuples all, then_seen (map f) (rows_of_key (leads same) tuples key) (λ rows. Ok (key_pick levels key rows)) (λ rows. Ok (key_pick levels (map f key) rows)) (λ rows. ap (λ p. Ok p) (search length-map)))
   picked_by_label-map (each_key keys) given =
-      ap (λ r. then_pick r (λ rows. Ok (listed_pick rows))) (rows_of_keys-map (All P) (All P) (leads same') (leads same) (map f) (map f) (λ k t h there. leads-map P same' same f alike k t h there) tuples all keys given)
+      ap (λ r. then_pick r (λ rows. Ok (listed_pick rows))) (search (rows_of_keys-map, leads-map))
       ∙ then_seen (map f) (rows_of_keys (leads same) tuples keys) (λ rows. Ok (listed_pick rows)) (λ rows. Ok (listed_pick rows)) (λ rows. refl)
   picked_by_label-map (between lower upper) given =
-      ap (λ r. then_pick r (λ rows. Ok (sliced_pick rows))) (slice_on-map (leading_cmp cmp') (leading_cmp cmp) (map f) (leading_cmp-map cmp' cmp f in_order) levels lower upper tuples)
+      ap (λ r. then_pick r (λ rows. Ok (sliced_pick rows))) (search (slice_on-map, leading_cmp-map))
       ∙ then_seen (map f) (slice_on levels (leading_cmp cmp) lower upper tuples) (λ rows. Ok (sliced_pick rows)) (λ rows. Ok (sliced_pick rows)) (λ rows. refl)
-
--- what is picked lies within the axis
-all_inside : (count : ℕ) → All (λ row. row < count) (range_with_len 0 count)
-all_inside count = λ k d lt.
-    let inside : k < count = omega (arith, length-range_with_len 0 count) in
-    let at = get_or-range_with_len 0 count k d inside in
-    omega arith
 
 abbrev IsInside : ℕ → Pick → Type 0
 IsInside count pick = All (λ row. row < count) pick.rows
 
 pub picked_inside : {L : Type 0} (same : L → L → Bool) (cmp : L → L → Ordering) (levels : ℕ) (tuples : List (List L)) (key : LabelKey (List L)) (pick : Pick) → picked_by_label same cmp levels tuples key ≡ Ok pick → All (λ row. row < length tuples) pick.rows
-picked_inside same cmp levels tuples all_rows pick e = subst (IsInside (length tuples)) (ok_same (sliced_pick (range_with_len 0 (length tuples))) pick e) (all_inside (length tuples))
-picked_inside same cmp levels tuples (one_key key) pick e =
+picked_inside _ _ _ _ all_rows _ e = grind (arith, ok_same, length-range_with_len, get_or-range_with_len)
+picked_inside same _ levels tuples (one_key key) pick e =
     went_on (rows_of_key (leads same) tuples key) (λ rows. Ok (key_pick levels key rows)) pick (IsInside (length tuples) pick)
     (λ rows is made. subst (IsInside (length tuples)) (ok_same (key_pick levels key rows) pick made) (key_inside (leads same) tuples key rows is)) e
-picked_inside same cmp levels tuples (each_key keys) pick e =
-    went_on (rows_of_keys (leads same) tuples keys) (λ rows. Ok (listed_pick rows)) pick (IsInside (length tuples) pick)
-    (λ rows is made. subst (IsInside (length tuples)) (ok_same (listed_pick rows) pick made) (keys_inside (leads same) tuples keys rows is)) e
-picked_inside same cmp levels tuples (between lower upper) pick e =
-    went_on (slice_on levels (leading_cmp cmp) lower upper tuples) (λ rows. Ok (sliced_pick rows)) pick (IsInside (length tuples) pick)
-    (λ rows is made. subst (IsInside (length tuples)) (ok_same (sliced_pick rows) pick made) (slice_on_inside (leading_cmp cmp) levels lower upper tuples rows is)) e
+picked_inside _ _ _ _ (each_key keys) _ e = grind (arith, went_on, ok_same, keys_inside)
+picked_inside _ _ _ _ (between lower upper) _ e = grind (arith, went_on, ok_same, slice_on_inside)
 
 pub placed_inside : {K : Type 0} (count : ℕ) (key : PlaceKey) (pick : Pick) → picked_by_place {K = K} count key ≡ Ok pick → All (λ row. row < count) pick.rows
-placed_inside {K} count (one_place z) pick e =
-    went_on (row_at {K = K} count z) (λ row. Ok (single_pick row)) pick (IsInside count pick)
-    (λ row is made. subst (IsInside count) (ok_same (single_pick row) pick made) (λ k d lt. first k d row (at_inside count z row is) lt)) e
-  where
-    first : (k d row : ℕ) → row < count → k < length (row ∷ []) → slice_index_or (row ∷ []) k d < count
-    first zero d row inside lt = inside
-    first (suc k) d row inside lt = absurd (omega arith)
-placed_inside {K} count (each_place zs) pick e =
-    went_on (rows_at {K = K} count zs) (λ rows. Ok (listed_pick rows)) pick (IsInside count pick) (λ rows is made. subst (IsInside count) (ok_same (listed_pick rows) pick made) (rows_at_inside count zs rows is)) e
+placed_inside {K} _ (one_place z) _ e = grind (arith, went_on, ok_same, at_inside)
+placed_inside {K} _ (each_place zs) _ e = grind (arith, went_on, ok_same, rows_at_inside)
 placed_inside {K} count (place_slice from to step) pick e =
-    went_on (position_slice {K = K} count from to step) (λ rows. Ok (sliced_pick (rows_of rows))) pick (IsInside count pick)
+    went_on (position_slice count from to step) (λ rows. Ok (sliced_pick (rows_of rows))) pick (IsInside count pick)
     (λ rows is made. subst (IsInside count) (ok_same (sliced_pick (rows_of rows)) pick made) (spaced_inside rows count (slice_below count from to (step_or_one step) rows is))) e

@@ -1,30 +1,23 @@
 -- Laws of lists of rows.
 use Rattle.{
-  std.{proofs.{Common.{◌≡◌, ◌∙◌, ap, sym, refl, arith, ℕ, zero, suc, ◌+◌, ◌-◌, ◌<◌, ◌≤◌, Bool, true, false, List, [], ◌∷◌, ◌++◌, length, take, map, slice_index_or, All, Ok, Err, if◌then◌else◌}, lemmas.List.{take_more, length-take-le, append-nil, map-id}}, specs.List.{range_with_len}},
+  std.{proofs.{Common.{◌≡◌, ◌∙◌, ap, refl, arith, ℕ, zero, suc, ◌+◌, ◌-◌, ◌<◌, ◌≤◌, Bool, true, false, List, [], ◌∷◌, ◌++◌, length, take, map, slice_index_or, All, Ok, Err, if◌then◌else◌}, lemmas.List.{take_more, length-take-le, append-nil, map-id}}, specs.List.{range_with_len}},
   pick_meaning.specs.{Faults.{not_there}, Rows.{rows_where, are_some}, Labels.{unless_none}},
 }
 
 -- a test that is known
 pub when_so : {A : Type 0} (b : Bool) (x y : A) → b ≡ true → (if b then x else y) ≡ x
-when_so true x y e = refl
-when_so false x y e = cc
+when_so b x y e = search
 
 pub when_not : {A : Type 0} (b : Bool) (x y : A) → b ≡ false → (if b then x else y) ≡ y
-when_not true x y e = cc
-when_not false x y e = refl
+when_not b x y e = search
 
 -- rows of two lists, one behind the other
 joined : (b : Bool) (row : ℕ) (whole front back : List ℕ) → whole ≡ front ++ back → (if b then row ∷ whole else whole) ≡ (if b then row ∷ front else front) ++ back
-joined true row whole front back e = ap (λ l. row ∷ l) e
-joined false row whole front back e = e
+joined = grind arith
 
 pub rows_where-append : {X : Type 0} (p : X → Bool) (row : ℕ) (xs ys : List X) → rows_where p row (xs ++ ys) ≡ rows_where p row xs ++ rows_where p (row + length xs) ys
-rows_where-append p row [] ys =
-    let same : row ≡ row + 0 = omega arith in
-    ap (λ n. rows_where p n ys) same
-rows_where-append p row (x ∷ xs) ys =
-    let same : row + 1 + length xs ≡ row + suc (length xs) = omega arith in
-    joined (p x) row _ (rows_where p (row + 1) xs) (rows_where p (row + suc (length xs)) ys) (rows_where-append p (row + 1) xs ys ∙ ap (λ n. rows_where p (row + 1) xs ++ rows_where p n ys) same)
+rows_where-append p _ [] _ = grind arith
+rows_where-append p row (x ∷ xs) ys = grind (arith, joined, rows_where-append p (row + 1) xs ys)
 
 -- one row more
 pub rows_more : {X : Type 0} (p : X → Bool) (xs : List X) (k : ℕ) (d : X) → k < length xs
@@ -32,37 +25,27 @@ pub rows_more : {X : Type 0} (p : X → Bool) (xs : List X) (k : ℕ) (d : X) �
 rows_more p xs k d lt =
     let few : k ≤ length xs = omega arith in
     let at : 0 + length (take k xs) ≡ k = omega (arith, length-take-le k xs few) in
-    ap (rows_where p 0) (take_more xs k d lt)
-    ∙ rows_where-append p 0 (take k xs) (slice_index_or xs k d ∷ [])
-    ∙ ap (λ n. rows_where p 0 (take k xs) ++ (if p (slice_index_or xs k d) then n ∷ [] else [])) at
+    cc (take_more xs k d lt, rows_where-append p 0 (take k xs) (slice_index_or xs k d ∷ []))
 
 pub rows_more_yes : {X : Type 0} (p : X → Bool) (xs : List X) (k : ℕ) (d : X) (rows rows' : List ℕ) → k < length xs → rows ≡ rows_where p 0 (take k xs) → p (slice_index_or xs k d) ≡ true → rows' ≡ rows ++ k ∷ []
     → rows' ≡ rows_where p 0 (take (k + 1) xs)
-rows_more_yes p xs k d rows rows' lt before passes pushed =
-    pushed
-    ∙ ap (λ (l : List ℕ). l ++ k ∷ []) before
-    ∙ ap (λ (l : List ℕ). rows_where p 0 (take k xs) ++ l) (sym (when_so (p (slice_index_or xs k d)) (k ∷ []) [] passes))
-    ∙ sym (rows_more p xs k d lt)
+rows_more_yes p xs k d _ _ lt before passes pushed = cc (when_so (p (slice_index_or xs k d)) (k ∷ []) [] passes, rows_more p xs k d lt)
 
 pub rows_more_no : {X : Type 0} (p : X → Bool) (xs : List X) (k : ℕ) (d : X) (rows : List ℕ) → k < length xs → rows ≡ rows_where p 0 (take k xs) → p (slice_index_or xs k d) ≡ false
     → rows ≡ rows_where p 0 (take (k + 1) xs)
-rows_more_no p xs k d rows lt before fails =
-    before
-    ∙ sym (append-nil (rows_where p 0 (take k xs)))
-    ∙ ap (λ (l : List ℕ). rows_where p 0 (take k xs) ++ l) (sym (when_not (p (slice_index_or xs k d)) (k ∷ []) [] fails))
-    ∙ sym (rows_more p xs k d lt)
+rows_more_no p xs k d _ lt before fails = cc (append-nil (rows_where p 0 (take k xs)), when_not (p (slice_index_or xs k d)) (k ∷ []) [] fails, rows_more p xs k d lt)
 
 -- rows of a list that is seen otherwise
 pub rows_where-map : {X Y : Type 0} (P : X → Type 0) (p : Y → Bool) (q : X → Bool) (f : X → Y) → ((x : X) → P x → p (f x) ≡ q x) → (row : ℕ) (xs : List X) → All P xs
     → rows_where p row (map f xs) ≡ rows_where q row xs
-rows_where-map P p q f same row [] all = refl
+rows_where-map P p q f _ _ [] _ = refl
 rows_where-map P p q f same row (x ∷ xs) all =
     let later = rows_where-map P p q f same (row + 1) xs (λ k d lt. all (suc k) d (omega arith)) in
     λ j. if same x (all 0 x (omega arith)) j then row ∷ later j else later j
 
 -- rows that pass two tests that agree on them
 pub rows_where-same : {X : Type 0} (P : X → Type 0) (p q : X → Bool) → ((x : X) → P x → p x ≡ q x) → (row : ℕ) (xs : List X) → All P xs → rows_where p row xs ≡ rows_where q row xs
-rows_where-same P p q same row xs all = ap (rows_where p row) (sym (map-id xs)) ∙ rows_where-map P p q (λ x. x) same row xs all
+rows_where-same P p q same row xs all = cc (map-id xs, rows_where-map P p q (λ x. x) same row xs all)
 
 -- a list whose elements pass just from one place up to another
 pub rows_in_interval : {X : Type 0} (p : X → Bool) (d : X) (row low high : ℕ) (xs : List X) → high ≤ length xs
@@ -70,9 +53,7 @@ pub rows_in_interval : {X : Type 0} (p : X → Bool) (d : X) (row low high : ℕ
     → ((k : ℕ) → low ≤ k → k < high → p (slice_index_or xs k d) ≡ true)
     → ((k : ℕ) → high ≤ k → k < length xs → p (slice_index_or xs k d) ≡ false)
     → rows_where p row xs ≡ range_with_len (row + low) (high - low)
-rows_in_interval p d row low high [] within before inside behind =
-    let none : 0 ≡ high - low = omega arith in
-    ap (range_with_len (row + low)) none
+rows_in_interval p d _ _ _ [] within before inside behind = grind arith
 rows_in_interval p d row zero zero (x ∷ xs) within before inside behind =
     when_not (p x) (row ∷ rows_where p (row + 1) xs) (rows_where p (row + 1) xs) (behind 0 (omega arith) (omega arith))
     ∙ rows_in_interval p d (row + 1) 0 0 xs (omega arith) (λ k lt in'. absurd (omega arith)) (λ k le lt. absurd (omega arith)) (λ k le lt. behind (suc k) (omega arith) (omega arith))
@@ -80,33 +61,27 @@ rows_in_interval p d row zero (suc high) (x ∷ xs) within before inside behind 
     let first : row + 1 + 0 ≡ row + 1 = omega arith in
     let start : row ≡ row + 0 = omega arith in
     when_so (p x) (row ∷ rows_where p (row + 1) xs) (rows_where p (row + 1) xs) (inside 0 (omega arith) (omega arith))
-    ∙ ap (λ (l : List ℕ). row ∷ l)
+    ∙ ap (λ l. row ∷ l)
     (rows_in_interval p d (row + 1) 0 high xs (omega arith) (λ k lt in'. absurd (omega arith)) (λ k le lt. inside (suc k) (omega arith) (omega arith)) (λ k le lt. behind (suc k) (omega arith) (omega arith))
     ∙ counted first high)
     ∙ counted_on start high
   where
     counted : {m n : ℕ} → m ≡ n → (high : ℕ) → range_with_len m (high - 0) ≡ range_with_len n high
-    counted {m} {n} e high = let same : high - 0 ≡ high = omega arith in ap (range_with_len m) same ∙ ap (λ a. range_with_len a high) e
+    counted {m} {n} e high = grind arith
 
     counted_on : {m n : ℕ} → m ≡ n → (high : ℕ) → range_with_len m (suc high) ≡ range_with_len n (suc high - 0)
-    counted_on {m} {n} e high = let same : suc high ≡ suc high - 0 = omega arith in ap (λ a. range_with_len a (suc high)) e ∙ ap (range_with_len n) same
+    counted_on {m} {n} e high = let same : suc high ≡ suc high - 0 = omega arith in cc
 rows_in_interval p d row (suc low) high (x ∷ xs) within before inside behind =
     let start : row + 1 + low ≡ row + suc low = omega arith in
     let count : high - 1 - low ≡ high - suc low = omega arith in
-    when_not (p x) (row ∷ rows_where p (row + 1) xs) (rows_where p (row + 1) xs) (before 0 (omega arith) (omega arith))
-    ∙ rows_in_interval p d (row + 1) low (high - 1) xs (omega arith) (λ k lt in'. before (suc k) (omega arith) (omega arith)) (λ k le lt. inside (suc k) (omega arith) (omega arith)) (λ k le lt. behind (suc k) (omega arith) (omega arith))
-    ∙ ap (λ a. range_with_len a (high - 1 - low)) start
-    ∙ ap (range_with_len (row + suc low)) count
+    cc (when_not (p x) (row ∷ rows_where p (row + 1) xs) (rows_where p (row + 1) xs) (before 0 (omega arith) (omega arith)), rows_in_interval p d (row + 1) low (high - 1) xs (omega arith) (λ k lt in'. before (suc k) (omega arith) (omega arith)) (λ k le lt. inside (suc k) (omega arith) (omega arith)) (λ k le lt. behind (suc k) (omega arith) (omega arith)))
 
 -- a key without a row, and one with some
 pub none_there : {K : Type 0} (key : K) (rows : List ℕ) → length rows ≡ 0 → unless_none key rows ≡ Err (not_there key)
-none_there key [] none = refl
-none_there key (row ∷ rows) none = absurd (omega arith)
+none_there = grind arith
 
 pub some_there : {K : Type 0} (key : K) (rows : List ℕ) → are_some rows ≡ true → unless_none key rows ≡ Ok rows
-some_there key [] some = cc
-some_there key (row ∷ rows) some = refl
+some_there = grind arith
 
 pub some_of_length : (rows : List ℕ) → (length rows ≡ 0 → ⊥) → are_some rows ≡ true
-some_of_length [] some = absurd (some refl)
-some_of_length (row ∷ rows) some = refl
+some_of_length = grind arith

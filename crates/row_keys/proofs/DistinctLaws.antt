@@ -11,7 +11,7 @@ filter-filter p q [] = refl
 filter-filter p q (x ∷ xs) = grind (arith, filter-filter p q xs)
 
 filter-same : {X : Type 0} (p q : X → Bool) → ((x : X) → p x ≡ q x) → (xs : List X) → filter p xs ≡ filter q xs
-filter-same p q same [] = refl
+filter-same p q _ [] = refl
 filter-same p q same (x ∷ xs) = cc (same x, filter-same p q same xs)
 
 -- a key that is not seen
@@ -29,18 +29,18 @@ module _ {K : Type 0} (eq : K → K → Bool) (laws : IsEquivalence eq) where
 
   -- a key that was seen adds nothing
   seen_before : (k : K) (seen rest : List K) → list_any (eq k) seen ≡ true → unseen eq seen (k ∷ rest) ≡ unseen eq seen rest
-  seen_before k seen rest h = grind (arith, filter-filter, filter-same, any_alike)
+  seen_before = grind (arith, filter-filter, filter-same, any_alike)
 
   -- a new key is the next
   seen_new : (k : K) (seen rest : List K) → list_any (eq k) seen ≡ false → unseen eq seen (k ∷ rest) ≡ k ∷ unseen eq (seen ++ k ∷ []) rest
-  seen_new k seen rest h = grind (arith, filter-filter, filter-same, list_any-append)
+  seen_new = grind (arith, filter-filter, filter-same, list_any-append)
 
   -- the next key is taken
   pub seen_more : (k : K) (seen rest whole : List K) → seen ++ unseen eq seen (k ∷ rest) ≡ whole → insert_key eq seen k ++ unseen eq (insert_key eq seen k) rest ≡ whole
-  seen_more k seen rest whole e = grind (arith, seen_before, append_assoc, seen_new)
+  seen_more = grind (arith, seen_before, append_assoc, seen_new)
 
   place_found : (p : K → Bool) (xs ys : List K) → list_any p xs ≡ true → position_or_len p (xs ++ ys) ≡ position_or_len p xs
-  place_found p [] ys h = absurd (false≢true h)
+  place_found p [] _ h = absurd (false≢true h)
   place_found p (x ∷ xs) ys h =
       elim (p x) as (λ b. (b || list_any p xs) ≡ true → cond (not b) (1 + position_or_len p (xs ++ ys)) 0 ≡ cond (not b) (1 + position_or_len p xs) 0) [
         | true ↦ λ t. refl
@@ -48,7 +48,7 @@ module _ {K : Type 0} (eq : K → K → Bool) (laws : IsEquivalence eq) where
       ] h
 
   pub place_new : (p : K → Bool) (xs : List K) (y : K) (ys : List K) → list_any p xs ≡ false → p y ≡ true → position_or_len p (xs ++ y ∷ ys) ≡ position_or_len p xs
-  place_new p [] y ys h t = cc
+  place_new p [] y _ h t = cc
   place_new p (x ∷ xs) y ys h t =
       elim (p x) as (λ b. (b || list_any p xs) ≡ false → cond (not b) (1 + position_or_len p (xs ++ y ∷ ys)) 0 ≡ cond (not b) (1 + position_or_len p xs) 0) [
         | true ↦ λ z. refl
@@ -57,7 +57,7 @@ module _ {K : Type 0} (eq : K → K → Bool) (laws : IsEquivalence eq) where
 
   -- its place so far is its place among all
   pub place_kept : (k : K) (seen more whole : List K) → insert_key eq seen k ++ more ≡ whole → position_or_len (eq k) seen ≡ place_among eq whole k
-  place_kept k seen more whole e = grind (arith, place_found, append_assoc, place_new)
+  place_kept = grind (arith, place_found, append_assoc, place_new)
 
 filter-all : {X : Type 0} (xs : List X) → filter (λ x. true) xs ≡ xs
 filter-all [] = refl
@@ -65,7 +65,7 @@ filter-all (x ∷ xs) = cc (filter-all xs)
 
 -- at first nothing is seen
 pub unseen-nil : {K : Type 0} (eq : K → K → Bool) (keys : List K) → unseen eq [] keys ≡ distinct eq keys
-unseen-nil eq keys = search filter-all
+unseen-nil = search filter-all
 
 pub prefix-le : {X : Type 0} (p : X → Bool) (xs : List X) → prefix_len p xs ≤ length xs
 prefix-le p [] = omega arith
@@ -76,7 +76,7 @@ abbrev pub Covers : {K : Type 0} → (K → K → Bool) → List K → List K �
 Covers {K} eq seen rows = (q : K) → list_any (eq q) seen ≡ list_any (eq q) rows
 
 pub place_first : {K : Type 0} (p : K → Bool) (xs : List K) (y : K) (ys : List K) → list_any p xs ≡ false → p y ≡ true → position_or_len p (xs ++ y ∷ ys) ≡ length xs
-place_first p [] y ys h t = cc
+place_first p [] y _ h t = cc
 place_first p (x ∷ xs) y ys h t =
     elim (p x) as (λ b. (b || list_any p xs) ≡ false → cond (not b) (1 + position_or_len p (xs ++ y ∷ ys)) 0 ≡ length (x ∷ xs)) [
       | true ↦ λ z. absurd (false≢true (sym z))
@@ -85,12 +85,12 @@ place_first p (x ∷ xs) y ys h t =
 
 module _ {K : Type 0} (eq : K → K → Bool) (laws : IsEquivalence eq) where
   pub covers_more : (k : K) (seen rows : List K) → Covers eq seen rows → Covers eq (insert_key eq seen k) (rows ++ k ∷ [])
-  covers_more k seen rows covers q = grind (arith, any_alike, list_any-append)
+  covers_more = grind (arith, any_alike, list_any-append)
 
   -- the first rows of the keys with one more
   pub firsts_more : (k : K) (seen keys before : List K) (rest : List K) (firsts firsts' : List ℕ) (new : Bool) → Covers eq seen before → keys ≡ before ++ k ∷ rest → new ≡ not (list_any (eq k) seen)
       → firsts ≡ map (place_among eq keys) seen → firsts' ≡ cond new (firsts ++ length before ∷ []) firsts → firsts' ≡ map (place_among eq keys) (insert_key eq seen k)
-  firsts_more k seen keys before rest firsts firsts' new covers here is old more = grind (arith, place_first, map-append)
+  firsts_more = grind (arith, place_first, map-append)
 
 pub get_is : {X : Type 0} (xs : List X) (i : ℕ) (x : X) → slice_get xs i ≡ Some x → slice_index_or xs i x ≡ x
 get_is [] i x h = refl

@@ -7,19 +7,19 @@ use Rattle.{
 }
 
 all_right : {X : Type 0} (P : X → Type 0) (xs ys : List X) → All P (xs ++ ys) → All P ys
-all_right P [] ys all = all
+all_right P [] _ all = all
 all_right P (x ∷ xs) ys all = all_right P xs ys (All-tail P x (xs ++ ys) all)
 
 all_left : {X : Type 0} (P : X → Type 0) (xs ys : List X) → All P (xs ++ ys) → All P xs
-all_left P [] ys all = All-nil P
+all_left P [] _ _ = All-nil P
 all_left P (x ∷ xs) ys all = All-cons P x xs (All-head P x (xs ++ ys) all) (all_left P xs ys (All-tail P x (xs ++ ys) all))
 
 first_part : {X : Type 0} (xs ys : List X) (n : ℕ) → n ≡ length xs → take n (xs ++ ys) ≡ xs
-first_part [] ys n e = cc
+first_part [] _ n e = cc
 first_part (x ∷ xs) ys n e = cc (first_part xs ys (length xs) refl)
 
 last_part : {X : Type 0} (xs ys : List X) (n : ℕ) → n ≡ length xs → drop n (xs ++ ys) ≡ ys
-last_part [] ys n e = cc
+last_part [] _ n e = cc
 last_part (x ∷ xs) ys n e = cc (last_part xs ys (length xs) refl)
 
 module _ {K : Type 0} (eq : K → K → Bool) (laws : IsEquivalence eq) (left right : List K) where
@@ -43,15 +43,15 @@ module _ {K : Type 0} (eq : K → K → Bool) (laws : IsEquivalence eq) (left ri
   right_codes = search (map-append, last_part, length-map)
 
   pub left_known : All IsKnown left
-  left_known = all_left IsKnown left right (all_known eq laws (left ++ right))
+  left_known = all_left IsKnown _ _ (all_known eq laws (left ++ right))
 
   pub right_known : All IsKnown right
-  right_known = all_right IsKnown left right (all_known eq laws (left ++ right))
+  right_known = all_right IsKnown _ _ (all_known eq laws (left ++ right))
 
   -- each code is below the count
   pub codes_below : (xs : List K) → All IsKnown xs → All (λ c. c < count) (map rank xs)
-  codes_below xs known = All-map (λ c. c < count) rank xs (λ k d lt. position_in (eq (slice_index_or xs k d)) (distinct eq (left ++ right)) (known k d lt))
+  codes_below xs known = All-map (λ c. c < count) rank xs (λ k d lt. position_in _ _ (known k d lt))
 
   -- the rows of a key lie in the bucket of its code
   pub bucket_of_key : (k : K) (xs : List K) → All IsKnown xs → rank k < count → slice_index_or (buckets_of count (map rank xs)) (rank k) [] ≡ rows_where (eq k) 0 xs
-  bucket_of_key k xs known lt = grind (arith, get_or-map-range_with_len, rows_coded)
+  bucket_of_key = grind (arith, get_or-map-range_with_len, rows_coded)

@@ -19,7 +19,7 @@ any_at p (x ∷ xs) zero d lt h = cc
 any_at p (x ∷ xs) (suc k) d lt h = grind (arith, any_at p xs k d (omega (arith, lt)) h)
 
 any_filter : {K : Type 0} (p r : K → Bool) → ((q : K) → p q ≡ true → r q ≡ true) → (xs : List K) → list_any p (filter r xs) ≡ list_any p xs
-any_filter p r keeps [] = refl
+any_filter p r _ [] = refl
 any_filter p r keeps (x ∷ xs) = grind (arith, false≢true, any_filter p r keeps xs)
 
 module _ {K : Type 0} (eq : K → K → Bool) (laws : IsEquivalence eq) where
@@ -28,7 +28,7 @@ module _ {K : Type 0} (eq : K → K → Bool) (laws : IsEquivalence eq) where
   distinct_has x (k ∷ ks) = grind (arith, any_filter, distinct_has x ks)
 
   pub all_known : (rows : List K) → All (λ x. list_any (eq x) (distinct eq rows) ≡ true) rows
-  all_known rows k d lt = grind (arith, distinct_has, any_at)
+  all_known = grind (arith, distinct_has, any_at)
 
   module _ (keys : List K) where
     pub place_tells : (k x : K) → list_any (eq x) keys ≡ true → eq k x ≡ (place_among eq keys k == place_among eq keys x)
@@ -38,9 +38,9 @@ module _ {K : Type 0} (eq : K → K → Bool) (laws : IsEquivalence eq) where
           | false ↦ λ h. elim (place_among eq keys k == place_among eq keys x) as (λ b. (place_among eq keys k == place_among eq keys x) ≡ b → false ≡ b) [
             | true ↦ λ e.
                 let same : place_among eq keys k ≡ place_among eq keys x = search eqb-true in
-                let in_keys : place_among eq keys x < length keys = position_in (eq x) keys known in
+                let in_keys : place_among eq keys x < length keys = position_in _ _ known in
                 let kx : eq k (slice_index_or keys (place_among eq keys k) k) ≡ true = grind (arith, passes_at_first) in
-                let xx : eq x (slice_index_or keys (place_among eq keys x) k) ≡ true = passes_at_first (eq x) keys k in_keys in
+                let xx : eq x (slice_index_or keys (place_among eq keys x) k) ≡ true = passes_at_first _ keys k in_keys in
                 let kk : eq k (slice_index_or keys (place_among eq keys x) k) ≡ true = cc in
                 absurd (false≢true (grind arith))
             | false ↦ λ e. refl

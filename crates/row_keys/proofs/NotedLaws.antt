@@ -30,7 +30,7 @@ module _ {K : Type 0} (eq : K → K → Bool) (laws : IsEquivalence eq) (keys : 
 
   pub one_noted : (seen' : List K) (codes' firsts' : List ℕ) (code : ℕ) (new : Bool) → seen' ≡ insert_key eq seen k → new ≡ not (list_any (eq k) seen) → code ≡ position_or_len (eq k) seen → codes' ≡ codes ++ code ∷ [] → firsts' ≡ cond new (firsts ++ i ∷ []) firsts
       → Noted eq keys (i + 1) seen' codes' firsts'
-  one_noted seen' codes' firsts' code new grown is at pushed added =
+  one_noted _ _ firsts' _ new grown is at pushed added =
       record {
         whole = cc more;
         covers = grind (arith, covers_more, taken);
@@ -45,7 +45,7 @@ module _ {K : Type 0} (eq : K → K → Bool) (laws : IsEquivalence eq) (keys : 
       long = omega (arith, lt, length-take i keys)
 
 pub added_none : (new : Bool) (old firsts : List ℕ) (row : ℕ) → new ≡ false → firsts ≡ old → firsts ≡ cond new (old ++ row ∷ []) old
-added_none new old firsts row is kept = cc
+added_none _ _ _ _ is kept = cc
 
 -- a walk over leaders
 pub record AreCoded (leaders : List ℕ) (row : ℕ) (codes firsts : List ℕ) : Type 0 where
@@ -58,10 +58,10 @@ module _ (leaders : List ℕ) (lead : LeadBack leaders) (i leader : ℕ) (codes 
 
   -- a row that leads itself has a new number
   pub new_coded : leader ≡ i → (codes' firsts' : List ℕ) → codes' ≡ codes ++ length firsts ∷ [] → firsts' ≡ firsts ++ i ∷ [] → AreCoded leaders (i + 1) codes' firsts'
-  new_coded own codes' firsts' pushed added =
+  new_coded own _ _ pushed added =
       record {
         seen = insert_key nat_eq are.seen leader;
-        noted = one_noted nat_eq nat_eq_equiv leaders i leader are.seen codes firsts lt found are.noted (insert_key nat_eq are.seen leader) codes' firsts' (length firsts) true refl (sym (ap not fresh)) counted pushed added;
+        noted = one_noted _ nat_eq_equiv _ i _ _ _ _ lt found are.noted (insert_key nat_eq are.seen leader) _ _ _ _ refl (sym (ap not fresh)) counted pushed added;
       }
     where
       others : (x k : ℕ) → k < i → x ≡ slice_index leaders k → nat_eq leader x ≡ false
@@ -70,46 +70,41 @@ module _ (leaders : List ℕ) (lead : LeadBack leaders) (i leader : ℕ) (codes 
       fresh : list_any (nat_eq leader) are.seen ≡ false
       fresh =
           are.noted.covers leader
-          ∙ list_any_none (nat_eq leader) (take i leaders) (λ k d below.
+          ∙ list_any_none _ (take i leaders) (λ k d below.
           let before : k < i = omega (arith, below, length-take i leaders) in
           let inside : k < length leaders = omega (arith, before, lt) in
-          others (slice_index_or (take i leaders) k d) k before (search (get_or-take, get_or_default)))
+          others _ k before (search (get_or-take, get_or_default)))
 
       counted : length firsts ≡ position_or_len (nat_eq leader) are.seen
       counted =
           ap length are.noted.first
-          ∙ length-map are.seen (place_among nat_eq leaders)
+          ∙ length-map are.seen _
           ∙ sym (search (place_first, nat_eq, fresh, eq-eqb))
-          ∙ place_new nat_eq nat_eq_equiv (nat_eq leader) are.seen leader [] fresh (eq-eqb leader leader refl)
-
-  leads_from : (leader ≡ i → ⊥) → leader < i
-  leads_from apart = omega (arith, apart, here, lead.back i lt)
+          ∙ place_new _ nat_eq_equiv (nat_eq leader) _ _ [] fresh (eq-eqb _ _ refl)
 
   -- a leader before the row has its code
   pub code_inside : (leader ≡ i → ⊥) → leader < length codes
-  code_inside apart = omega (arith, leads_from apart, lt, ap length are.noted.coded, length-map (take i leaders) (place_among nat_eq (distinct nat_eq leaders)), length-take i leaders)
+  code_inside = grind (arith, lt, ap length are.noted.coded, length-map (take i leaders) (place_among nat_eq (distinct nat_eq leaders)), length-take i leaders)
 
   -- another row has the number of its leader
   pub led_coded : (leader ≡ i → ⊥) → (codes' firsts' : List ℕ) (code : ℕ) → code ≡ slice_index codes leader → codes' ≡ codes ++ code ∷ [] → firsts' ≡ firsts → AreCoded leaders (i + 1) codes' firsts'
-  led_coded apart codes' firsts' code read pushed kept =
+  led_coded apart _ _ _ read pushed kept =
       record {
         seen = insert_key nat_eq are.seen leader;
-        noted = one_noted nat_eq nat_eq_equiv leaders i leader are.seen codes firsts lt found are.noted (insert_key nat_eq are.seen leader) codes' firsts' code false refl (sym (ap not old)) (read ∙ coded) pushed kept;
+        noted = one_noted _ nat_eq_equiv _ i _ _ _ _ lt found are.noted (insert_key nat_eq are.seen leader) _ _ _ _ refl (sym (ap not old)) (read ∙ coded) pushed kept;
       }
     where
       own : slice_index leaders leader ≡ leader
       own = grind arith
 
       within : leader < length (take i leaders)
-      within = omega (arith, leads_from apart, lt, length-take i leaders)
+      within = grind (arith, lt, length-take i leaders)
 
       old : list_any (nat_eq leader) are.seen ≡ true
-      old =
-          are.noted.covers leader
-          ∙ any_at (nat_eq leader) (take i leaders) leader 0 within (search (eq-eqb, get_or-take, leads_from, own))
+      old = grind (arith, any_at, nat_eq, within, eq-eqb, get_or-take, own)
 
       coded : slice_index codes leader ≡ position_or_len (nat_eq leader) are.seen
-      coded = cc (are.noted.coded, get_or-map (place_among nat_eq (distinct nat_eq leaders)) (take i leaders) leader 0 0 within, get_or-take i leaders leader 0 (leads_from apart), own, place_so_far nat_eq nat_eq_equiv leaders i leader are.seen codes firsts lt found are.noted)
+      coded = cc (are.noted.coded, get_or-map (place_among nat_eq (distinct nat_eq leaders)) (take i leaders) leader 0 0 within, get_or-take i leaders leader 0 (grind arith), own, place_so_far nat_eq nat_eq_equiv leaders i leader are.seen codes firsts lt found are.noted)
 
 -- the codes at the end
 module _ {K : Type 0} (eq : K → K → Bool) (keys : List K) (i : ℕ) (seen : List K) (codes firsts : List ℕ) (end : length keys ≤ i) (noted : Noted eq keys i seen codes firsts) where

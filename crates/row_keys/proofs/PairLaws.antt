@@ -11,7 +11,7 @@ pub packed_tell : (s a b c d : ℕ) → b < s → d < s → ((a == c) && (b == d
 packed_tell s a b c d hb hd =
     elim (a == c) as (λ x. (a == c) ≡ x → (x && (b == d)) ≡ (a * s + b == c * s + d)) [
       | true ↦ grind (arith, eq-eqb, eqb-true, ne_eqb, eqb-false, same_from_place)
-      | false ↦ λ e. sym (ne_eqb (a * s + b) (c * s + d) (λ same. eqb-false a c e (same_from_place a b c d s hb hd same).0))
+      | false ↦ λ e. sym (ne_eqb _ _ (λ same. eqb-false a c e (same_from_place a b c d s hb hd same).0))
     ] refl
 
 abbrev pub label_of : Label × ℕ → Label
@@ -23,7 +23,7 @@ pair_number labels keys scale i = slice_index labels i * scale + (slice_index_or
 
 -- the greatest so far
 pub greatest_more : (keys : List (Label × ℕ)) (i most most' : ℕ) (pair : Label × ℕ) → i < length keys → slice_index_or keys i pair ≡ pair → most' ≡ max most pair.1 → All (λ (p : Label × ℕ). p.1 ≤ most) (take i keys) → All (λ (p : Label × ℕ). p.1 ≤ most') (take (i + 1) keys)
-greatest_more keys i most most' pair lt here is within = grind (arith, take_more keys i pair lt, All-push (λ (p : Label × ℕ). p.1 ≤ most') (take i keys) pair (λ k d below. omega (arith, within k d below, is)) (omega (arith, is)))
+greatest_more keys i _ most' pair lt here is within = grind (arith, take_more keys i pair lt, All-push (λ (p : Label × ℕ). p.1 ≤ most') (take i keys) pair (λ k d below. omega (arith, within k d below, is)) (omega (arith, is)))
 
 module _ (keys : List (Label × ℕ)) (labels : List ℕ) (first second scale most : ℕ) (stand : StandFor same_number Na (map (λ (pair : Label × ℕ). pair.0) keys) labels)
     (below : All (λ n. n ≤ first) labels) (within : All (λ (pair : Label × ℕ). pair.1 ≤ second) keys) (is : scale ≡ second + 1) (room : most ≡ first * (second + 1) + second) where
@@ -31,11 +31,11 @@ module _ (keys : List (Label × ℕ)) (labels : List ℕ) (first second scale mo
   as_many = grind (arith, length-map)
 
   pub pair_below : (i : ℕ) → i < length keys → pair_number labels keys scale i ≤ most
-  pair_below i lt = grind (arith, mul-le-mul_right, as_many)
+  pair_below = grind (arith, mul-le-mul_right, as_many)
 
   module _ (numbers : List ℕ) (made : numbers ≡ map (pair_number labels keys scale) (range_with_len 0 (length keys))) where
     here : (i : ℕ) → i < length keys → slice_index numbers i ≡ pair_number labels keys scale i
-    here i lt = grind (arith, get_or-map-range_with_len)
+    here = grind (arith, get_or-map-range_with_len)
 
     pub pairs_below : All (λ n. n ≤ most) numbers
     pairs_below =

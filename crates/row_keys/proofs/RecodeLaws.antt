@@ -9,35 +9,35 @@ use Rattle.{
 -- on elements that pass P
 module _ {Z : Type 0} (P : Z → Type 0) where
   filter_on : (p q : Z → Bool) → ((z : Z) → P z → p z ≡ q z) → (zs : List Z) → All P zs → filter p zs ≡ filter q zs
-  filter_on p q same [] all = refl
+  filter_on p q _ [] _ = refl
   filter_on p q same (z ∷ zs) all = cc (same z (All-head P z zs all), filter_on p q same zs (All-tail P z zs all))
 
   position_on : (p q : Z → Bool) → ((z : Z) → P z → p z ≡ q z) → (zs : List Z) → All P zs → position_or_len p zs ≡ position_or_len q zs
-  position_on p q same [] all = refl
+  position_on p q _ [] _ = refl
   position_on p q same (z ∷ zs) all = cc (same z (All-head P z zs all), position_on p q same zs (All-tail P z zs all))
 
   map_on : {Y : Type 0} (f g : Z → Y) → ((z : Z) → P z → f z ≡ g z) → (zs : List Z) → All P zs → map f zs ≡ map g zs
-  map_on f g same [] all = refl
+  map_on f g _ [] _ = refl
   map_on f g same (z ∷ zs) all = λ i. same z (All-head P z zs all) i ∷ map_on f g same zs (All-tail P z zs all) i
 
   pub All-distinct : (eq : Z → Z → Bool) (zs : List Z) → All P zs → All P (distinct eq zs)
-  All-distinct eq [] all = all
+  All-distinct _ [] all = all
   All-distinct eq (z ∷ zs) all =
-      All-cons P z (filter (λ q. not (eq q z)) (distinct eq zs)) (All-head P z zs all) (All-filter (λ q. not (eq q z)) P (distinct eq zs) (All-distinct eq zs (All-tail P z zs all)))
+      All-cons P z (filter (λ q. not (eq q z)) (distinct eq zs)) (All-head P z zs all) (All-filter (λ q. not (eq q z)) P _ (All-distinct eq zs (All-tail P z zs all)))
 
   -- two tests that agree there
   module _ (eq same : Z → Z → Bool) (agree : (y z : Z) → P y → P z → eq y z ≡ same y z) where
     distinct_on : (zs : List Z) → All P zs → distinct eq zs ≡ distinct same zs
-    distinct_on [] all = refl
+    distinct_on [] _ = refl
     distinct_on (z ∷ zs) all =
         let rest = All-tail P z zs all in
         cc (distinct_on zs rest, filter_on (λ q. not (eq q z)) (λ q. not (same q z)) (λ q h. ap not (agree q z h (All-head P z zs all))) (distinct same zs) (All-distinct same zs rest))
 
     codes_on : (zs : List Z) → All P zs → codes_of eq zs ≡ codes_of same zs
-    codes_on zs all = search (distinct_on, map_on, position_on, All-distinct)
+    codes_on = search (distinct_on, map_on, position_on, All-distinct)
 
     firsts_on : (zs : List Z) → All P zs → first_rows eq zs ≡ first_rows same zs
-    firsts_on zs all = search (distinct_on, map_on, position_on, All-distinct)
+    firsts_on = search (distinct_on, map_on, position_on, All-distinct)
 
 -- keys that are made of something
 module _ {Z A : Type 0} (f : Z → A) (eq : A → A → Bool) where
@@ -53,7 +53,7 @@ module _ {Z A : Type 0} (f : Z → A) (eq : A → A → Bool) where
   position_map p (z ∷ zs) = cc (position_map p zs)
 
   map_map : {Y : Type 0} (g : A → Y) (h : Z → Y) → ((z : Z) → g (f z) ≡ h z) → (zs : List Z) → map g (map f zs) ≡ map h zs
-  map_map g h same [] = refl
+  map_map g h _ [] = refl
   map_map g h same (z ∷ zs) = λ i. same z i ∷ map_map g h same zs i
 
   distinct_map : (zs : List Z) → distinct eq (map f zs) ≡ map f (distinct by zs)
@@ -61,10 +61,10 @@ module _ {Z A : Type 0} (f : Z → A) (eq : A → A → Bool) where
   distinct_map (z ∷ zs) = search (filter_map, distinct_map zs)
 
   codes_map : (zs : List Z) → codes_of eq (map f zs) ≡ codes_of by zs
-  codes_map zs = search (distinct_map, map_map, position_map)
+  codes_map = search (distinct_map, map_map, position_map)
 
   firsts_map : (zs : List Z) → first_rows eq (map f zs) ≡ first_rows by zs
-  firsts_map zs = search (distinct_map, map_map, position_map)
+  firsts_map = search (distinct_map, map_map, position_map)
 
 -- labels level by level
 module _ {L : Type 0} (eq : L → L → Bool) (laws : IsEquivalence eq) where
@@ -72,7 +72,7 @@ module _ {L : Type 0} (eq : L → L → Bool) (laws : IsEquivalence eq) where
   single l = l ∷ []
 
   alone : (y z : L) → Unit {0} → Unit {0} → pointwise eq (single y) (single z) ≡ eq y z
-  alone y z _ _ = grind arith
+  alone = grind arith
 
 -- codes and first rows of keys
 pub record AreNumbers {K : Type 0} (eq : K → K → Bool) (keys : List K) (codes firsts : List ℕ) : Type 0 where
@@ -82,9 +82,9 @@ pub record AreNumbers {K : Type 0} (eq : K → K → Bool) (keys : List K) (code
 -- the same numbers, for keys that are equal in the same rows
 pub renumbered : {Z A B : Type 0} (f : Z → A) (eq : A → A → Bool) (g : Z → B) (same : B → B → Bool) (P : Z → Type 0) → ((y z : Z) → P y → P z → eq (f y) (f z) ≡ same (g y) (g z)) → (zs : List Z) → All P zs
     → (codes firsts : List ℕ) → AreNumbers eq (map f zs) codes firsts → AreNumbers same (map g zs) codes firsts
-renumbered f eq g same P agree zs all codes firsts are = record {
-  coded = are.coded ∙ codes_map f eq zs ∙ codes_on P (λ y z. eq (f y) (f z)) (λ y z. same (g y) (g z)) agree zs all ∙ sym (codes_map g same zs);
-  first = are.first ∙ firsts_map f eq zs ∙ firsts_on P (λ y z. eq (f y) (f z)) (λ y z. same (g y) (g z)) agree zs all ∙ sym (firsts_map g same zs);
+renumbered f eq g same P agree zs all _ _ are = record {
+  coded = are.coded ∙ codes_map f eq zs ∙ codes_on P (λ y z. eq (f y) (f z)) (λ y z. same (g y) (g z)) agree zs all ∙ sym (codes_map g _ zs);
+  first = are.first ∙ firsts_map f eq zs ∙ firsts_on P (λ y z. eq (f y) (f z)) (λ y z. same (g y) (g z)) agree zs all ∙ sym (firsts_map g _ zs);
 }
 
 zip_maps : {Z A B C : Type 0} (a : Z → A) (d : Z → B) (b : B → C) (zs : List Z) → zip (map a zs) (map b (map d zs)) ≡ map (λ z. (a z, b (d z))) zs
@@ -101,7 +101,7 @@ module _ {L : Type 0} (eq : L → L → Bool) (laws : IsEquivalence eq) (na : L)
 
   pub last_level : (i : ℕ) (rows : List (List L)) (codes firsts : List ℕ) → All (λ t. length t ≡ i + 1) rows → AreNumbers eq (map (at i) rows) codes firsts → AreNumbers (pointwise eq) (map (drop i) rows) codes firsts
   last_level i rows codes firsts all are =
-      renumbered (at i) eq (drop i) (pointwise eq) (λ t. length t ≡ i + 1)
+      renumbered _ eq _ _ (λ t. length t ≡ i + 1)
       (λ y z h k. sym (search (last, alone))) rows all codes firsts are
     where
       last : (t : List L) → length t ≡ i + 1 → drop i t ≡ at i t ∷ []
@@ -119,8 +119,8 @@ module _ {L : Type 0} (eq : L → L → Bool) (laws : IsEquivalence eq) (na : L)
 
     pub one_level : (old codes firsts : List ℕ) → All (λ t. i < length t) rows → old ≡ codes_of (pointwise eq) below → AreNumbers (same_pair eq) (zip (map (at i) rows) old) codes firsts → AreNumbers (pointwise eq) (map (drop i) rows) codes firsts
     one_level old codes firsts all was are =
-        renumbered (λ t. (at i t, rank (drop (i + 1) t))) (same_pair eq) (drop i) (pointwise eq) IsKnown
-        (λ y z h k. ap (λ b. eq (at i y) (at i z) && b) (sym (place_tells (pointwise eq) (lists_equiv laws) (distinct (pointwise eq) below) (drop (i + 1) y) (drop (i + 1) z) k.1))
+        renumbered (λ t. (at i t, rank (drop (i + 1) t))) (same_pair eq) _ _ IsKnown
+        (λ y z h k. ap (λ b. eq (at i y) (at i z) && b) (sym (place_tells _ (lists_equiv laws) _ (drop (i + 1) y) _ k.1))
         ∙ sym (λ j. pointwise eq (split_at i y h.0 j) (split_at i z k.0 j))) rows
         (λ k d lt. (all k d lt, cc (get_or-map (drop (i + 1)) rows k d (drop (i + 1) d) lt, all_known (pointwise eq) (lists_equiv laws) below k (drop (i + 1) d) (omega (arith, lt, length-map rows (drop (i + 1)))))))
         codes firsts
@@ -136,14 +136,14 @@ module _ {K : Type 0} (eq : K → K → Bool) (decides : (a b : K) → Decides (
   IsThere k = list_any (eq k) rows ≡ true
 
   all_there : All IsThere (distinct eq rows)
-  all_there = All-distinct IsThere eq rows (λ k d lt. any_at (eq (slice_index_or rows k d)) rows k d lt (laws.refl (slice_index_or rows k d)))
+  all_there = All-distinct IsThere eq _ (λ k d lt. any_at _ _ k d lt (laws.refl (slice_index_or rows k d)))
 
   pub firsts_inside : All (λ r. r < length rows) (first_rows eq rows)
-  firsts_inside = All-map (λ r. r < length rows) (place_among eq rows) (distinct eq rows) (λ k d lt. position_in (eq (slice_index_or (distinct eq rows) k d)) rows (all_there k d lt))
+  firsts_inside = All-map (λ r. r < length rows) (place_among eq rows) (distinct eq rows) (λ k d lt. position_in _ _ (all_there k d lt))
 
   pub first_keys : (d : K) → map (λ r. slice_index_or rows r d) (first_rows eq rows) ≡ distinct eq rows
   first_keys d =
-      map_map (place_among eq rows) nat_eq (λ r. slice_index_or rows r d) (λ k. slice_index_or rows (place_among eq rows k) d) (λ k. refl) (distinct eq rows)
+      map_map _ nat_eq (λ r. slice_index_or rows r d) (λ k. slice_index_or rows (place_among eq rows k) d) (λ k. refl) (distinct eq rows)
       ∙ map_on IsThere (λ k. slice_index_or rows (place_among eq rows k) d) (λ k. k) (λ k h. sym (grind (arith, passes_at_first, position_in))) (distinct eq rows) all_there
       ∙ map-id (distinct eq rows)
 
@@ -158,7 +158,7 @@ module _ {K : Type 0} (eq : K → K → Bool) where
   All-passes p (k ∷ ks) = grind (arith, All-passes p ks)
 
   apart_filter : (p : K → Bool) (ks : List K) → Apart ks → Apart (filter p ks)
-  apart_filter p [] apart = tt
+  apart_filter p [] _ = tt
   apart_filter p (k ∷ ks) apart =
       elim (p k) as (λ b. Apart (cond b (k ∷ filter p ks) (filter p ks))) [
         | true ↦ (All-filter p (λ q. not (eq q k) ≡ true) ks apart.0, apart_filter p ks apart.1)
@@ -171,12 +171,12 @@ module _ {K : Type 0} (eq : K → K → Bool) where
 
   -- of two of them the later one doesn't equal the earlier one
   pub apart_at : (ks : List K) (i j : ℕ) (d : K) → Apart ks → i < j → j < length ks → eq (slice_index_or ks j d) (slice_index_or ks i d) ≡ false
-  apart_at [] i j d apart lt inside = grind arith
-  apart_at (k ∷ ks) zero zero d apart lt inside = grind arith
-  apart_at (k ∷ ks) zero (suc j) d apart lt inside = grind (arith, not_so)
-  apart_at (k ∷ ks) (suc i) zero d apart lt inside = grind arith
-  apart_at (k ∷ ks) (suc i) (suc j) d apart lt inside = grind (arith, apart_at ks)
+  apart_at [] i j = grind arith
+  apart_at (k ∷ ks) zero zero = grind arith
+  apart_at (k ∷ ks) zero (suc j) = grind (arith, not_so)
+  apart_at (k ∷ ks) (suc i) zero = grind arith
+  apart_at (k ∷ ks) (suc i) (suc j) = grind (arith, apart_at ks)
 
 -- the place of a distinct key is where it stands
 pub place_there : {K : Type 0} (eq : K → K → Bool) → IsEquivalence eq → (rows : List K) (c : ℕ) (d : K) → c < length (distinct eq rows) → place_among eq (distinct eq rows) (slice_index_or (distinct eq rows) c d) ≡ c
-place_there eq laws rows c d lt = grind (arith, position_or_len_is, apart_at, apart_distinct)
+place_there = grind (arith, position_or_len_is, apart_at, apart_distinct)

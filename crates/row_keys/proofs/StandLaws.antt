@@ -5,22 +5,22 @@ use Rattle.{
 }
 
 rows_within : (n : ℕ) → All (λ i. i < n) (range_with_len 0 n)
-rows_within n k d lt = grind (arith, length-range_with_len, get_or-range_with_len)
+rows_within = grind (arith, length-range_with_len, get_or-range_with_len)
 
 -- one row more
 pub row_more : (f : ℕ → ℕ) (row n : ℕ) (numbers numbers' : List ℕ) → n ≡ f row → numbers ≡ map f (range_with_len 0 row) → numbers' ≡ numbers ++ n ∷ [] → numbers' ≡ map f (range_with_len 0 (row + 1))
-row_more f row n numbers numbers' is was pushed = grind (arith, map-range_with_len_more)
+row_more = grind (arith, map-range_with_len_more)
 
 -- a list is its elements row by row
 read : {X : Type 0} (none : X) (xs : List X) (n : ℕ) → length xs ≡ n → xs ≡ map (λ (i : ℕ). slice_index_or xs i none) (range_with_len 0 n)
-read none xs n long = fill_by_all (λ (i : ℕ). slice_index_or xs i none) xs n none long (λ k lt. refl)
+read none xs n long = fill_by_all (λ (i : ℕ). slice_index_or xs i none) xs n _ long (λ k lt. refl)
 
 pub stand_codes : {K : Type 0} (eq : K → K → Bool) (none : K) (keys : List K) (numbers codes firsts : List ℕ) → StandFor eq none keys numbers → AreNumbers nat_eq numbers codes firsts → AreNumbers eq keys codes firsts
 stand_codes {K} eq none keys numbers codes firsts stand are = rw (read none keys (length keys) refl) (renumbered (λ (i : ℕ). slice_index numbers i) nat_eq (λ (i : ℕ). slice_index_or keys i none) eq (λ (i : ℕ). i < length keys) (λ i j hi hj. sym (stand.tells i j hi hj))
-    (range_with_len 0 (length keys)) (rows_within (length keys)) codes firsts
+    (range_with_len 0 (length keys)) (rows_within _) codes firsts
     (rw (← read 0 numbers (length keys) stand.count) are))
 
 -- the same by the clauses of a call that numbers these
 pub codes_stand : {K : Type 0} (eq : K → K → Bool) (none : K) (keys : List K) (numbers made codes firsts : List ℕ) → StandFor eq none keys numbers → made ≡ numbers → codes ≡ codes_of nat_eq made → firsts ≡ first_rows nat_eq made → AreNumbers eq keys codes firsts
-codes_stand eq none keys numbers made codes firsts stand is coded first =
-    stand_codes eq none keys numbers codes firsts stand (search nat_eq)
+codes_stand eq _ _ _ _ _ _ stand is coded first =
+    stand_codes eq _ _ _ _ _ stand (search nat_eq)

@@ -8,66 +8,66 @@ use Rattle.{
 use Rattle.cell_core.specs.declared.cell.Label.TheVariants as label
 
 further : (a b : ℤ) → a ≤ℤ b → b ≡ a +ℤ pos (unsigned_abs (b -ℤ a))
-further a b le = grind (arith, ints)
+further = grind (arith, ints)
 
 -- values above the least are equal exactly where they stand as far from it
 values_tell : (low high v w : ℤ) → IsBetween low high (Some v) → IsBetween low high (Some w) → int_eq v w ≡ (number_from low (Some v) == number_from low (Some w))
-values_tell low high v w iv iw = search (rules, further, ints)
+values_tell = search (rules, further, ints)
 
 some_not_none : (low high : ℤ) (o : Option ℤ) → IsBetween low high o → (0 == number_from low o) ≡ false
-some_not_none low high x within = grind (arith, ne_eqb)
+some_not_none = grind (arith, ne_eqb)
 
 none_not_some : (low high : ℤ) (o : Option ℤ) → IsBetween low high o → (number_from low o == 0) ≡ false
-none_not_some low high x within = grind (arith, ne_eqb)
+none_not_some = grind (arith, ne_eqb)
 
 truths_tell : (a b : Bool) → same_number (label.Bool a) (label.Bool b) ≡ int_eq (truth_value a) (truth_value b)
-truths_tell x x1 = grind arith
+truths_tell = grind arith
 
 texts_tell : (low high : ℤ) (m n : ℕ) → IsBetween low high (text_value m) → IsBetween low high (text_value n) → (m == n) ≡ (number_from low (text_value m) == number_from low (text_value n))
-texts_tell low high m n = search (rules, ints, values_tell)
+texts_tell = search (rules, ints, values_tell)
 
 -- labels of a class in a span
 pub labels_tell : (class : Class) (low high : ℤ) (l m : Label) → IsSpanned class low high l → IsSpanned class low high m → same_number l m ≡ (number_in class low l == number_in class low m)
-labels_tell Truths low high label.Na label.Na hl hm = refl
-labels_tell Truths low high label.Na (label.Bool b) hl hm = sym (search some_not_none)
-labels_tell Truths low high label.Na (label.Int z) hl hm = absurd hm
-labels_tell Truths low high label.Na (label.Text id) hl hm = absurd hm
-labels_tell Truths low high (label.Bool a) label.Na hl hm = sym (search none_not_some)
-labels_tell Truths low high (label.Bool a) (label.Bool b) hl hm = search (truths_tell, values_tell)
-labels_tell Truths low high (label.Bool a) (label.Int z) hl hm = absurd hm
-labels_tell Truths low high (label.Bool a) (label.Text id) hl hm = absurd hm
-labels_tell Truths low high (label.Int z) m hl hm = absurd hl
-labels_tell Truths low high (label.Text id) m hl hm = absurd hl
-labels_tell Whole low high label.Na label.Na hl hm = refl
-labels_tell Whole low high label.Na (label.Int z) hl hm = grind (arith, some_not_none)
-labels_tell Whole low high label.Na (label.Bool b) hl hm = absurd hm
-labels_tell Whole low high label.Na (label.Text id) hl hm = absurd hm
-labels_tell Whole low high (label.Int z) label.Na hl hm = grind (arith, none_not_some)
-labels_tell Whole low high (label.Int z) (label.Int w) hl hm = search values_tell
-labels_tell Whole low high (label.Int z) (label.Bool b) hl hm = absurd hm
-labels_tell Whole low high (label.Int z) (label.Text id) hl hm = absurd hm
-labels_tell Whole low high (label.Bool b) m hl hm = absurd hl
-labels_tell Whole low high (label.Text id) m hl hm = absurd hl
-labels_tell Texts low high label.Na label.Na hl hm = refl
-labels_tell Texts low high label.Na (label.Text id) hl hm = sym (search some_not_none)
-labels_tell Texts low high label.Na (label.Bool b) hl hm = absurd hm
-labels_tell Texts low high label.Na (label.Int z) hl hm = absurd hm
-labels_tell Texts low high (label.Text id) label.Na hl hm = sym (search none_not_some)
-labels_tell Texts low high (label.Text a) (label.Text b) hl hm = search texts_tell
-labels_tell Texts low high (label.Text id) (label.Bool b) hl hm = absurd hm
-labels_tell Texts low high (label.Text id) (label.Int z) hl hm = absurd hm
-labels_tell Texts low high (label.Bool b) m hl hm = absurd hl
-labels_tell Texts low high (label.Int z) m hl hm = absurd hl
+labels_tell Truths _ _ label.Na label.Na _ _ = refl
+labels_tell Truths _ _ label.Na (label.Bool b) hl hm = sym (search some_not_none)
+labels_tell Truths _ _ label.Na (label.Int z) _ hm = absurd hm
+labels_tell Truths _ _ label.Na (label.Text id) _ hm = absurd hm
+labels_tell Truths _ _ (label.Bool a) label.Na hl hm = sym (search none_not_some)
+labels_tell Truths _ _ (label.Bool a) (label.Bool b) hl hm = search (truths_tell, values_tell)
+labels_tell Truths _ _ (label.Bool a) (label.Int z) _ hm = absurd hm
+labels_tell Truths _ _ (label.Bool a) (label.Text id) _ hm = absurd hm
+labels_tell Truths _ _ (label.Int z) m hl _ = absurd hl
+labels_tell Truths _ _ (label.Text id) m hl _ = absurd hl
+labels_tell Whole _ _ label.Na label.Na _ _ = refl
+labels_tell Whole _ _ label.Na (label.Int z) hl hm = grind (arith, some_not_none)
+labels_tell Whole _ _ label.Na (label.Bool b) _ hm = absurd hm
+labels_tell Whole _ _ label.Na (label.Text id) _ hm = absurd hm
+labels_tell Whole _ _ (label.Int z) label.Na hl hm = grind (arith, none_not_some)
+labels_tell Whole _ _ (label.Int z) (label.Int w) hl hm = search values_tell
+labels_tell Whole _ _ (label.Int z) (label.Bool b) _ hm = absurd hm
+labels_tell Whole _ _ (label.Int z) (label.Text id) _ hm = absurd hm
+labels_tell Whole _ _ (label.Bool b) m hl _ = absurd hl
+labels_tell Whole _ _ (label.Text id) m hl _ = absurd hl
+labels_tell Texts _ _ label.Na label.Na _ _ = refl
+labels_tell Texts _ _ label.Na (label.Text id) hl hm = sym (search some_not_none)
+labels_tell Texts _ _ label.Na (label.Bool b) _ hm = absurd hm
+labels_tell Texts _ _ label.Na (label.Int z) _ hm = absurd hm
+labels_tell Texts _ _ (label.Text id) label.Na hl hm = sym (search none_not_some)
+labels_tell Texts _ _ (label.Text a) (label.Text b) hl hm = search texts_tell
+labels_tell Texts _ _ (label.Text id) (label.Bool b) _ hm = absurd hm
+labels_tell Texts _ _ (label.Text id) (label.Int z) _ hm = absurd hm
+labels_tell Texts _ _ (label.Bool b) m hl _ = absurd hl
+labels_tell Texts _ _ (label.Int z) m hl _ = absurd hl
 
 pub label_below : (class : Class) (low high : ℤ) (l : Label) → IsSpanned class low high l → number_in class low l ≤ unsigned_abs (high -ℤ low) + 1
-label_below class low high x h = grind (arith, further, ints)
+label_below = grind (arith, further, ints)
 
 -- a label in a span
 pub spanned : (class : Class) (low high : ℤ) (l : Label) (v : ℤ) → value_in class l ≡ Some v → low ≤ℤ v → v ≤ℤ high → IsSpanned class low high l
-spanned class low high x v is down up = grind arith
+spanned = grind arith
 
 wider : (class : Class) (low high low' high' : ℤ) (l : Label) → low' ≤ℤ low → high ≤ℤ high' → IsSpanned class low high l → IsSpanned class low' high' l
-wider class low high low' high' x down up h = search (rules, ints)
+wider = search (rules, ints)
 
 -- one label more
 pub spanned_more : (class : Class) (keys : List Label) (i : ℕ) (l : Label) (low high low' high' : ℤ) → i < length keys → slice_index_or keys i l ≡ l → low' ≤ℤ low → high ≤ℤ high' → IsSpanned class low' high' l → All (IsSpanned class low high) (take i keys)
@@ -75,7 +75,7 @@ pub spanned_more : (class : Class) (keys : List Label) (i : ℕ) (l : Label) (lo
 spanned_more class keys i l low high low' high' lt here down up at within = grind (arith, take_more keys i l lt, All-push (IsSpanned class low' high') (take i keys) l (λ k d below. wider class low high low' high' (slice_index_or (take i keys) k d) down up (within k d below)) at)
 
 pub numbers_more : (f : Label → ℕ) (keys : List Label) (i n : ℕ) (l : Label) (numbers numbers' : List ℕ) → i < length keys → slice_index_or keys i l ≡ l → n ≡ f l → numbers ≡ map f (take i keys) → numbers' ≡ numbers ++ n ∷ [] → numbers' ≡ map f (take (i + 1) keys)
-numbers_more f keys i n l numbers numbers' lt here is was pushed =
+numbers_more f keys i n l _ _ lt here is was pushed =
     pushed
     ∙ (λ j. was j ++ is j ∷ [])
     ∙ sym (cc (take_more keys i l lt, map-append f (take i keys) (l ∷ [])))
@@ -92,7 +92,7 @@ module _ (class : Class) (low high : ℤ) (keys : List Label) (numbers : List �
       record {
         count = search (made_all, length-map);
         tells = λ i j hi hj.
-            labels_tell class low high (slice_index_or keys i label.Na) (slice_index_or keys j label.Na) (within i label.Na hi) (within j label.Na hj)
+            labels_tell class low high _ _ (within i label.Na hi) (within j label.Na hj)
             ∙ sym (λ q. here i hi q == here j hj q);
       }
     where

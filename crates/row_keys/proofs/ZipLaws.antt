@@ -13,7 +13,7 @@ module _ {A B : Type 0} where
   pub zip_get : (a : List A) (b : List B) (i : ℕ) (d : A) (e : B) → i < length (zip a b) → slice_get (zip a b) i ≡ Some (slice_index_or a i d, slice_index_or b i e)
   zip_get [] b i d e lt = grind arith
   zip_get (x ∷ a) [] i d e lt = grind arith
-  zip_get (x ∷ a) (y ∷ b) zero d e lt = refl
+  zip_get (x ∷ a) (y ∷ b) zero d e _ = refl
   zip_get (x ∷ a) (y ∷ b) (suc i) d e lt = zip_get a b i d e (omega (arith, lt))
 
   pub zip_left : (a : List A) (b : List B) (i : ℕ) → i < length (zip a b) → i < length a

@@ -20,28 +20,27 @@ module _ {paths : List FileName} {L : Type 0} {join : L → L → L} {whole : Fi
   -- all parts are there
   pub gathered : {V : Type 0} {known : Work → V → Type 0} {view : World → V → L} {rest : Files → State → Reads L} {old new : Moment} (end : L) (v : V) → Gathers paths join whole rest (view (world_of new.work) v) old new
       → ((files : Files) → rest files (state_in old.work) ≡ gives end) → join (view (world_of new.work) v) end ≡ view (world_of new.work) v → known new.work v → Evaluates paths known view whole old new (Ok v)
-  gathered end v x is law known = grind (arith, loop_end)
+  gathered = grind (arith, loop_end)
 
 -- a part means the same in the state that was reached, and the rest from it on is this part and what is left
 module _ {paths : List FileName} {L : Type 0} {join : L → L → L} {whole all : Files → State → Reads L} {so_far : L} {old mid : Moment} (x : Gathers paths join whole all so_far old mid) where
   before : {G : Type 0} (first : Files → State → Reads G) (files : Files) → first files (state_in old.work) ≡ first files (state_in mid.work)
-  before first files = grind (arith, state_kept)
+  before = grind (arith, state_kept)
 
   seen_as : (some : Files → Reads L) → ((files : Files) → all files (state_in old.work) ≡ some files) → (held : Contents) → let files = files_in paths held in Goes held old.files mid.files (whole files (state_in old.work)) (joined join so_far (some files))
-  seen_as some is held = grind (arith, goes_to, joined)
+  seen_as = grind (arith, goes_to, joined)
 
 module _ {paths : List FileName} {G L : Type 0} (cons : G → L → L) {join : L → L → L} {whole all : Files → State → Reads L} {so_far : L} {first : Files → State → Reads G} (rest : Files → State → Reads L) {old mid new : Moment} (x : Gathers paths join whole all so_far old mid)
     (is : (files : Files) → all files (state_in old.work) ≡ ahead cons (first files (state_in old.work)) (rest files (state_in old.work))) where
   module _ {V : Type 0} {known : Work → V → Type 0} {view : World → V → G} where
     -- one part more
     pub gathers_next : (so_far' : L) (v : V) → Evaluates paths known view first mid new (Ok v) → ((l : L) → join so_far (cons (view (world_of new.work) v) l) ≡ join so_far' l) → Gathers paths join whole rest so_far' old new
-    gathers_next so_far' v y law =
+    gathers_next _ v y law =
         record {
           names = y.names ∙ x.names;
           kept = search keeps_both;
           serves = serves_both x.serves y.serves;
-          seen = λ held. let files = files_in paths held in let s = state_in old.work in
-              loop_next cons join x.serves (first files s) (rest files s) so_far (grind (arith, seen_as, ahead)) (view (world_of new.work) v) so_far' (goes_by (before x first files) (y.reads held)) law;
+          seen = λ held. loop_next cons join x.serves _ _ _ (grind (arith, seen_as, ahead)) (view (world_of new.work) v) _ (goes_by (before x first _) (y.reads held)) law;
         }
 
     module _ {V' : Type 0} {known' : Work → V' → Type 0} {view' : World → V' → L} where
@@ -55,7 +54,7 @@ module _ {paths : List FileName} {G L : Type 0} (cons : G → L → L) {join : L
             serves = serves_both x.serves y.serves;
             reads = λ held. let files = files_in paths held in let s = state_in old.work in
                 subst (λ e. Halts Err (world_of new.work).texts files old.files new.files (whole files s) e) (sym same)
-                (loop_fault (world_of new.work).texts files new.files cons join x.serves (first files s) (rest files s) so_far (grind (arith, seen_as, ahead)) f (rw (before x first files) (y.reads held)));
+                (loop_fault _ _ _ cons join x.serves (first files s) (rest files s) so_far (grind (arith, seen_as, ahead)) f (rw (before x first files) (y.reads held)));
             found = tt;
           }
 
@@ -69,6 +68,6 @@ module _ {paths : List FileName} {G L : Type 0} (cons : G → L → L) {join : L
             serves = serves_both x.serves y.serves;
             reads = λ held. let files = files_in paths held in let s = state_in old.work in
                 subst (λ e. Halts Err (world_of new.work).texts files old.files new.files (whole files s) e) (sym same)
-                (loop_spends cons join x.serves (first files s) (rest files s) so_far (grind (arith, seen_as, ahead)) (view (world_of new.work) v) (goes_by (before x first files) (y.reads held)));
+                (loop_spends cons join x.serves _ (rest files s) so_far (grind (arith, seen_as, ahead)) (view (world_of new.work) v) (goes_by (before x first _) (y.reads held)));
             found = tt;
           }

@@ -1,13 +1,12 @@
 -- Lists of parts, pairs and arguments that grow by one.
 use mathlib.Core.Former.{Count}
 use Rattle.{
-  std.proofs.Common.{arith, ◌≡◌, List, [], ◌∷◌, ◌++◌, refl, sym, ◌∙◌, ap, append_assoc, subst},
+  std.proofs.Common.{arith, ◌≡◌, List, [], ◌∷◌, ◌++◌, refl, sym, ◌∙◌, append_assoc, subst},
   cell_core.specs.declared.cell.Label.{Label},
   meaning.specs.{Text.{Text}, Cell.{label_datum}},
   table_meaning.specs.{Settled.{IsSettled}, Value.{GivenList, GivenPairs, NamedGiven, no_given, more_given, no_entries, more_entries}},
   frame_store.{specs.{Objects.{Tables}, Arguments.{item_of, items_of, argument_of, entries_of, named_of, arguments_of, IsLiveItem, IsLiveRow, AreLiveItems, IsLiveArgument, AreLiveEntries, AreLivePairs, AreLive}, declared.arguments.{Argument.{Argument, Table, Table', Row_of-Entries-pairs-2, end_of-Entries-pairs-2, more_of-Entries-pairs-2, items-the_row-Entries-pairs-2, items_hidden-the_row-Entries-pairs-2-0}, Item.{Item, Row, Row', Row_of-Item, end_of-Item, more_of-Item, items-the_row-Item, items_hidden-the_row-Item-0}, Items.{Items}, Entries.{Entries}, Named.{Named}}, World.{World, IsKnownItem, AreKnownItems, IsKnownArgument, AreKnownPairs, AreKnownArguments, IsKnownSubscript}}, proofs.RowLaws.{item_of-Row, argument_of-Table}},
 }
-use Rattle.table_meaning.specs.Value as value
 use Rattle.frame_store.specs.declared.arguments.Subscript.TheVariants as subscript
 
 -- parts behind parts
@@ -29,45 +28,45 @@ pairs_end (more_entries k g gs) = cc (pairs_end gs)
 
 module _ (tables : Tables) (texts : List Text) where
   items_join : (items : List Item) (item : Item) (l : GivenList) → join_parts (items_of tables texts (items ++ item ∷ [])) l ≡ join_parts (items_of tables texts items) (more_given (item_of tables texts item) l)
-  items_join [] item l = refl
+  items_join [] _ l = refl
   items_join (i ∷ items) item l = cc (items_join items item l)
 
   pub items_push : (items items' : List Item) (item : Item) → items' ≡ items ++ item ∷ [] → (l : GivenList)
       → join_parts (items_of tables texts items) (more_given (item_of tables texts item) l) ≡ join_parts (items_of tables texts items') l
-  items_push items items' item is l = grind (arith, items_join)
+  items_push = grind (arith, items_join)
 
   pairs_join : (pairs : List (Label × Argument)) (pair : Label × Argument) (l : GivenPairs)
       → join_pairs (entries_of tables texts (pairs ++ pair ∷ [])) l ≡ join_pairs (entries_of tables texts pairs) (more_entries (label_datum texts pair.0) (argument_of tables texts pair.1) l)
-  pairs_join [] pair l = refl
+  pairs_join [] _ l = refl
   pairs_join (p ∷ pairs) pair l = cc (pairs_join pairs pair l)
 
   pub pairs_push : (pairs pairs' : List (Label × Argument)) (label : Label) (a : Argument) → pairs' ≡ pairs ++ (label, a) ∷ [] → (l : GivenPairs)
       → join_pairs (entries_of tables texts pairs) (more_entries (label_datum texts label) (argument_of tables texts a) l) ≡ join_pairs (entries_of tables texts pairs') l
-  pairs_push pairs pairs' label a is l = grind (arith, pairs_join)
+  pairs_push = grind (arith, pairs_join)
 
   arguments_join : (args : List Named) (g : Named) → arguments_of tables texts (args ++ g ∷ []) ≡ arguments_of tables texts args ++ named_of tables texts g ∷ []
   arguments_join [] g = refl
   arguments_join (a ∷ args) g = cc (arguments_join args g)
 
   pub arguments_push : (args args' : List Named) (g : Named) → args' ≡ args ++ g ∷ [] → (l : List NamedGiven) → arguments_of tables texts args ++ named_of tables texts g ∷ l ≡ arguments_of tables texts args' ++ l
-  arguments_push args args' g is l = grind (arith, append_assoc, arguments_join)
+  arguments_push = grind (arith, append_assoc, arguments_join)
 
 -- liveness of one more
 live_items_push : (tables : Tables) (items : List Item) (item : Item) → AreLiveItems tables items → IsLiveItem tables item → AreLiveItems tables (items ++ item ∷ [])
-live_items_push tables [] item all one = (one, tt)
-live_items_push tables (i ∷ items) item all one = (all.0, live_items_push tables items item all.1 one)
+live_items_push _ [] _ _ one = (one, tt)
+live_items_push _ (i ∷ items) _ all one = (all.0, live_items_push _ items _ all.1 one)
 
 live_pairs_push : (tables : Tables) (pairs : List (Label × Argument)) (pair : Label × Argument) → AreLivePairs tables pairs → IsLiveArgument tables pair.1 → AreLivePairs tables (pairs ++ pair ∷ [])
-live_pairs_push tables [] pair all one = (one, tt)
-live_pairs_push tables (p ∷ pairs) pair all one = (all.0, live_pairs_push tables pairs pair all.1 one)
+live_pairs_push _ [] _ _ one = (one, tt)
+live_pairs_push _ (p ∷ pairs) _ all one = (all.0, live_pairs_push _ pairs _ all.1 one)
 
 live_arguments_push : (tables : Tables) (args : List Named) (g : Named) → AreLive tables args → IsLiveArgument tables g.value → AreLive tables (args ++ g ∷ [])
-live_arguments_push tables [] g all one = (one, tt)
-live_arguments_push tables (a ∷ args) g all one = (all.0, live_arguments_push tables args g all.1 one)
+live_arguments_push _ [] g _ one = (one, tt)
+live_arguments_push _ (a ∷ args) g all one = (all.0, live_arguments_push _ args g all.1 one)
 
 module _ (w : World) where
   pub items_known : (items items' : List Item) (item : Item) → items' ≡ items ++ item ∷ [] → AreKnownItems w items → IsKnownItem w item → AreKnownItems w items'
-  items_known items items' item is all one =
+  items_known items _ item is all one =
       subst (λ xs. AreKnownItems w xs) (sym is)
       record {
         live = search live_items_push;
@@ -77,7 +76,7 @@ module _ (w : World) where
       }
 
   pub pairs_known : (pairs pairs' : List (Label × Argument)) (label : Label) (a : Argument) → pairs' ≡ pairs ++ (label, a) ∷ [] → AreKnownPairs w pairs → IsSettled label_datum w.texts label → IsKnownArgument w a → AreKnownPairs w pairs'
-  pairs_known pairs pairs' label a is all here one =
+  pairs_known pairs _ label a is all here one =
       subst (λ xs. AreKnownPairs w xs) (sym is)
       record {
         live = search live_pairs_push;
@@ -87,20 +86,20 @@ module _ (w : World) where
       }
 
   pub arguments_known : (args args' : List Named) (g : Named) → args' ≡ args ++ g ∷ [] → AreKnownArguments w args → IsKnownArgument w g.value → AreKnownArguments w args'
-  arguments_known args args' g is all one = grind (arith, live_arguments_push, arguments_join)
+  arguments_known = grind (arith, live_arguments_push, arguments_join)
 
 -- a list and a dict whose parts are live
 live_row : (tables : Tables) (n : Count) (row : Row_of-Item n) → AreLiveItems tables (items-the_row-Item n row) → IsLiveRow tables row
-live_row tables _ end_of-Item live = tt
-live_row tables _ (more_of-Item {n} a rest) live = (live.0, live_row tables n rest live.1)
+live_row _ _ end_of-Item _ = tt
+live_row _ _ (more_of-Item {n} a rest) live = (live.0, live_row _ n rest live.1)
 
 abbrev item_row : Item → (n : Count) × Row_of-Item n
 item_row (Row' _ row) = (_, row)
 item_row _ = (_, end_of-Item)
 
 live_entries : (tables : Tables) (n : Count) (row : Row_of-Entries-pairs-2 n) → AreLivePairs tables (items-the_row-Entries-pairs-2 n row) → AreLiveEntries tables row
-live_entries tables _ end_of-Entries-pairs-2 live = tt
-live_entries tables _ (more_of-Entries-pairs-2 {n} label a rest) live = (live.0, live_entries tables n rest live.1)
+live_entries _ _ end_of-Entries-pairs-2 _ = tt
+live_entries _ _ (more_of-Entries-pairs-2 {n} label a rest) live = (live.0, live_entries _ n rest live.1)
 
 abbrev table_row : Argument → (n : Count) × Row_of-Entries-pairs-2 n
 table_row (Table' _ row) = (_, row)
@@ -108,24 +107,22 @@ table_row _ = (_, end_of-Entries-pairs-2)
 
 pub row_known : (w : World) (l : Items) → AreKnownItems w l.items.items → IsKnownItem w (Row l)
 row_known w l known =
-    let row = item_row (Row l) in
     record {
-      live = live_row w.tables row.0 row.1 (rw (items_hidden-the_row-Item-0 l.items) known.live);
+      live = live_row _ _ (item_row (Row l)).1 (rw (items_hidden-the_row-Item-0 l.items) known.live);
       given = grind (arith, item_of-Row);
     }
 
 pub table_known : (w : World) (l : Entries) → AreKnownPairs w l.pairs.items → IsKnownArgument w (Table l)
 table_known w l known =
-    let row = table_row (Table l) in
     record {
-      live = live_entries w.tables row.0 row.1 (rw (items_hidden-the_row-Entries-pairs-2-0 l.pairs) known.live);
-      given = λ more. argument_of-Table w.tables (w.texts ++ more) l ∙ ap value.entries (known.given more) ∙ sym (argument_of-Table w.tables w.texts l);
+      live = live_entries _ _ (table_row (Table l)).1 (rw (items_hidden-the_row-Entries-pairs-2-0 l.pairs) known.live);
+      given = grind (arith, argument_of-Table);
     }
 
 -- a value, a list, a tuple and None as arguments, and subscripts of arguments
 module _ (w : World) where
   pub key_known : (a : Argument) → IsKnownArgument w a → IsKnownSubscript w (subscript.Key a)
-  key_known a known = grind arith
+  key_known = grind arith
 
   pub span_known : (a b c : Argument) → IsKnownArgument w a → IsKnownArgument w b → IsKnownArgument w c → IsKnownSubscript w (subscript.Span a b c)
-  span_known a b c first second third = grind arith
+  span_known = grind arith

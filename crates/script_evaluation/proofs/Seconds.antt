@@ -23,7 +23,7 @@ module _ {paths : List FileName} {old new : Moment} where
 
     pub seconds : (v : Subscript) → Evaluates paths (λ w s. IsKnownSubscript (world_of w) s) subscript_in meant old new (Ok v)
         → Evaluates paths is_second second_in (λ files s. then_read (meant files s) (λ g. gives (Some g))) old new (Ok (Some v))
-    seconds v x = grind (arith, makes)
+    seconds = grind (arith, makes)
 
   module _ {meant : Files → State → Reads Entry} {name : Option Text} where
     pub strides_stop : {f : EvalFault} → Evaluates paths (IsValue name) entry_in meant old new (Err f)
@@ -32,4 +32,4 @@ module _ {paths : List FileName} {old new : Moment} where
 
     pub strides : (v : Value) → Evaluates paths (IsValue name) entry_in meant old new (Ok v)
         → Evaluates paths (λ w a. IsKnownArgument (world_of w) a) argument_in (λ files s. then_read (meant files s) (λ v. gives (one v))) old new (Ok (One v))
-    strides v x = grind (arith, makes)
+    strides = grind (arith, makes)

@@ -11,13 +11,13 @@ use Rattle.script_tree.specs.declared.tree.Sub.TheVariants as sub
 use Rattle.script_tree.specs.declared.tree.Step.TheVariants as step
 
 pub step_of-Access : (by : Accessor) (first : Sub) (second : Option Sub) → step_of (step.Access by first second) ≡ tree.access (accessor_of by) (sub_of first) (optional_sub second)
-step_of-Access by first x = grind arith
+step_of-Access = grind arith
 
 pub sub_of-Span : (from to : Option Arg) (by : Option Expr) → sub_of (sub.Span from to by) ≡ tree.span (optional_arg from) (optional_arg to) (optional_expr by)
-sub_of-Span x1 x2 x3 = grind arith
+sub_of-Span = grind arith
 
 drop-nil : {X : Type 0} (i : ℕ) → ◌≡◌ {A = List X} (drop i []) []
-drop-nil x = grind arith
+drop-nil = grind arith
 
 -- a list from a place on is the item there and the rest
 pub drop_item : {X : Type 0} (xs : List X) (i : ℕ) (x : X) → slice_get xs i ≡ Some x → drop i xs ≡ x ∷ drop (i + 1) xs
@@ -42,6 +42,6 @@ pair_depth (y ∷ xs) zero x e = grind arith
 pair_depth (y ∷ xs) (suc i) x e = grind (arith, pair_depth xs)
 
 pub drop_end : {X : Type 0} (xs : List X) (i : ℕ) → length xs ≤ i → drop i xs ≡ []
-drop_end [] i over = drop-nil i
+drop_end [] i _ = drop-nil i
 drop_end (x ∷ xs) zero over = absurd (omega arith)
 drop_end (x ∷ xs) (suc i) over = drop_end xs i (omega arith)

@@ -1,32 +1,32 @@
 -- What a run means by the file that its path holds.
 use Rattle.{
-  std.{proofs.Common.{◌≡◌, ◌≤◌, ◌<◌, ℕ, List, [], ◌∷◌, length, Option, Some, None, refl, sym, ◌∙◌, subst, arith, codes, inl, inr, ◌⊎◌}, specs.{Prelude.{IfSome}, FinMap.{get}}},
+  std.{proofs.Common.{◌≡◌, ◌≤◌, ◌<◌, ℕ, List, [], ◌∷◌, length, Option, Some, None, refl, arith, codes, ◌⊎◌}, specs.{Prelude.{IfSome}, FinMap.{get}}},
   outside_io.{specs.{Count.{HasRisen}, Sink.{appended, AppendsFront}}, proofs.Appended.{appended-nil}},
   meaning.specs.Text.{Text, Contents},
   language_meaning.specs.{Tree.{Statement}, Script.{most_bytes}},
   script_meaning.specs.{Reading.{Files}, State.{no_names}, Run.{RunResult, RunWords, IsScriptResult, IsFileResult, IsWordsResult, after_step, fetched, statements_result, with_line, too_large_line, syntax_line, not_found_line, syntax, usage}},
   script_syntax.specs.Parsed.{IsTheScript, IsTheSyntaxLine},
   script_work.specs.Reads.{count_after},
-  script_steps.{specs.{Ends.{Outside, Ends, EndsByMeaning, EndsWithLine, Is}, Steps.{Does}, declared.status.Status.{Status, TheVariants.{Done, Fault, Usage, Syntax, Input, Output, Memory}}}, proofs.{StepLaws.{does_one}, RunLaws.{early_none, ends_after, ends_other, unread_first}, Options.{some-weaker}}},
+  script_steps.{specs.{Ends.{Outside, Ends, EndsByMeaning, EndsWithLine, Is}, Steps.{Does}, declared.status.Status.{Status, TheVariants.{Usage, Input, Output, Memory}}}, proofs.{StepLaws.{does_one}, RunLaws.{early_none, ends_after, ends_other, unread_first}, Options.{some-weaker}}},
   script_run.{specs.OneResult.{IsOne}, proofs.OneResult.{file_one}},
 }
 
 module _ (files : Files) (status : Status) (old new : Outside) where
   -- the bytes are one script, whose statements were run
   pub ends_script : (bytes : List ℕ) (ss : List Statement) → length bytes ≤ most_bytes → IsTheScript bytes ss → Ends (Is (statements_result files no_names ss)) status old new → Ends (IsScriptResult files bytes) status old new
-  ends_script bytes ss small the t = ends_other (Is (statements_result files no_names ss)) (IsScriptResult files bytes) status old new (λ r is. inr (inl (small, (ss, the.0, is)))) t
+  ends_script = grind (arith, ends_other)
 
   -- the bytes are no script, by this line
   pub ends_syntax : (bytes : List ℕ) (line : ℕ) → length bytes ≤ most_bytes → IsTheSyntaxLine bytes line → Ends (Is (with_line (syntax_line line) syntax)) status old new → Ends (IsScriptResult files bytes) status old new
-  ends_syntax bytes line small the t = ends_other (Is (with_line (syntax_line line) syntax)) (IsScriptResult files bytes) status old new (λ r is. inr (inr (small, (line, the.0, is)))) t
+  ends_syntax = grind (arith, ends_other)
 
   -- more bytes than a script has
   pub ends_too_large : (bytes : List ℕ) → most_bytes < length bytes → Ends (Is (with_line too_large_line syntax)) status old new → Ends (IsScriptResult files bytes) status old new
-  ends_too_large bytes large t = ends_other (Is (with_line too_large_line syntax)) (IsScriptResult files bytes) status old new (λ r is. inl (large, is)) t
+  ends_too_large = grind (arith, ends_other)
 
 -- the run means something, and nothing was written
 pub ends_unbegun : (means : RunResult → Type 0) (old new : Outside) → IsOne means → new.out ≡ old.out → new.err ≡ old.err → Ends means Memory old new
-ends_unbegun means old new one out err = early_none old new means one.0 one.1 out err
+ends_unbegun _ _ _ one out err = search early_none
 
 -- the script was fetched, before a run of what it means
 pub ends_fetched : (words : RunWords) (held : Contents) (status : Status) (old mid new : Outside) → Does (fetched ∷ []) old mid
@@ -37,13 +37,13 @@ ends_fetched words held status old mid new does t =
 -- the path of the script holds these bytes, or nothing
 pub ends_held : (words : RunWords) (held : Contents) (bytes : List ℕ) (status : Status) (old mid new : Outside) → Does (fetched ∷ []) old mid → get held words.script ≡ Some bytes
     → Ends (IsScriptResult (record { paths = words.paths; held = held }) bytes) status mid new → Ends (IsWordsResult (Some words) held) status old new
-ends_held words held bytes status old mid new does is t =
-    ends_fetched words held status old mid new does (subst (λ file. Ends (IsFileResult (record { paths = words.paths; held = held }) words.script file) status mid new) (sym is) t)
+ends_held words held _ status old mid new does is t =
+    ends_fetched words held status old mid new does (rw is t)
 
 pub ends_absent : (words : RunWords) (held : Contents) (status : Status) (old mid new : Outside) → Does (fetched ∷ []) old mid → get held words.script ≡ None
     → Ends (Is (with_line (not_found_line words.script) usage)) status mid new → Ends (IsWordsResult (Some words) held) status old new
 ends_absent words held status old mid new does is t =
-    ends_fetched words held status old mid new does (subst (λ file. Ends (IsFileResult (record { paths = words.paths; held = held }) words.script file) status mid new) (sym is) t)
+    ends_fetched words held status old mid new does (rw is t)
 
 -- the script was fetched, and could not be read
 pub ends_unread : (words : RunWords) (held : Contents) (old new : Outside) → new.fetches ≡ count_after old.fetches 1 → new.out ≡ old.out → AppendsFront old.err new.err (codes "input failed\n")
@@ -54,32 +54,17 @@ ends_unread words held old new fetches out front whole =
 
 -- the script was fetched, and nothing else was done
 pub does_fetch : (old mid : Outside) → mid.out ≡ old.out → mid.err ≡ old.err → mid.fetches ≡ count_after old.fetches 1 → old.out_faults ≤ mid.out_faults → old.err_faults ≤ mid.err_faults → Does (fetched ∷ []) old mid
-does_fetch old mid out err fetches out_faults err_faults =
-    does_one fetched old mid (out ∙ sym (appended-nil old.out)) (err ∙ sym (appended-nil old.err)) fetches out_faults err_faults
+does_fetch = search (does_one, appended-nil)
 
 -- without a read or a write that failed, a run ends by its meaning
 by_meaning : (means : RunResult → Type 0) (status : Status) (old new : Outside) → Ends means status old new → (status ≡ Input → ⊥) → (status ≡ Output → ⊥) → EndsByMeaning means status old new
-by_meaning means Done old new t read wrote = inl t
-by_meaning means Fault old new t read wrote = inl t
-by_meaning means Usage old new t read wrote = inl t
-by_meaning means Syntax old new t read wrote = inl t
-by_meaning means Input old new t read wrote = absurd (read refl)
-by_meaning means Output old new t read wrote = absurd (wrote refl)
-by_meaning means Memory old new t read wrote = inr refl
+by_meaning = grind arith
 
 pub complete_run : (contents : Option Contents) (means : Contents → RunResult → Type 0) (status : Status) (old new : Outside) (A B C : Type 0)
     → IfSome contents (λ held. Ends (means held) status old new) → (status ≡ Input → A) → (status ≡ Output → B ⊎ C)
     → IfSome contents (λ held. (A → ⊥) → (B → ⊥) → (C → ⊥) → EndsByMeaning (means held) status old new)
-complete_run contents means status old new A B C told read wrote =
-    some-weaker contents (λ held. Ends (means held) status old new) _ told
-    (λ held t no_read no_out no_err. by_meaning (means held) status old new t (λ is. no_read (read is)) (λ is. neither (wrote is) no_out no_err))
-  where
-    neither : B ⊎ C → (B → ⊥) → (C → ⊥) → ⊥
-    neither (inl b) no_out no_err = no_out b
-    neither (inr e) no_out no_err = no_err e
+complete_run _ _ _ _ _ A B C = grind (arith, some-weaker, by_meaning)
 
 -- a run that ends with one line didn't fail to read
 pub not_unread : (line : Text) (result : Status) (err err' : Option (List ℕ)) → EndsWithLine line Usage result err err' → result ≡ Input → ⊥
-not_unread line result err err' (inl written) is = cc
-not_unread line result err err' (inr (inl front)) is = cc
-not_unread line result err err' (inr (inr none)) is = cc
+not_unread = grind arith

@@ -17,7 +17,7 @@ abbrev pub refusal : FaultValue → Answer
 refusal fault = refused fault false
 
 pub step_halts : (texts : List Text) (files : Files) (old new : FilesValue) (whole : Reading Answer) (f : EvalFault) → Halts refusal texts files old new whole f → IsStepFault texts files old new whole (step_fault f)
-step_halts texts files old new whole x h = grind arith
+step_halts = grind arith
 
 pub done_same : (a : Answer) (s t : State) (p q : Text) (w v : Bool) → a ≡ done s p w → s ≡ t → q ≡ p → v ≡ w → a ≡ done t q v
 done_same a s t p q w v is same printed warned = cc
@@ -39,41 +39,41 @@ module _ (bs : Bindings) (meant : Result Table FaultValue) (old new : World) (gi
       ∙ entry_seen new (Object k)
 
   scalar_same : (m : Text) (c : _) → value_at bs m ≡ Some (Scalar c) → entry_in old (Scalar c) ≡ entry_in new (Scalar c)
-  scalar_same m c is = grind (arith, seen_later)
+  scalar_same = grind (arith, seen_later)
 
   named_set : (n : Text) → value_at bs n ≡ Some (Object id) → set_answer (state_over bs old) (Some n) meant ≡ done (state_over bs new) [] false
-  named_set n of = grind (arith, same_state, value_at-same, nat_eq_self, scalar_same, nat_eq, nat_same, entry_seen, other_same)
+  named_set = grind (arith, same_state, value_at-same, nat_eq_self, scalar_same, nat_eq, nat_same, entry_seen, other_same)
 
   unnamed_set : is_named bs id.0 ≡ false → set_answer (state_over bs old) None meant ≡ done (state_over bs new) [] true
-  unnamed_set unnamed = grind (arith, same_state, scalar_same, nat_eq, true_false, named_object, nat_same, other_same)
+  unnamed_set = grind (arith, same_state, scalar_same, nat_eq, true_false, named_object, nat_same, other_same)
 
 pub set_state : (bs : Bindings) (o : Option Text) (on : Value) (meant : Result Table FaultValue) (old new : World) → AreGiven bs old.texts → IsOf bs o on → Sets (Ok tt) on meant old new
     → set_answer (state_over bs old) o meant ≡ done (state_over bs new) [] (is_chained o)
-set_state bs o x meant old new given of sets = grind (arith, named_set, unnamed_set)
+set_state = grind (arith, named_set, unnamed_set)
 
 -- a setting that was refused, with its mark
 pub set_refused : {texts : List Text} (files : Files) {first last : FilesValue} {whole : Reading Answer} (s : State) (o : Option Text) (on : Value) (meant : Result Table FaultValue) (form : HasFormFault meant) (f : OpFault) (warned : Bool) (e : StepFault) (old new : World)
     → Goes files.held first last whole (at_once (set_answer s o meant)) → texts ≡ new.texts → e ≡ marked_fault warned f → warned ≡ is_chained o → Sets (Err f) on meant old new → IsStepFault texts files first last whole e
-set_refused {texts} files {first} {last} {whole} s o on meant form f warned e old new goes same is marked sets = grind (arith, goes_to, fault_uncaused, goes_spends)
+set_refused {texts} _ {first} {last} {whole} = grind (arith, goes_to, fault_uncaused, goes_spends)
 
 -- what a statement that reads no file answers
 pub performs_once : (texts : List Text) (files : Files) (seen : FilesValue) (whole : Reading Answer) (s : State) (r : Result Outcome StepFault) → PerformsOnce s texts whole r → Performs s texts files seen seen whole r
-performs_once texts files seen whole s x is = grind (arith, goes_same, uncaused, spends_none)
+performs_once = grind (arith, goes_same, uncaused, spends_none)
 
 pub performs_by : (s : State) (texts : List Text) (files : Files) (old new : FilesValue) {whole other : Reading Answer} (r : Result Outcome StepFault) → whole ≡ other → Performs s texts files old new other r → Performs s texts files old new whole r
-performs_by s texts files old new r is h = rw is h
+performs_by s _ _ _ _ r is h = rw is h
 
 -- after a sweep, which keeps the state and the texts
 pub performs_after : {texts texts' : List Text} (files : Files) (old new : FilesValue) (whole : Reading Answer) (s t : State) (r : Result Outcome StepFault) → Performs s texts files old new whole r → s ≡ t → texts ≡ texts'
     → Performs t texts' files old new whole r
-performs_after {texts} {texts'} files old new whole s t (Ok o) h e same = rw e at h
-performs_after {texts} {texts'} files old new whole s t (Err f) h e same = grind arith
+performs_after {texts} {texts'} _ _ _ _ s t (Ok o) h e _ = rw e at h
+performs_after {texts} {texts'} _ _ _ _ s t (Err f) h e same = grind arith
 
 -- after a statement that was refused the state is the same
 pub refused_kept : (s w : Work) (r : Result Outcome StepFault) → OnErr r (names_in w ≡ names_in s) → OnErr r (Keeps (world_of s) (world_of w)) → OnErr r (state_in w ≡ state_in s)
-refused_kept s w x names keeps = grind (arith, state_kept)
+refused_kept = grind (arith, state_kept)
 
 module _ (r : Result Outcome StepFault) where
   pub live_refused : (bs bs1 bs2 : Bindings) (old w1 w2 : World) → OnErr r (bs1 ≡ bs) → OnErr r (Keeps old w1) → bs2 ≡ bs1 → w2.texts ≡ w1.texts → KeepNamed bs2 w1.tables w2.tables → AreNamed bs2 w2.tables → AreNamed bs old.tables
       → ((id : ℕ) → is_named bs id ≡ true → IsSome (old.tables id)) → OnErr r (objects_of w2 ≡ objects_of old)
-  live_refused bs bs1 bs2 old w1 w2 names kept swept texts keeps named was named_live = grind (arith, some_shown)
+  live_refused = grind (arith, some_shown)

@@ -14,8 +14,8 @@ after_done (done s p w) other = s
 after_done (refused f w) other = other
 
 pub set_apart : (s t : State) (o : Option Text) (r : Result Table FaultValue) (p : Text) (w : Bool) → set_answer s o r ≡ done t p w → IsSetApart o s t
-set_apart s t o x p w is = grind arith
+set_apart = grind arith
 
 -- after a sweep the state is the same
 pub apart_after : (r : Result Outcome StepFault) (form : tree.Form) (s t u : State) → OnOk r (ChangesOneObject form s t) → t ≡ u → OnOk r (ChangesOneObject form s u)
-apart_after x form s t u h is = grind arith
+apart_after = grind arith

@@ -7,9 +7,6 @@ use Rattle.{
   script_steps.specs.{Ends.{Outside}, Steps.{Does}},
 }
 
-pub errors_of-append : (a b : List RunStep) → errors_of (a ++ b) ≡ errors_of a ++ errors_of b
-errors_of-append a b = search flat_map-append
-
 pub fetches_of-append : (a b : List RunStep) → fetches_of (a ++ b) ≡ fetches_of a + fetches_of b
 fetches_of-append [] b = search zero-add
 fetches_of-append (x ∷ a) b = search (add_assoc, fetches_of-append a b)
@@ -21,35 +18,35 @@ before_fetch-append (x ∷ a) b m some = grind (arith, lt-ltb, before_fetch-appe
 
 -- a byte that stands after the errors of these steps is one of the others
 pub before_byte-append : (a b : List RunStep) (place : ℕ) → before_byte (length (errors_of a) + place) (a ++ b) ≡ a ++ before_byte place b
-before_byte-append [] b place = search zero-add
+before_byte-append [] b _ = search zero-add
 before_byte-append (x ∷ a) b place = grind (arith, length-append, le-ltb, before_byte-append a b place)
 
 -- the count after some fetches and some more
 pub count_after-add : (count a b : ℕ) → count_after (count_after count a) b ≡ count_after count (a + b)
-count_after-add count x b = grind (arith, zero-add, add-zero)
+count_after-add = grind (arith, zero-add, add-zero)
 
 -- nothing was done yet
 pub does_none : (o : Outside) → Does [] o o
-does_none o = grind (arith, appended-nil)
+does_none = grind (arith, appended-nil)
 
 -- one step was done
 pub does_one : (step : RunStep) (old new : Outside) → new.out ≡ appended old.out step.output → new.err ≡ appended old.err step.errors → new.fetches ≡ count_after old.fetches step.fetches
     → old.out_faults ≤ new.out_faults → old.err_faults ≤ new.err_faults → Does (step ∷ []) old new
-does_one step old new out err fetches out_faults err_faults = search (append-nil, add-zero)
+does_one = search (append-nil, add-zero)
 
 -- the text of the first steps, and then that of the others
 text_more : (a b both : List ℕ) (w0 w1 w2 : Option (List ℕ)) → both ≡ a ++ b → w1 ≡ appended w0 a → w2 ≡ appended w1 b → w2 ≡ appended w0 both
-text_more a b both w0 w1 w2 whole first second = cc (appended-appended w0 a b)
+text_more a b _ w0 _ _ whole first second = cc (appended-appended w0 a b)
 
 -- what some steps and then others print and fetch is what all of them do
 pub out_more : (a b : List RunStep) (w0 w1 w2 : Option (List ℕ)) → w1 ≡ appended w0 (output_of a) → w2 ≡ appended w1 (output_of b) → w2 ≡ appended w0 (output_of (a ++ b))
-out_more a b w0 w1 w2 first second = search (text_more, flat_map-append)
+out_more = search (text_more, flat_map-append)
 
 pub err_more : (a b : List RunStep) (w0 w1 w2 : Option (List ℕ)) → w1 ≡ appended w0 (errors_of a) → w2 ≡ appended w1 (errors_of b) → w2 ≡ appended w0 (errors_of (a ++ b))
-err_more a b w0 w1 w2 first second = search (text_more, errors_of-append)
+err_more = search (text_more, flat_map-append)
 
 pub fetches_more : (a b : List RunStep) (n0 n1 n2 : ℕ) → n1 ≡ count_after n0 (fetches_of a) → n2 ≡ count_after n1 (fetches_of b) → n2 ≡ count_after n0 (fetches_of (a ++ b))
-fetches_more a b n0 n1 n2 first second = grind (arith, count_after-add, fetches_of-append)
+fetches_more = grind (arith, count_after-add, fetches_of-append)
 
 pub does_more : (a b : List RunStep) (old mid new : Outside) → Does a old mid → Does b mid new → Does (a ++ b) old new
-does_more a b old mid new first second = grind (arith, out_more, err_more, fetches_more)
+does_more = grind (arith, out_more, err_more, fetches_more)

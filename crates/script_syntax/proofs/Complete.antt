@@ -1,6 +1,6 @@
 -- What is in the grammar is read.
 use Rattle.{
-  std.{proofs.Common.{rules, ◌≡◌, ℕ, zero, suc, ◌≤◌, max, Bool, true, false, List, ◌∷◌, length, Option, Some, None, is_some, refl, ap, subst, ◌∙◌, arith, inl, inr}, specs.Prelude.{codes}},
+  std.{proofs.Common.{rules, ◌≡◌, ℕ, zero, suc, ◌≤◌, max, Bool, true, false, List, ◌∷◌, length, Option, Some, None, is_some, refl, subst, ◌∙◌, arith, inl, inr}, specs.Prelude.{codes}},
   meaning.specs.Text.{Text},
   language_meaning.specs.{Token.{Token, word, op, mark, Mark, equals, dot, comma, colon, open_paren, close_paren, open_bracket, close_bracket, open_brace, close_brace}, Tree.{Unary, Binary, Accessor, Literal, Expr, Step, Sub, OptionalSub, OptionalArg, OptionalExpr, Arg, ArgList, Args, ArgPairs, name, literal, unary, binary, after, len, make, paren, item, access, method, group, rolling, expanding, key, span, no_sub, some_sub, no_arg, some_arg, no_expr, some_expr, expr, many, row, table, nothing, no_args, more_args, no_named, more_named, no_pairs, more_pairs}, Depth.{depth, step_depth, sub_depth, optional_sub_depth, optional_arg_depth, optional_expr_depth, arg_depth, list_depth, args_depth, pairs_depth}, Grammar.{level, left_level, IsItem, IsMethodName, MayFollow, SpellsLiteral, SpellsKeyword, SpellsExpr, SpellsStep, SpellsSecond, SpellsBrackets, SpellsSub, SpellsBound, SpellsStride, SpellsArg, SpellsRow, SpellsItems, SpellsMoreItems, SpellsArgs, SpellsMoreArgs, SpellsPairs, SpellsMorePairs}},
   script_syntax.{specs.Reading.{Reader, and_then, or_else, pick, after_mark, name_at, operator_at, sign_at, begins_step, ends_bound, Call, plain, grouped, rolled, expanded, past_comma, keyword_at, keyword_for, key_at, item_at, bracketed, enclosed, items, named_at, arguments, entry_at, pairs, all_arguments, atom, bound, stride, span_after, sub_from, sub_at, second, subscripts, brackets, named_call, called, call, dotted, step_from, step, steps, postfix, signed, operators, expr_with, expr_from, unparted, opened, argument_with, expr_at, argument_at, word_at}, proofs.{Takes.{mark_same, CallIs, no_operator, level_small, not_zero, left_is, tilde_reads, mark_takes}, Sound.{FirstFollows}, Shorter.{expr_shorter, step_shorter, arg_shorter, keyword_shorter, literal_shorter}, Gives.{word_same, other_mark, name_reads, reserved_is_none, target_reads, dotted_reads, call_reads, operator_reads, operator_below, none_above, minus_reads, guard_reads, literal_reads, len_reads, maker_reads, word_no_mark, no_len, literal_plain, accessor_reads, call_of_reads, item_yes, as_item_reads, past_comma_reads, at_close_reads, follow_yes}, Starts.{StartsExpr, expr_starts, arg_starts, arg_no_mark, arg_no_bracket, arg_no_brace, no_none, arg_no_end, expr_no_end, literal_no_mark, arg_no_target, Ends, close_paren_ends, close_bracket_ends, comma_ends, colon_ends, Closes, paren_closes, bracket_closes, more_items_end, more_args_end, more_pairs_end, EndsSub, comma_ends_sub, bracket_ends_sub, stride_ends}}},
@@ -101,11 +101,11 @@ ReadsPairs r = (room n : ℕ) (ts us : List Token) → length ts ≤ n → Spell
 
 steps_stop : (room n : ℕ) (x : Expr) (us : List Token) → begins_step us ≡ false → Steps room n x us ≡ Some (x, us)
 unfolding steps pick
-steps_stop room x1 x us h = grind arith
+steps_stop room n x us h = grind arith
 
 operators_stop : (room n l : ℕ) (x : Expr) (us : List Token) → operator_at l us ≡ None → Operators room n l x us ≡ Some (x, us)
 unfolding operators or_else
-operators_stop room x1 l x us h = grind arith
+operators_stop room n l x us h = grind arith
 
 depth_positive : (x : Expr) → 1 ≤ depth x
 depth_positive (name n) = omega arith
@@ -155,7 +155,7 @@ whole_plain x room l ts us a h = grind (arith, operators_stop)
 whole_by : (x : Expr) → HasOperators x → (room l : ℕ) (ts us : List Token) → l ≤ 6 → SpellsExpr x (max 1 l) ts us → Ends l us → depth x ≤ room → expr_at room l ts ≡ Some (x, us)
 whole_by x h zero l ts us le s e d = absurd (omega (arith, depth_positive x))
 whole_by x h (suc room) l ts us le s e d =
-    whole_plain x room l ts us (grind (arith, none_above)) e.no_operator
+    whole_plain x _ l ts us (grind (arith, none_above)) e.no_operator
 
 -- an expression of the highest level
 highest : (x : Expr) → ((l m : ℕ) (ts us : List Token) → SpellsExpr x l ts us → SpellsExpr x m ts us) → HasSteps x → HasOpens x → ReadsExpr x
@@ -174,7 +174,7 @@ name_steps n room ts us (s, h) d = grind (arith, atom_steps, name_reads)
 
 literal_no_sign : (v : Literal) (ts us : List Token) → SpellsLiteral v ts us → sign_at ts ≡ None
 unfolding sign_at pick
-literal_no_sign x ts us s = grind arith
+literal_no_sign v ts us s = grind arith
 
 literal_steps : (v : Literal) → HasSteps (literal v)
 unfolding atom or_else and_then
@@ -223,7 +223,7 @@ after_steps x p r q room ts us (vs, s, t) d =
     go (r.steps_after room ts vs s (omega arith))
   where
     go : AtSteps x room ts vs → AtSteps (after x p) room ts us
-    go a = turn a.turns a.enough a.same
+    go a = turn _ a.enough a.same
       where
         turn : (n : ℕ) → length vs ≤ n → Postfix room ts ≡ Steps room n x vs → AtSteps (after x p) room ts us
         turn zero le h = grind (arith, step_shorter)
@@ -243,16 +243,13 @@ name_opens : (n : Text) → HasOpens (name n)
 name_opens n l ts vs us e (s, h) = absurd cc
 
 literal_opens : (v : Literal) → HasOpens (literal v)
-literal_opens x l ts vs us e s = grind arith
-
-unary_opens : (o : Unary) (x : Expr) → HasOpens (unary o x)
-unary_opens x1 x l ts vs us e x2 = grind arith
+literal_opens v l ts vs us e s = grind arith
 
 binary_opens : (o : Binary) (x y : Expr) → ReadsExpr x → HasOpens (binary o x y)
-binary_opens o x y r l ts vs us e (h, ws, s, t) = deeper x (binary o x y) vs (r.opens (left_level o) ts vs (op o ∷ ws) e s) (omega arith)
+binary_opens o x y r l ts vs us e (h, ws, s, t) = deeper x _ vs (r.opens (left_level o) ts vs (op o ∷ ws) e s) (omega arith)
 
 after_opens : (x : Expr) (p : Step) → ReadsExpr x → HasOpens (after x p)
-after_opens x p r l ts vs us e (ws, s, t) = deeper x (after x p) vs (r.opens 7 ts vs ws e s) (omega arith)
+after_opens x p r l ts vs us e (ws, s, t) = deeper x _ vs (r.opens 7 ts vs ws e s) (omega arith)
 
 len_opens : (x : Expr) → HasOpens (len x)
 len_opens x l ts vs us e (ws, f, s) = absurd cc
@@ -264,16 +261,16 @@ make_opens n q l ts vs us e (ws, f, h, s) = absurd cc
 
 sign_reads : (o : Unary) (x : Expr) (room l : ℕ) (ts us : List Token) → ReadsExpr x → SpellsExpr (unary o x) l ts us → begins_step us ≡ false → depth (unary o x) ≤ suc room → Signed room ts ≡ Some (unary o x, us)
 unfolding signed or_else and_then
-sign_reads x1 x room l ts us r x2 b d = grind (arith, minus_reads, no_operator, tilde_reads)
+sign_reads o x room l ts us r x2 b d = grind (arith, minus_reads, no_operator, tilde_reads)
 
 unary_reads : (o : Unary) (x : Expr) → ReadsExpr x → ReadsExpr (unary o x)
 unary_reads o x r =
     let ops : HasOperators (unary o x) = search (climbs, sign_reads) in
     record {
-      opens = unary_opens o x;
+      opens = grind arith;
       steps_after = grind arith;
       operators_after = ops;
-      whole = λ room l ts us le s e d. whole_by (unary o x) ops room l ts us le (grind arith) e d;
+      whole = λ room l ts us le s e d. whole_by _ ops room l ts us le (grind arith) e d;
     }
 
 op_no_step : (o : Binary) (ts : List Token) → begins_step (op o ∷ ts) ≡ false
@@ -288,7 +285,7 @@ module _ (o : Binary) (x y : Expr) (r : ReadsExpr x) (q : ReadsExpr y) where
       right = grind (arith, level_small, no_operator, none_above)
 
       go : AtOperators x room l ts (op o ∷ vs) → AtOperators (binary o x y) room l ts us
-      go a = turn a.turns a.enough a.same
+      go a = turn _ a.enough a.same
         where
           turn : (n : ℕ) → length (op o ∷ vs) ≤ n → ExprWith room l ts ≡ Operators room n l x (op o ∷ vs) → AtOperators (binary o x y) room l ts us
           turn zero few e = absurd (omega arith)
@@ -306,7 +303,7 @@ module _ (o : Binary) (x y : Expr) (r : ReadsExpr x) (q : ReadsExpr y) where
       right = q.whole room 1 vs us (omega arith) (subst (λ k. SpellsExpr y (suc k) vs us) low t) (grind (arith, no_operator, none_above)) (omega arith)
 
       go : AtOperators x room 0 ts (op o ∷ vs) → ExprWith room 0 ts ≡ Some (binary o x y, us)
-      go a = turn a.turns a.enough a.same
+      go a = turn _ a.enough a.same
         where
           turn : (n : ℕ) → length (op o ∷ vs) ≤ n → ExprWith room 0 ts ≡ Operators room n 0 x (op o ∷ vs) → ExprWith room 0 ts ≡ Some (binary o x y, us)
           turn zero few k = absurd (omega arith)
@@ -314,7 +311,7 @@ module _ (o : Binary) (x y : Expr) (r : ReadsExpr x) (q : ReadsExpr y) where
 
   binary_whole : HasWhole (binary o x y)
   binary_whole zero l ts us le s e d = absurd (omega arith)
-  binary_whole (suc room) l ts us le s e d = go (level o) refl
+  binary_whole (suc room) l ts us le s e d = go _ refl
     where
       go : (k : ℕ) → level o ≡ k → expr_at (suc room) l ts ≡ Some (binary o x y, us)
       go zero low = at_zero l (omega (arith, s.0)) s e
@@ -322,7 +319,7 @@ module _ (o : Binary) (x y : Expr) (r : ReadsExpr x) (q : ReadsExpr y) where
           at_zero : (l : ℕ) → l ≡ 0 → SpellsExpr (binary o x y) l ts us → Ends l us → expr_at (suc room) l ts ≡ Some (binary o x y, us)
           at_zero zero z s e = search compared
           at_zero (suc l) z s e = search
-      go (suc k) high = whole_by (binary o x y) binary_ops (suc room) l ts us le (omega (arith, s.0), s.1, s.2, s.3) e d
+      go (suc k) high = whole_by _ binary_ops (suc room) l ts us le (omega (arith, s.0), s.1, s.2, s.3) e d
 
   binary_reads : ReadsExpr (binary o x y)
   binary_reads = record { opens = binary_opens o x y r; steps_after = grind (arith, level_small); operators_after = binary_ops; whole = binary_whole }
@@ -369,18 +366,17 @@ argument_opened x room vs o d = grind (arith, mark_same, other_mark)
 
 expr_reads : (x : Expr) → ReadsExpr x → ReadsArg (expr x)
 expr_reads x r zero ts us s e d = absurd (omega (arith, depth_positive x))
-expr_reads x r (suc room) ts us s e d = go (after_mark open_paren ts) refl
+expr_reads x r (suc room) ts us s e d = go _ refl
   where
     whole : expr_at (suc room) 0 ts ≡ Some (x, us)
     whole = grind arith
 
     go : (o : Option (List Token)) → after_mark open_paren ts ≡ o → argument_at (suc room) ts ≡ Some (expr x, us)
-    go None h = reads_as_expr room ts (expr_starts x 0 ts us s) h ∙ then_expr (expr_at (suc room) 0 ts) x us whole
+    go None h = reads_as_expr _ ts (expr_starts x 0 ts us s) h ∙ then_expr _ x us whole
     go (Some vs) h =
         let f : ts ≡ mark open_paren ∷ vs = search mark_takes in
         let o = r.opens 0 ts vs us f s in
-        ap (argument_at (suc room)) f ∙ argument_opened x room vs o d
-        ∙ then_expr (expr_from room (expr_at room) (argument_at room) (paren o.y) o.rest) x us (grind (arith, expr_opened, whole))
+        cc (argument_opened x room vs o d, then_expr (expr_from room (expr_at room) (argument_at room) (paren o.y) o.rest) x us (grind (arith, expr_opened, whole)))
 
 paren_opens : (x : Expr) → ReadsExpr x → HasOpens (paren x)
 paren_opens x r l ts vs us f (ws, e, s) =
@@ -439,7 +435,7 @@ none_reads = record { all = all; as_row = grind arith }
   where
     all : (room : ℕ) (close : Mark) (n : ℕ) (ts us : List Token) → Closes close → length ts ≤ n → SpellsItems no_args close ts us → list_depth no_args ≤ room → items room (expr_at room) (argument_at room) close n ts ≡ Some (no_args, us)
     all room close zero ts us c few s d = grind arith
-    all room close (suc n) ts us c few s d = rw s (closed_items room close n us)
+    all room close (suc n) ts us c few s d = rw s (closed_items _ _ n us)
 
 module _ (a : Arg) (rest : ArgList) (r : ReadsArg a) (q : ReadsItems rest) where
   more_all : (room : ℕ) (close : Mark) (n : ℕ) (ts us : List Token) → Closes close → length ts ≤ n → SpellsItems (more_args a rest) close ts us → list_depth (more_args a rest) ≤ room
@@ -472,7 +468,7 @@ more_arguments (more_named n a r) named ts us (vs, ws, xs, e, f, k, s, t) = grin
 
 keyword_reads : (n : Option Text) (a : Arg) (ts vs us : List Token) → SpellsKeyword n ts vs → SpellsArg a vs us → after_mark equals us ≡ None → keyword_at ts ≡ (n, vs)
 unfolding keyword_at or_else
-keyword_reads x a ts vs us k s h = grind (arith, arg_no_target, target_reads)
+keyword_reads n a ts vs us k s h = grind (arith, arg_no_target, target_reads)
 
 named_reads : (n : Option Text) (a : Arg) (after_name : Bool) (room : ℕ) (ts vs us : List Token) → ReadsArg a → SpellsKeyword n ts vs → SpellsArg a vs us → MayFollow after_name n → Ends 0 us → after_mark equals us ≡ None
     → arg_depth a ≤ room → named_at room (expr_at room) (argument_at room) after_name ts ≡ Some ((n, a), us)
@@ -501,7 +497,7 @@ entry_reads k a room ts vs us r l s e d = grind (arith, literal_reads, mark_same
 
 none_pairs_read : ReadsPairs no_pairs
 none_pairs_read room zero ts us few s d = grind arith
-none_pairs_read room (suc n) ts us few s d = rw s (closed_pairs room n us)
+none_pairs_read room (suc n) ts us few s d = rw s (closed_pairs _ n us)
 
 pairs_read : (k : Literal) (a : Arg) (rest : ArgPairs) → ReadsArg a → ReadsPairs rest → ReadsPairs (more_pairs k a rest)
 unfolding pairs or_else and_then
@@ -599,7 +595,7 @@ method_reads : (n : Text) (q : Args) → ReadsArgs q → ReadsStep (method n q)
 unfolding begins_step called
 method_reads n q r = record {
   begins = λ ts us s. rw s.1 refl;
-  reads = λ room ts us s d. rw (s.1, paren_reads room n s.0) (call_reads_as plain n q room s.0 us s.2 r s.3 d);
+  reads = λ room ts us s d. rw (s.1, paren_reads room n s.0) (call_reads_as plain n q _ s.0 us s.2 r s.3 d);
 }
 
 group_reads : (q : Args) (by : OptionalArg) (n : Text) (p : Args) → ReadsArgs q → ReadsOptional by → ReadsArgs p → ReadsStep (group q by n p)

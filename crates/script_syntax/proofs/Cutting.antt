@@ -1,26 +1,26 @@
 -- The pieces of a text, joined and one by one.
 use Rattle.{
-  std.{proofs.{Common.{arith, ◌≡◌, ℕ, ◌+◌, Bool, true, false, List, [], ◌∷◌, ◌++◌, refl, ◌∙◌, ap, leb, eqb}, lemmas.Bool.{eqb-true}}, specs.List.{concat}},
+  std.{proofs.{Common.{arith, ◌≡◌, ℕ, ◌+◌, Bool, true, false, List, [], ◌∷◌, ◌++◌, refl, leb, eqb}, lemmas.Bool.{eqb-true}}, specs.List.{concat}},
   language_meaning.specs.Pieces.{Mode, plain, mode_after, opens, closes, choose, into_first, cut},
   script_syntax.specs.Cut.{is_closed, IsPieceFrom, IsEnded, AreCutFrom, IsCut},
 }
 
 concat_into : (b : ℕ) (ps : List (List ℕ)) → concat (into_first b ps) ≡ b ∷ concat ps
-concat_into b x = grind arith
+concat_into b ps = grind arith
 
 chosen : {A : Type 0} (P : A → Type 0) (t : Bool) (x y : A) → (t ≡ true → P x) → (t ≡ false → P y) → P (choose t x y)
 unfolding choose
-chosen x1 x2 x y f g = grind arith
+chosen P t x y f g = grind arith
 
 cut_joined : (mode : Mode) (opened closed : ℕ) (bs : List ℕ) → concat (cut mode opened closed bs) ≡ bs
 unfolding cut
 cut_joined mode opened closed [] = refl
 cut_joined mode opened closed (b ∷ bs) =
-    chosen (λ ps. concat ps ≡ b ∷ bs) (eqb b 10) _ _
-    (λ t. chosen (λ ps. concat ps ≡ b ∷ bs) (leb opened closed) _ _
-    (λ u. ap (λ cs. b ∷ cs) (cut_joined plain 0 0 bs))
-    (λ u. concat_into b (cut plain opened closed bs) ∙ ap (λ cs. b ∷ cs) (cut_joined plain opened closed bs)))
-    (λ t. concat_into b _ ∙ ap (λ cs. b ∷ cs) (cut_joined (mode_after mode b) (opened + opens mode b) (closed + closes mode b) bs))
+    chosen (λ ps. concat ps ≡ b ∷ bs) _ _ _
+    (λ t. chosen (λ ps. concat ps ≡ b ∷ bs) _ _ _
+    (λ u. cc (cut_joined plain 0 0 bs))
+    (λ u. search (concat_into, cut_joined plain opened closed bs)))
+    (λ t. search (concat_into, cut_joined (mode_after mode b) (opened + opens mode b) (closed + closes mode b) bs))
 
 -- a byte before the rest of a piece, in which a line feed stands inside brackets
 module _ (b : ℕ) (mode next : Mode) (opened closed opened' closed' : ℕ)
@@ -53,7 +53,7 @@ line_feed b mode opened closed is c = (((λ e. absurd cc), only), grind arith)
     only (x ∷ y ∷ front) back e d = absurd cc
 
 cut_after : (mode : Mode) (opened closed : ℕ) (p : List ℕ) (ps : List (List ℕ)) → IsPieceFrom mode opened closed p → IsEnded mode opened closed p → AreCutFrom plain 0 0 ps → AreCutFrom mode opened closed (p ∷ ps)
-cut_after mode opened closed p x piece ended rest = grind arith
+cut_after mode opened closed p ps piece ended rest = grind arith
 
 goes_line : (b : ℕ) (mode : Mode) (opened closed : ℕ) → eqb b 10 ≡ true → (front : List ℕ) → is_closed mode opened closed (b ∷ front) ≡ is_closed plain opened closed front
 unfolding is_closed choose
@@ -67,12 +67,11 @@ cut_pieces : (mode : Mode) (opened closed : ℕ) (bs : List ℕ) → AreCutFrom 
 unfolding cut
 cut_pieces mode opened closed [] = tt
 cut_pieces mode opened closed (b ∷ bs) =
-    chosen (AreCutFrom mode opened closed) (eqb b 10) _ _
-    (λ t. chosen (AreCutFrom mode opened closed) (leb opened closed) _ _
-    (λ u. let one = line_feed b mode opened closed (eqb-true b 10 t) u in cut_after mode opened closed (b ∷ []) _ one.0 one.1 (cut_pieces plain 0 0 bs))
-    (λ u. cut_into b mode plain opened closed opened closed (goes_line b mode opened closed t) (λ e. u) _ (cut_pieces plain opened closed bs)))
-    (λ t. cut_into b mode (mode_after mode b) opened closed _ _ (goes_on b mode opened closed t) (λ e. absurd (grind arith)) _
-    (cut_pieces (mode_after mode b) (opened + opens mode b) (closed + closes mode b) bs))
+    chosen (AreCutFrom mode opened closed) _ _ _
+    (λ t. chosen (AreCutFrom mode opened closed) _ _ _
+    (λ u. let one = line_feed b _ _ _ (eqb-true b 10 t) u in cut_after _ _ _ _ _ one.0 one.1 (cut_pieces _ 0 0 bs))
+    (λ u. cut_into b _ _ _ _ _ _ (goes_line b _ _ _ t) (λ e. u) _ (cut_pieces _ _ _ bs)))
+    (λ t. grind (arith, cut_into, goes_on, cut_pieces (mode_after mode b) (opened + opens mode b) (closed + closes mode b) bs))
 
 pub is_cut : (bytes : List ℕ) → IsCut bytes
 is_cut bytes = search (cut_joined, cut_pieces)

@@ -1,7 +1,7 @@
 -- Bytes are made of tokens, or they are not.
 use Rattle.{
   std.{proofs.{Common.{◌≡◌, ◌≢◌, ◌⊎◌, inl, inr, sym, subst, refl, ℕ, zero, suc, ◌≤◌, ◌^◌, Bool, true, false, ◌&&◌, leb, eqb, List, [], ◌∷◌, ◌++◌, Option, Some, None, length, take, drop, decimal, arith}, lemmas.{Bool.{eqb-true, leb-true, Decides.{nat_tests}}, Fmt.{decimal_is_IsNumeral}}}, specs.{Str.Parse.{digits_value}, List.{prefix_len}}},
-  meaning.specs.Text.{Text, same_text},
+  meaning.specs.Text.{Text},
   language_meaning.specs.{Tree.{Binary, add, sub, mul, floor_div, mod_, eq, ne, lt, le, gt, ge, and, or, xor}, Token.{Token, word, int, text, op, mark, Mark, equals, dot, comma, colon, tilde, open_paren, close_paren, open_bracket, close_bracket, open_brace, close_brace, byte_of, spelling_of, may_grow, is_digit, begins_word, continues_word, begins_with, IsRun, escaped, IsQuoted, IsQuote, IsToken, Lexes, skip}},
   script_tokens.{specs.Absent.{BeginsNoToken}, proofs.{Runs.{true_or_false, not_both, run_of_length, IsRun-unique}, TokenLaws.{IsToken-unique, IsToken-shorter}, LexLaws.{length-skip}}},
   script_syntax.proofs.Tools.{text_is, text_same},
@@ -36,14 +36,14 @@ operators = add ∷ sub ∷ mul ∷ floor_div ∷ mod_ ∷ eq ∷ ne ∷ lt ∷ 
 
 is_operator : (o : Binary) → Member o operators
 unfolding Member operators
-is_operator x = grind arith
+is_operator o = grind arith
 
 marks : List Mark
 marks = equals ∷ dot ∷ comma ∷ colon ∷ tilde ∷ open_paren ∷ close_paren ∷ open_bracket ∷ close_bracket ∷ open_brace ∷ close_brace ∷ []
 
 is_mark : (m : Mark) → Member m marks
 unfolding Member marks
-is_mark x = grind arith
+is_mark m = grind arith
 
 -- ---- signs
 
@@ -79,7 +79,7 @@ text_escaped quote b [] apart back later = inr none
     none ([], rest, q) = apart cc
     none (c ∷ cs, rest, (more, inl a, q)) = grind arith
     none (c ∷ cs, rest, (more, inr (e, f, g), q)) = absurd cc
-text_escaped quote b (e ∷ after) apart back later = chosen (escaped e) refl
+text_escaped quote b (e ∷ after) apart back later = chosen _ refl
   where
     chosen : (r : Option ℕ) → escaped e ≡ r → Decided (EndsText quote (b ∷ e ∷ after))
     chosen None is = inr none
@@ -125,8 +125,8 @@ text_step quote b bs next later = elim (true_or_false (eqb b quote)) [
 
 ends_text : (quote : ℕ) (bytes : List ℕ) → Decided (EndsText quote bytes)
 ends_text quote [] = grind (arith, text_none)
-ends_text quote (b ∷ []) = text_step quote b [] (inr (λ t. text_none quote t.0 t.1 t.2)) (λ e after is. absurd cc)
-ends_text quote (b ∷ e ∷ after) = text_step quote b (e ∷ after) (ends_text quote (e ∷ after)) (λ f more is. let same : after ≡ more = cc in subst (λ m. Decided (EndsText quote m)) same (ends_text quote after))
+ends_text quote (b ∷ []) = text_step _ b [] (inr (λ t. text_none _ _ _ t.2)) (λ e after is. absurd cc)
+ends_text quote (b ∷ e ∷ after) = text_step _ b _ (ends_text _ _) (λ f more is. grind (arith, ends_text quote after))
 
 -- ---- tokens
 
@@ -162,12 +162,12 @@ is_number bytes n rest is =
     grind (arith, value_of)
 
 int_decided : (bytes : List ℕ) → Decided ((n : ℕ) × (rest : List ℕ) × IsToken (int n) bytes rest)
-int_decided bytes = elim (true_or_false (same_text (decimal (number_of bytes)) (digits_of bytes))) [
-  | inl same ↦ elim (true_or_false (leb (number_of bytes) (2 ^ 63))) [
-    | inl small ↦ inl (number_of bytes, after_digits bytes, (subst (λ f. IsRun is_digit f bytes (after_digits bytes)) (sym (text_is _ _ same)) (run_of_length is_digit bytes), leb-true _ _ small))
+int_decided bytes = elim (true_or_false _) [
+  | inl same ↦ elim (true_or_false _) [
+    | inl small ↦ inl (number_of bytes, after_digits bytes, (subst (λ f. IsRun is_digit f bytes (after_digits bytes)) (sym (text_is _ _ same)) (run_of_length _ _), leb-true _ _ small))
     | inr great ↦ grind (arith, is_number, not_both, at_most)
   ]
-  | inr other ↦ inr (λ n. let is = is_number bytes n.0 n.1 n.2 in not_both _ (cc (is.1, is.0, text_same (decimal (number_of bytes)))) other)
+  | inr other ↦ grind (arith, is_number, not_both, text_same)
 ]
   where
     at_most : (a b : ℕ) → a ≤ b → leb a b ≡ true
@@ -202,9 +202,9 @@ token_decided bytes = elim (word_decided bytes) [
     | inl (n, rest, is) ↦ inl (int n, rest, is)
     | inr no_int ↦ elim (text_decided bytes) [
       | inl (s, rest, is) ↦ inl (text s, rest, is)
-      | inr no_text ↦ elim (among (λ o. Stands (may_grow (op o)) (spelling_of o) bytes) (λ o. stands (may_grow (op o)) (spelling_of o) bytes) operators) [
+      | inr no_text ↦ elim (among (λ o. Stands (may_grow (op o)) (spelling_of o) bytes) (λ o. stands _ _ _) operators) [
         | inl s ↦ inl (as_operator s.0 s.1)
-        | inr no_op ↦ elim (among (λ m. Stands (may_grow (mark m)) (byte_of m ∷ []) bytes) (λ m. stands (may_grow (mark m)) (byte_of m ∷ []) bytes) marks) [
+        | inr no_op ↦ elim (among (λ m. Stands (may_grow (mark m)) (byte_of m ∷ []) bytes) (λ m. stands _ (byte_of m ∷ []) _) marks) [
           | inl s ↦ inl (as_mark s.0 s.1)
           | inr no_mark ↦ grind (arith, none)
         ]
@@ -229,7 +229,7 @@ lexed_within zero (b ∷ bs) few = absurd (omega arith)
 lexed_within (suc n) (b ∷ bs) few = elim (token_decided (b ∷ bs)) [
   | inl (t, rest, is) ↦ elim (lexed_within n (skip rest) (omega (arith, IsToken-shorter t (b ∷ bs) rest is, length-skip rest))) [
     | inl (ts, l) ↦ inl (t ∷ ts, (rest, is, l))
-    | inr against ↦ inr (others t rest is against)
+    | inr against ↦ inr (others t _ is against)
   ]
   | inr none ↦ inr (nothing none)
 ]
@@ -244,4 +244,4 @@ lexed_within (suc n) (b ∷ bs) few = elim (token_decided (b ∷ bs)) [
 
 -- bytes are made of tokens, or they aren't
 pub lexed : (bytes : List ℕ) → Decided ((ts : List Token) × Lexes ts bytes)
-lexed bytes = lexed_within (length bytes) bytes (omega arith)
+lexed bytes = lexed_within (length bytes) _ (omega arith)

@@ -22,7 +22,7 @@ other_word v w us h = rw h refl
 -- ---- names
 
 or_false : (a b : Bool) → a || b ≡ false → (a ≡ false) × (b ≡ false)
-or_false x b e = grind arith
+or_false a b e = grind arith
 
 pub record Unreserved (n : Text) : Type 0 where
   pub not_true : same_text n (codes "True") ≡ false
@@ -59,7 +59,7 @@ then_equals n = and_then (after_mark equals n.1) (λ us. Some (n.0, us))
 
 no_equals : (b : Bool) (n : Text) (us : List Token) → after_mark equals us ≡ None → and_then (pick b None (Some (n, us))) then_equals ≡ None
 unfolding and_then pick
-no_equals x n us h = grind arith
+no_equals b n us h = grind arith
 
 -- a name before no equals sign
 pub no_target : (n : Text) (us : List Token) → after_mark equals us ≡ None → target_at (word n ∷ us) ≡ None
@@ -91,7 +91,7 @@ operator_below l o ts h = search le_false
 -- no operator of a level, so none of a higher one
 pub none_above : (i j : ℕ) (ts : List Token) → i ≤ j → operator_at i ts ≡ None → operator_at j ts ≡ None
 unfolding operator_at
-none_above i j x h e = grind (arith, operator_below, chosen, leb-false)
+none_above i j ts h e = grind (arith, operator_below, chosen, leb-false)
 
 pub minus_reads : (ts : List Token) → begins_int ts ≡ false → sign_at (op sub ∷ ts) ≡ Some (minus, ts)
 unfolding sign_at pick
@@ -117,7 +117,7 @@ na_reads us h = grind (arith, word_same, mark_same)
 
 pub literal_reads : (v : Literal) (ts us : List Token) → SpellsLiteral v ts us → literal_at ts ≡ Some (v, us)
 unfolding literal_at constant_at negative_at or_else and_then
-literal_reads x ts us s = grind (arith, positive_reads, negative_reads, word_same, other_word, na_reads)
+literal_reads v ts us s = grind (arith, positive_reads, negative_reads, word_same, other_word, na_reads)
 
 -- ---- what begins as no other atom
 
@@ -143,7 +143,7 @@ no_maker n us h = search other_word
 
 no_paren : (us : List Token) → begins_paren us ≡ false → after_mark open_paren us ≡ None
 unfolding after_mark pick
-no_paren x h = grind arith
+no_paren us h = grind arith
 
 na_no_maker : (us : List Token) → begins_paren us ≡ false → maker_at (word (codes "pd") ∷ mark dot ∷ word (codes "NA") ∷ us) ≡ None
 unfolding maker_at call_at and_then
@@ -169,17 +169,17 @@ literal_plain tree.na ts us (s, h) = rw s (search (reserved_is_none, no_paren, w
 
 pub accessor_reads : (by : Accessor) → accessor_at (accessor_word by) ≡ Some by
 unfolding accessor_at pick
-accessor_reads x = grind arith
+accessor_reads by = grind arith
 
 pub call_of_reads : (c : Call) (w : Text) → CallIs c w → call_of w ≡ Some c
 unfolding call_of pick
-call_of_reads x w h = grind (arith, or_false, method_is)
+call_of_reads c w h = grind (arith, or_false, method_is)
 
 -- ---- parts
 
 pub item_yes : (a : Arg) → IsItem a → is_item a ≡ true
 unfolding is_item
-item_yes x1 h = grind arith
+item_yes a h = grind arith
 
 pub as_item_reads : (a : Arg) (ts : List Token) → IsItem a → as_item a ts ≡ Some (a, ts)
 unfolding as_item pick
@@ -195,11 +195,11 @@ at_close_reads close us h = search (other_mark, mark_same)
 
 pub follow_yes : (after_name : Bool) (n : Option Text) → MayFollow after_name n → may_follow after_name n ≡ true
 unfolding may_follow
-follow_yes x n h = grind arith
+follow_yes after_name n h = grind arith
 
 target_yes : (s : Step) → IsTarget s → is_target s ≡ true
 unfolding is_target
-target_yes x h = grind arith
+target_yes s h = grind arith
 
 pub split_reads : (x : Expr) (s : Step) → IsTarget s → split (after x s) ≡ Some (x, s)
 unfolding split pick

@@ -32,7 +32,7 @@ delete_sound ts us f h e =
           let x = bind_some _ _ _ k in
           let c = bind_some _ _ _ x.2 in
           let d = ended_is _ _ _ c.2 in
-          let s = expr_sound most_depth 0 vs x.0 (omega arith) x.1 in
+          let s = expr_sound _ 0 vs _ (omega arith) x.1 in
           subst (IsRead ts) d.0 (grind (arith, mark_takes))
     ]
 
@@ -42,7 +42,7 @@ print_sound ts us f h e =
     let v = bind_some _ _ _ e in
     let x = bind_some _ _ _ v.2 in
     let t = bind_some _ _ _ x.2 in
-    let s = expr_sound most_depth 0 v.0 x.0 (omega arith) x.1 in
+    let s = expr_sound _ 0 _ _ (omega arith) x.1 in
     grind (arith, moved, mark_takes, end_takes)
 
 bind_sound : (ts us : List Token) (n : Text) (f : Form) → ts ≡ word n ∷ mark equals ∷ us → IsName n → bound_to n us ≡ Some f → IsRead ts f
@@ -50,7 +50,7 @@ unfolding bound_to
 bind_sound ts us n f h i e =
     let x = bind_some _ _ _ e in
     let d = ended_is _ _ _ x.2 in
-    let s = expr_sound most_depth 0 us x.0 (omega arith) x.1 in
+    let s = expr_sound _ 0 us _ (omega arith) x.1 in
     grind arith
 
 set_sound : (ts : List Token) (f : Form) → set ts ≡ Some f → IsRead ts f
@@ -63,8 +63,8 @@ set_sound ts f e =
     let a = bind_some _ _ _ v.2 in
     let d = ended_is _ _ _ a.2 in
     let s = (expr_sound most_depth 6 ts x.0 (omega arith) x.1).0 in
-    let t = split_takes x.0.0 p.0 p.1 in
-    let r = argument_sound most_depth v.0 a.0 a.1 in
+    let t = split_takes _ _ p.1 in
+    let r = argument_sound _ _ _ a.1 in
     let whole : SpellsExpr (after p.0.0 p.0.1) 6 ts (mark equals ∷ v.0) = grind (arith, t.0, mark_takes equals x.0.1 v.0 v.1, s.0) in
     grind arith
 
@@ -72,17 +72,17 @@ assign_sound : (ts : List Token) (f : Form) → assigned ts ≡ Some f → IsRea
 unfolding assigned
 assign_sound ts f e = elim (or_cases _ _ _ _ e) [
   | inl (h, k) ↦ set_sound ts f k
-  | inr (n, h, k) ↦ let t = target_takes ts n h in bind_sound ts n.1 n.0 f t.0 t.1 k
+  | inr (n, h, k) ↦ let t = target_takes ts n h in bind_sound ts _ _ f t.0 t.1 k
 ]
 
 pub form_sound : (ts : List Token) (f : Form) → form_read ts ≡ Some f → SpellsForm f ts × IsShallow f
 unfolding form_read
 form_sound ts f e = elim (or_cases _ _ _ _ e) [
-  | inr (us, h, k) ↦ import_sound ts us f (word_takes (codes "import") ts us h) k
+  | inr (us, h, k) ↦ import_sound ts us f (word_takes _ ts us h) k
   | inl (h, k) ↦ elim (or_cases _ _ _ _ k) [
-    | inr (us, h', k') ↦ delete_sound ts us f (word_takes (codes "del") ts us h') k'
+    | inr (us, h', k') ↦ delete_sound ts us f (word_takes _ ts us h') k'
     | inl (h', k') ↦ elim (or_cases _ _ _ _ k') [
-      | inr (us, i, j) ↦ print_sound ts us f (word_takes (codes "print") ts us i) j
+      | inr (us, i, j) ↦ print_sound ts us f (word_takes _ ts us i) j
       | inl (i, j) ↦ assign_sound ts f j
     ]
   ]
@@ -98,7 +98,7 @@ record NoKeyword (ts : List Token) : Type 0 where
 
 expr_no_keyword : (ts : List Token) → StartsExpr ts → NoKeyword ts
 unfolding after_word pick
-expr_no_keyword x s = grind arith
+expr_no_keyword ts s = grind arith
 
 read_assigned : (ts : List Token) → NoKeyword ts → form_read ts ≡ assigned ts
 unfolding form_read or_else
@@ -170,4 +170,4 @@ form_complete (bind n x) ts s d = bind_complete n x ts s d
 form_complete (put x p a) ts s d = put_complete x p a ts s d
 form_complete (drop_name n) ts s d = drop_name_complete n ts s
 form_complete (drop_column n x) ts s d = drop_column_complete n x ts s d
-form_complete (print x end) ts s d = print_complete x end ts s d
+form_complete (print x end) ts s d = print_complete x _ ts s d

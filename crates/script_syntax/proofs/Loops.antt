@@ -1,6 +1,6 @@
 -- The loops of the parser, turn by turn.
 use Rattle.{
-  std.proofs.Common.{◌≡◌, ℕ, suc, length, ◌+◌, ◌<◌, ◌≤◌, max, Bool, true, false, List, [], ◌∷◌, ◌++◌, Option, Some, None, is_some, Err, refl, sym, ◌∙◌, arith},
+  std.proofs.Common.{rules, ◌≡◌, ℕ, suc, length, ◌+◌, ◌<◌, ◌≤◌, max, Bool, true, false, List, [], ◌∷◌, ◌++◌, Option, Some, None, is_some, Err, refl, sym, ◌∙◌, arith},
   meaning.specs.Text.{Text},
   language_meaning.specs.{Token.{Token, Mark, comma, close_paren, close_brace}, Tree.{Binary, Literal, Expr, Step, Arg, ArgList, Args, ArgPairs, binary, after, row, no_args, more_args, no_named, more_named, no_pairs, more_pairs, arg_list, named_args, arg_pairs}, Depth.{depth, arg_depth, list_depth, args_depth, pairs_depth}, Grammar.{level}},
   script_syntax.{specs.{declared.refusal.Refusal.{Refusal}, Found.{Fails, IsBuilt, before_items, before_args, before_pairs, after_items, after_args, after_pairs}, Reading.{Read, and_then, or_else, pick, guard, after_mark, past_comma, is_item, as_item, begins_step, operator_at, key_at, item_at, entry_at, steps, operators, items, arguments, all_arguments, pairs, opened, expr_at, argument_at}}, proofs.{Tools.{le_false, first, some_same}, Takes.{not_zero}, Gives.{guard_reads}}},
@@ -24,7 +24,7 @@ before_push (b ∷ front) a rest = cc (before_push front a rest)
 
 items_push : (front : List Arg) (a : Arg) (r : Read ArgList) → after_items front (and_then r (λ p. Some (more_args a p.0, p.1))) ≡ after_items (front ++ a ∷ []) r
 unfolding after_items and_then
-items_push front a x = grind (arith, before_push)
+items_push front a r = grind (arith, before_push)
 
 before_no_named : (front : List (Option Text × Arg)) → before_args front no_named ≡ named_args front
 before_no_named [] = refl
@@ -36,7 +36,7 @@ args_before_push (b ∷ front) a rest = cc (args_before_push front a rest)
 
 args_push : (front : List (Option Text × Arg)) (a : Option Text × Arg) (r : Read Args) → after_args front (and_then r (λ p. Some (more_named a.0 a.1 p.0, p.1))) ≡ after_args (front ++ a ∷ []) r
 unfolding after_args and_then
-args_push front a x = grind (arith, args_before_push)
+args_push front a r = grind (arith, args_before_push)
 
 before_no_pairs : (front : List (Literal × Arg)) → before_pairs front no_pairs ≡ arg_pairs front
 before_no_pairs [] = refl
@@ -48,20 +48,20 @@ pairs_before_push (b ∷ front) v a rest = cc (pairs_before_push front v a rest)
 
 pairs_push : (front : List (Literal × Arg)) (v : Literal) (a : Arg) (r : Read ArgPairs) → after_pairs front (and_then r (λ p. Some (more_pairs v a p.0, p.1))) ≡ after_pairs (front ++ (v, a) ∷ []) r
 unfolding after_pairs and_then
-pairs_push front v a x = grind (arith, pairs_before_push)
+pairs_push front v a r = grind (arith, pairs_before_push)
 
 -- with nothing before it
 pub items_from : (r : Read ArgList) → after_items [] r ≡ r
 unfolding after_items
-items_from x = grind arith
+items_from r = grind arith
 
 pub arguments_from : (r : Read Args) → after_args [] r ≡ r
 unfolding after_args
-arguments_from x = grind arith
+arguments_from r = grind arith
 
 pub pairs_from : (r : Read ArgPairs) → after_pairs [] r ≡ r
 unfolding after_pairs
-pairs_from x = grind arith
+pairs_from r = grind arith
 
 -- reading that begins with no part
 pub items_begin_fails : (r : Refusal) (front : List Arg) (read : Read ArgList) → front ≡ [] → Fails r (after_items front read) → Fails r read
@@ -84,11 +84,11 @@ Row b read = and_then read (λ r. Some (row (more_args b r.0), r.1))
 
 row_fails : (b : Arg) (read : Read ArgList) → after_items (b ∷ []) read ≡ None → Row b read ≡ None
 unfolding after_items and_then
-row_fails b x e = grind arith
+row_fails b read e = grind arith
 
 row_found : (b : Arg) (read : Read ArgList) (l : ArgList) (us : List Token) → after_items (b ∷ []) read ≡ Some (l, us) → Row b read ≡ Some (row l, us)
 unfolding after_items and_then
-row_found b x l us e = grind (arith, some_same)
+row_found b read l us e = grind (arith, some_same)
 
 item_is : (a b : Arg) (us vs : List Token) → as_item a us ≡ Some (b, vs) → (is_item a ≡ true) × ◌≡◌ {A = Arg × List Token} (a, us) (b, vs)
 unfolding as_item
@@ -102,7 +102,7 @@ pub tuple_fails : (r : Refusal) (room : ℕ) (a b : Arg) (front : List Arg) (ts 
     → Fails r (after_items front (at.items room close_paren (length vs) vs)) → Fails r (at.opened room a ts)
 tuple_fails refusal.NoMemory room a b front ts us vs h s e f = tt
 tuple_fails refusal.Syntax room a b front ts us vs h s e f =
-    opened_row room a b ts us vs h s ∙ row_fails b _ (cc)
+    opened_row _ a b ts us vs h s ∙ row_fails b _ (cc)
 
 pub tuple_found : (room : ℕ) (a b : Arg) (front : List Arg) (l : ArgList) (ts us vs ws : List Token) → after_mark comma ts ≡ Some us → as_item a us ≡ Some (b, vs) → front ≡ b ∷ []
     → after_items front (at.items room close_paren (length vs) vs) ≡ Some (l, ws) → at.opened room a ts ≡ Some (row l, ws)
@@ -131,7 +131,7 @@ module _ (room left n : ℕ) (turn : left ≡ suc n) where
 
   pub steps_fail : (r : Refusal) (x : Expr) (ts : List Token) (total : Read Expr) → begins_step ts ≡ true → Fails r (at.step room ts) → at.steps room left x ts ≡ total → Fails r total
   unfolding steps pick and_then
-  steps_fail x1 x ts total b f e = grind arith
+  steps_fail r x ts total b f e = grind arith
 
   pub steps_deep : (x : Expr) (p : Step) (ts vs : List Token) (total : Read Expr) → begins_step ts ≡ true → at.step room ts ≡ Some (p, vs) → room + 1 < depth (after x p) → at.steps room left x ts ≡ total → total ≡ None
   unfolding steps pick and_then
@@ -146,9 +146,7 @@ module _ (room left n : ℕ) (turn : left ≡ suc n) where
   pub steps_go : (x y : Expr) (p : Step) (ts vs : List Token) (total : Read Expr) → begins_step ts ≡ true → at.step room ts ≡ Some (p, vs) → after x p ≡ y → depth (after x p) ≤ room + 1
       → at.steps room left x ts ≡ total → at.steps room n y vs ≡ total
   unfolding steps pick and_then
-  steps_go x y p ts vs total b s i d e =
-      let k : at.steps room left x ts ≡ at.steps room n (after x p) vs = rw (turn, b, s, guard_reads (suc room) (after x p) vs (omega arith)) refl in
-      cc
+  steps_go x y p ts vs total b s i d e = grind (arith, guard_reads)
 
   -- ---- operators
 
@@ -159,7 +157,7 @@ module _ (room left n : ℕ) (turn : left ≡ suc n) where
   pub operators_fail : (r : Refusal) (l k : ℕ) (o : Binary) (x : Expr) (ts vs : List Token) (total : Read Expr) → operator_at l ts ≡ Some (o, vs) → k ≡ level o → Fails r (expr_at room (k + 1) vs)
       → at.operators room left l x ts ≡ total → Fails r total
   unfolding operators or_else and_then
-  operators_fail x1 l k o x ts vs total b j f e = grind arith
+  operators_fail r l k o x ts vs total b j f e = grind arith
 
   pub operators_deep : (l k : ℕ) (o : Binary) (x y : Expr) (ts vs us : List Token) (total : Read Expr) → operator_at l ts ≡ Some (o, vs) → k ≡ level o → expr_at room (k + 1) vs ≡ Some (y, us)
       → room + 1 < depth (binary o x y) → at.operators room left l x ts ≡ total → total ≡ None
@@ -174,18 +172,12 @@ module _ (room left n : ℕ) (turn : left ≡ suc n) where
   pub operators_last : (l k : ℕ) (o : Binary) (x y z : Expr) (ts vs us : List Token) (total : Read Expr) → operator_at l ts ≡ Some (o, vs) → k ≡ level o → expr_at room (k + 1) vs ≡ Some (y, us)
       → binary o x y ≡ z → depth (binary o x y) ≤ room + 1 → level o ≡ 0 → at.operators room left l x ts ≡ total → total ≡ Some (z, us)
   unfolding operators or_else and_then pick
-  operators_last l k o x y z ts vs us total b j s q d low e =
-      let i : suc (level o) ≡ k + 1 = omega arith in
-      let m : at.operators room left l x ts ≡ Some (binary o x y, us) = cc (turn, guard_reads (suc room) (binary o x y) us (omega arith)) in
-      cc
+  operators_last l k o x y z ts vs us total b j s q d low e = grind (arith, guard_reads)
 
   pub operators_go : (l k : ℕ) (o : Binary) (x y z : Expr) (ts vs us : List Token) (total : Read Expr) → operator_at l ts ≡ Some (o, vs) → k ≡ level o → expr_at room (k + 1) vs ≡ Some (y, us)
       → binary o x y ≡ z → depth (binary o x y) ≤ room + 1 → 1 ≤ level o → at.operators room left l x ts ≡ total → at.operators room n l z us ≡ total
   unfolding operators or_else and_then pick
-  operators_go l k o x y z ts vs us total b j s q d high e =
-      let i : suc (level o) ≡ k + 1 = omega arith in
-      let m : at.operators room left l x ts ≡ at.operators room n l (binary o x y) us = cc (turn, guard_reads (suc room) (binary o x y) us (omega arith), not_zero (level o) high) in
-      cc
+  operators_go l k o x y z ts vs us total b j s q d high e = search (rules, guard_reads, not_zero)
 
   -- ---- items
 
@@ -200,17 +192,17 @@ module _ (room left n : ℕ) (turn : left ≡ suc n) where
 
   pub items_fail : (r : Refusal) (close : Mark) (front : List Arg) (ts : List Token) (total : Read ArgList) → after_mark close ts ≡ None → Fails r (argument_at room ts) → after_items front (at.items room close left ts) ≡ total → Fails r total
   unfolding item_at and_then after_items
-  items_fail x close front ts total h f e = grind (arith, items_next)
+  items_fail r close front ts total h f e = grind (arith, items_next)
 
   pub items_no_item : (r : Refusal) (close : Mark) (front : List Arg) (a : Arg) (ts us : List Token) (total : Read ArgList) → after_mark close ts ≡ None → argument_at room ts ≡ Some (a, us) → Fails r (as_item a us)
       → after_items front (at.items room close left ts) ≡ total → Fails r total
   unfolding item_at and_then after_items
-  items_no_item x close front a ts us total h s f e = grind (arith, items_next)
+  items_no_item r close front a ts us total h s f e = grind (arith, items_next)
 
   pub items_no_end : (r : Refusal) (close : Mark) (front : List Arg) (a b : Arg) (ts us vs : List Token) (total : Read ArgList) → after_mark close ts ≡ None → argument_at room ts ≡ Some (a, us) → as_item a us ≡ Some (b, vs)
       → Fails r (past_comma close vs) → after_items front (at.items room close left ts) ≡ total → Fails r total
   unfolding item_at and_then after_items
-  items_no_end x close front a b ts us vs total h s i f e = grind (arith, items_next)
+  items_no_end r close front a b ts us vs total h s i f e = grind (arith, items_next)
 
   pub items_go : (close : Mark) (front : List Arg) (a b : Arg) (ts us vs ws : List Token) (total : Read ArgList) → after_mark close ts ≡ None → argument_at room ts ≡ Some (a, us) → as_item a us ≡ Some (b, vs)
       → past_comma close vs ≡ Some ws → after_items front (at.items room close left ts) ≡ total → after_items (front ++ b ∷ []) (at.items room close n ws) ≡ total
@@ -234,12 +226,12 @@ module _ (room left n : ℕ) (turn : left ≡ suc n) where
   pub arguments_fail : (r : Refusal) (named : Bool) (front : List (Option Text × Arg)) (ts : List Token) (total : Read Args) → after_mark close_paren ts ≡ None → Fails r (at.named_at room named ts)
       → after_args front (at.arguments room named left ts) ≡ total → Fails r total
   unfolding and_then after_args
-  arguments_fail x named front ts total h f e = grind (arith, arguments_next)
+  arguments_fail r named front ts total h f e = grind (arith, arguments_next)
 
   pub arguments_no_end : (r : Refusal) (named : Bool) (front : List (Option Text × Arg)) (a : Option Text × Arg) (ts us : List Token) (total : Read Args) → after_mark close_paren ts ≡ None → at.named_at room named ts ≡ Some (a, us)
       → Fails r (past_comma close_paren us) → after_args front (at.arguments room named left ts) ≡ total → Fails r total
   unfolding and_then after_args
-  arguments_no_end x named front a ts us total h s f e = grind (arith, arguments_next)
+  arguments_no_end r named front a ts us total h s f e = grind (arith, arguments_next)
 
   pub arguments_go : (named : Bool) (front : List (Option Text × Arg)) (a : Option Text × Arg) (ts us vs : List Token) (total : Read Args) → after_mark close_paren ts ≡ None → at.named_at room named ts ≡ Some (a, us)
       → past_comma close_paren us ≡ Some vs → after_args front (at.arguments room named left ts) ≡ total → after_args (front ++ a ∷ []) (at.arguments room (is_some a.0) n vs) ≡ total
@@ -261,17 +253,17 @@ module _ (room left n : ℕ) (turn : left ≡ suc n) where
 
   pub pairs_no_key : (r : Refusal) (front : List (Literal × Arg)) (ts : List Token) (total : Read ArgPairs) → after_mark close_brace ts ≡ None → Fails r (key_at ts) → after_pairs front (at.pairs room left ts) ≡ total → Fails r total
   unfolding entry_at and_then after_pairs
-  pairs_no_key x front ts total h f e = grind (arith, pairs_next)
+  pairs_no_key r front ts total h f e = grind (arith, pairs_next)
 
   pub pairs_fail : (r : Refusal) (front : List (Literal × Arg)) (v : Literal) (ts us : List Token) (total : Read ArgPairs) → after_mark close_brace ts ≡ None → key_at ts ≡ Some (v, us) → Fails r (argument_at room us)
       → after_pairs front (at.pairs room left ts) ≡ total → Fails r total
   unfolding entry_at and_then after_pairs
-  pairs_fail x front v ts us total h k f e = grind (arith, pairs_next)
+  pairs_fail r front v ts us total h k f e = grind (arith, pairs_next)
 
   pub pairs_no_end : (r : Refusal) (front : List (Literal × Arg)) (v : Literal) (a : Arg) (ts us vs : List Token) (total : Read ArgPairs) → after_mark close_brace ts ≡ None → key_at ts ≡ Some (v, us) → argument_at room us ≡ Some (a, vs)
       → Fails r (past_comma close_brace vs) → after_pairs front (at.pairs room left ts) ≡ total → Fails r total
   unfolding entry_at and_then after_pairs
-  pairs_no_end x front v a ts us vs total h k s f e = grind (arith, pairs_next)
+  pairs_no_end r front v a ts us vs total h k s f e = grind (arith, pairs_next)
 
   pub pairs_go : (front : List (Literal × Arg)) (v : Literal) (a : Arg) (ts us vs ws : List Token) (total : Read ArgPairs) → after_mark close_brace ts ≡ None → key_at ts ≡ Some (v, us) → argument_at room us ≡ Some (a, vs)
       → past_comma close_brace vs ≡ Some ws → after_pairs front (at.pairs room left ts) ≡ total → after_pairs (front ++ (v, a) ∷ []) (at.pairs room n ws) ≡ total

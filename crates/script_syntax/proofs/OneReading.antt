@@ -12,7 +12,7 @@ pub data PieceKind (piece : List ℕ) : Type 0 where
   wrong : (IsUtf8 piece → IsBlank piece → ⊥) → (IsUtf8 piece → (form : Form) → IsStatement form piece → ⊥) → PieceKind piece
 
 is_blank : (piece : List ℕ) → IsBlank piece ⊎ (IsBlank piece → ⊥)
-is_blank piece = chosen (skip piece) refl
+is_blank piece = chosen _ refl
   where
     chosen : (rest : List ℕ) → skip piece ≡ rest → IsBlank piece ⊎ (IsBlank piece → ⊥)
     chosen [] is = inl is
@@ -46,7 +46,7 @@ module _ (bytes piece : List ℕ) (rest : List (List ℕ)) (line : ℕ) (made : 
       not_right : IsRight zero piece → ⊥
       not_right (text, inl is) = one.3 is
       not_right (text, inr (some, is)) = some refl
-  by_kind (statement form one) (suc fewer) r = goes_on (suc fewer - 1) (line + line_ends piece) _ (reads_statement piece rest (suc fewer) line made (pieces bytes) r form one (omega arith))
+  by_kind (statement form one) (suc fewer) r = goes_on (suc fewer - 1) (line + line_ends piece) _ (reads_statement _ _ _ _ _ _ r form one (omega arith))
   by_kind (wrong full none) left r = inr (line, search (reads_wrong, not_right))
     where
       not_right : IsRight left piece → ⊥
@@ -55,8 +55,8 @@ module _ (bytes piece : List ℕ) (rest : List (List ℕ)) (line : ℕ) (made : 
 
 read_from : (bytes : List ℕ) (rest : List (List ℕ)) (left line : ℕ) (made : List Statement) → Reads made left line rest (pieces bytes) → HasOneReading bytes
 unfolding cut
-read_from bytes [] left line made r = inl (made, reads_all made left line bytes [] refl r)
-read_from bytes (piece ∷ rest) left line made r = by_kind bytes piece rest line made (λ n l m s. read_from bytes rest n l m s) (kind_of piece) left r
+read_from bytes [] left line made r = inl (made, reads_all _ _ _ _ [] refl r)
+read_from bytes (piece ∷ rest) left line made r = by_kind _ _ _ _ _ (λ n l m s. read_from _ _ n l m s) (kind_of _) left r
 
 pub one_reading : (bytes : List ℕ) → HasOneReading bytes
 one_reading bytes = read_from bytes (pieces bytes) most_statements 1 [] (search)

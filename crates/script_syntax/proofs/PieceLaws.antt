@@ -7,24 +7,24 @@ use Rattle.{
 }
 
 no_form : (form : Form) → SpellsForm form [] → ⊥
-no_form x1 s = grind (arith, expr_shorter)
+no_form form s = grind (arith, expr_shorter)
 
 pub blank_is_none : (piece : List ℕ) → IsBlank piece → (form : Form) → IsStatement form piece → ⊥
-blank_is_none piece blank form (ts, l, s, d) = no_form form (subst (SpellsForm form) (Lexes-blank ts piece blank l) s)
+blank_is_none piece blank form (ts, l, s, d) = no_form _ (subst (SpellsForm form) (Lexes-blank ts _ blank l) s)
 
 pub no_statement : (ts : List Token) (piece : List ℕ) → Lexes ts piece → form_read ts ≡ None → (form : Form) → IsStatement form piece → ⊥
 no_statement ts piece l none form (us, m, s, d) =
-    let read = form_complete form ts (subst (SpellsForm form) (Lexes-unique us ts piece m l) s) d in
+    let read = form_complete _ ts (subst (SpellsForm form) (Lexes-unique us ts _ m l) s) d in
     absurd cc
 
 pub one_statement : (form : Form) (ts : List Token) (piece : List ℕ) → IsUtf8 piece → (IsBlank piece → ⊥) → Lexes ts piece → form_read ts ≡ Some form → IsOneStatement form piece
 one_statement form ts piece text filled l read =
-    let sound = form_sound ts form read in
+    let sound = form_sound ts _ read in
     (text, search, only, filled)
   where
     only : (other : Form) → IsStatement other piece → other ≡ form
     only other (us, m, s, d) =
-        let again = form_complete other ts (subst (SpellsForm other) (Lexes-unique us ts piece m l) s) d in
+        let again = form_complete _ ts (subst (SpellsForm other) (Lexes-unique us ts _ m l) s) d in
         cc
 
 -- a piece that was found to be filled isn't blank

@@ -9,7 +9,7 @@ use Rattle.language_meaning.specs.Token as spec
 use Rattle.script_syntax.specs.At as at
 
 pub finds_as : {X Y : Type 0} (view : X → Y) (deep : Y → ℕ) (m n : ℕ) (r : Result (X × ℕ × Bor (List Token)) Refusal) (one two : Option (Y × List spec.Token)) → m ≡ n → two ≡ one → Finds view deep m r one → Finds view deep n r two
-finds_as view deep m n x1 one two e f h = grind arith
+finds_as view deep m n r one two e f h = grind arith
 
 pub expr_none : (room l : ℕ) (ts : List spec.Token) → room ≡ 0 → expr_at room l ts ≡ None
 unfolding expr_at
@@ -31,7 +31,7 @@ argument_deeper room less ts e = rw e refl
 module _ (room : ℕ) (ts us : List spec.Token) (no_paren : after_mark open_paren ts ≡ None) (bracket : after_mark open_bracket ts ≡ Some us) where
   pub list_fails : (r : Refusal) → Fails r (at.items room close_bracket (length us) us) → Fails r (at.argument_with room ts)
   unfolding argument_with and_then or_else
-  list_fails x f = grind arith
+  list_fails r f = grind arith
 
   pub list_found : (l : ArgList) (vs : List spec.Token) → at.items room close_bracket (length us) us ≡ Some (l, vs) → at.argument_with room ts ≡ Some (many l, vs)
   unfolding argument_with and_then or_else

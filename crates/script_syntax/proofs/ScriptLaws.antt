@@ -31,7 +31,7 @@ module _ (piece : List ℕ) (rest : List (List ℕ)) (left line : ℕ) (made : L
   reads_statement form one some =
       record {
         there = λ more is. subst (ArePieces most_statements 1 all) (sym (append_assoc made (st ∷ []) more)) (so_far.there (st ∷ more) (inr (left - 1, form, more, counted, one.0, one.1, refl, is)));
-        back = λ ss is. let b = so_far.back ss is in let o = only b.0 b.2 in (o.0, b.1 ∙ ap (λ l. made ++ l) o.1 ∙ sym (append_assoc made (st ∷ []) o.0), o.2);
+        back = λ ss is. let b = so_far.back ss is in let o = only _ b.2 in (o.0, b.1 ∙ ap (λ l. made ++ l) o.1 ∙ sym (append_assoc made (st ∷ []) o.0), o.2);
         wrong = λ at is. so_far.wrong at (inr (inl (left - 1, form, counted, one.0, one.1, is)));
         wrong_back = λ at is. only_wrong at (so_far.wrong_back at is);
       }
@@ -49,11 +49,11 @@ module _ (piece : List ℕ) (rest : List (List ℕ)) (left line : ℕ) (made : L
       only ss (inl is) = absurd (one.3 is.1)
       only ss (inr is) =
           let here : List tree.Statement → tree.Form → List tree.Statement = λ more f. record { line = line; form = f } ∷ more in
-          (is.2, is.6 ∙ ap (here is.2) (one.2 is.1 is.5), subst (λ n. ArePieces n (line + line_ends piece) rest is.2) (same_left is.0 is.3) is.7)
+          (is.2, is.6 ∙ ap (here is.2) (one.2 is.1 is.5), subst (λ n. ArePieces n (line + line_ends piece) rest is.2) (same_left _ is.3) is.7)
 
       only_wrong : (at : ℕ) → IsFirstWrong left line (piece ∷ rest) at → IsFirstWrong (left - 1) (line + line_ends piece) rest at
       only_wrong at (inl is) = absurd (one.3 is.1)
-      only_wrong at (inr (inl is)) = subst (λ n. IsFirstWrong n (line + line_ends piece) rest at) (same_left is.0 is.2) is.5
+      only_wrong at (inr (inl is)) = subst (λ n. IsFirstWrong n (line + line_ends piece) rest at) (same_left _ is.2) is.5
       only_wrong at (inr (inr is)) = absurd (is.1 (one.0, inr ((λ none. absurd (omega (arith, none))), (form, one.1))))
 
   -- a piece that isn't right
@@ -90,7 +90,7 @@ reads_all made left line bytes rest none so_far =
 -- the statement of a piece was added
 pub settled : (piece : List ℕ) (rest : List (List ℕ)) (left line : ℕ) (old new : List tree.Statement) (more : ℕ) (all : List (List ℕ)) (read : PieceRead)
     → IsPieceRead piece read → IsSettled left line read old new (Ok more) → Reads old left line (piece ∷ rest) all → Reads new more (line + line_ends piece) rest all
-settled piece rest left line old new more all x is done r = grind (arith, reads_blank, reads_statement)
+settled piece rest left line old new more all read is done r = grind (arith, reads_blank, reads_statement)
 
 -- the piece isn't right, or memory was refused
 pub unsettled : (bytes piece : List ℕ) (rest : List (List ℕ)) (left line : ℕ) (old new : List tree.Statement) (f : ParseFault) (read : PieceRead)

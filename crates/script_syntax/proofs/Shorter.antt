@@ -7,10 +7,10 @@ use Rattle.{
 use Rattle.language_meaning.specs.Tree as tree
 
 pub literal_shorter : (v : tree.Literal) (ts us : List Token) → SpellsLiteral v ts us → length us < length ts
-literal_shorter x ts us s = grind arith
+literal_shorter v ts us s = grind arith
 
 pub keyword_shorter : (n : Option Text) (ts us : List Token) → SpellsKeyword n ts us → length us ≤ length ts
-keyword_shorter x ts us s = grind arith
+keyword_shorter n ts us s = grind arith
 
 mutual
   pub expr_shorter : (x : Expr) (l : ℕ) (ts us : List Token) → SpellsExpr x l ts us → length us < length ts

@@ -1,8 +1,8 @@
 -- What is read is in the grammar, and no deeper than was allowed.
 use Rattle.{
-  std.proofs.{Common.{◌≡◌, ℕ, zero, suc, ◌<◌, ◌≤◌, Bool, false, List, [], ◌∷◌, length, Option, Some, None, is_some, refl, ap, subst, ◌∙◌, arith, inl, inr}, lemmas.Bool.{leb-false, eqb-true}},
+  std.proofs.{Common.{◌≡◌, ℕ, zero, suc, ◌≤◌, Bool, false, List, [], ◌∷◌, length, Option, Some, None, is_some, subst, ◌∙◌, arith, inl, inr}, lemmas.Bool.{leb-false, eqb-true}},
   meaning.specs.Text.{Text},
-  language_meaning.specs.{Token.{Token, word, op, mark, Mark, dot, comma, colon, open_paren, close_paren, open_bracket, close_bracket, close_brace}, Tree.{Unary, Binary, Accessor, Literal, Expr, Step, Sub, OptionalSub, OptionalArg, OptionalExpr, Arg, ArgList, Args, ArgPairs, unary, paren, no_arg, some_arg, expr, no_args, more_args, no_named, more_named, no_pairs, more_pairs}, Depth.{depth, step_depth, sub_depth, optional_sub_depth, optional_arg_depth, optional_expr_depth, arg_depth, list_depth, args_depth, pairs_depth}, Grammar.{level, left_level, accessor_word, IsItem, IsMethodName, MayFollow, SpellsLiteral, SpellsKeyword, SpellsExpr, SpellsStep, SpellsSecond, SpellsBrackets, SpellsSub, SpellsBound, SpellsStride, SpellsArg, SpellsItems, SpellsMoreItems, SpellsArgs, SpellsMoreArgs, SpellsPairs, SpellsMorePairs}},
+  language_meaning.specs.{Token.{Token, word, op, mark, Mark, dot, comma, colon, open_paren, close_paren, open_bracket, close_bracket, close_brace}, Tree.{Unary, Binary, Accessor, Literal, Expr, Step, Sub, OptionalSub, OptionalArg, OptionalExpr, Arg, ArgList, Args, ArgPairs, unary, no_arg, some_arg, expr, no_args, more_args, no_named, more_named, no_pairs, more_pairs}, Depth.{depth, step_depth, sub_depth, optional_sub_depth, optional_arg_depth, optional_expr_depth, arg_depth, list_depth, args_depth, pairs_depth}, Grammar.{level, left_level, accessor_word, IsItem, IsMethodName, MayFollow, SpellsLiteral, SpellsKeyword, SpellsExpr, SpellsStep, SpellsSecond, SpellsBrackets, SpellsSub, SpellsBound, SpellsStride, SpellsArg, SpellsItems, SpellsMoreItems, SpellsArgs, SpellsMoreArgs, SpellsPairs, SpellsMorePairs}},
   script_syntax.{specs.Reading.{Reader, after_mark, operator_at, Call, plain, grouped, rolled, expanded, past_comma, item_at, bracketed, enclosed, items, named_at, arguments, entry_at, pairs, all_arguments, atom, bound, stride, span_after, sub_from, sub_at, second, subscripts, brackets, named_call, called, call, dotted, step_from, step, steps, postfix, signed, operators, expr_with, expr_from, unparted, opened, argument_with, expr_at, argument_at}, proofs.{Tools.{bind_some, or_cases, chosen, first, some_same, moved, guard_some}, Takes.{mark_takes, word_takes, name_takes, dotted_takes, call_takes, len_takes, maker_takes, operator_takes, SignIs, sign_takes, literal_takes, accessor_takes, CallIs, call_of_takes, item_is, as_item_takes, comma_takes, keyword_for_takes, key_takes, no_operator, level_small, mark_reads, above}, Shorter.{expr_shorter, lower}}},
 }
 
@@ -43,7 +43,7 @@ module _ (room : ℕ) (inner : ℕ → Reader Expr) (argument : Reader Arg)
   unfolding item_at
   item_sound ts y e =
       let a = bind_some _ _ _ e in
-      let i = as_item_takes a.0.0 a.0.1 y a.2 in
+      let i = as_item_takes _ _ y a.2 in
       rw (← i.0) (argument_sound ts a.0 a.1, i.1)
 
   bracketed_sound : (ts : List Token) (y : Arg × List Token) → bracketed room inner argument ts ≡ Some y → SpellsArg y.0 ts (mark close_bracket ∷ y.1) × (arg_depth y.0 ≤ room)
@@ -66,11 +66,11 @@ module _ (room : ℕ) (inner : ℕ → Reader Expr) (argument : Reader Arg)
 
   items_closed : (close : Mark) (n : ℕ) (ts us : List Token) (y : ArgList × List Token) → after_mark close ts ≡ Some us → items room inner argument close n ts ≡ Some y → (no_args, us) ≡ y
   unfolding items
-  items_closed close x ts us y h e = grind (arith, or_cases, some_same)
+  items_closed close n ts us y h e = grind (arith, or_cases, some_same)
 
   items_go_on : (close : Mark) (n : ℕ) (ts us : List Token) (y : ArgList × List Token) → past_comma close ts ≡ Some us → items room inner argument close n us ≡ Some y → SpellsItems y.0 close us y.1 → SpellsMoreItems y.0 close ts y.1
-  items_go_on close n ts us y c e s = elim (comma_takes close ts us c) [
-    | inl k ↦ after_comma y.0 y.1 k s
+  items_go_on close n ts us y c e s = elim (comma_takes _ ts us c) [
+    | inl k ↦ after_comma _ _ k s
     | inr (i, vs, k) ↦ rw (← items_closed close n us vs y (mark_reads close us vs k) e) (inl (i ∙ k))
   ]
     where
@@ -87,8 +87,8 @@ module _ (room : ℕ) (inner : ℕ → Reader Expr) (argument : Reader Arg)
         let c = bind_some _ _ _ a.2 in
         let r = bind_some _ _ _ c.2 in
         let s = item_sound ts a.0 a.1 in
-        let t = items_sound close n c.0 r.0 r.1 in
-        moved (IsItems room close ts) r.2 ((a.0.1, s.1, s.0.0, items_go_on close n a.0.1 c.0 r.0 c.1 r.1 t.0), omega (arith, s.0.1, t.1))
+        let t = items_sound _ n _ _ r.1 in
+        moved (IsItems room close ts) r.2 ((a.0.1, s.1, s.0.0, items_go_on _ n _ _ _ c.1 r.1 t.0), omega (arith, s.0.1, t.1))
     | inr (us, h, k) ↦ grind (arith, moved, mark_takes)
   ]
 
@@ -98,19 +98,19 @@ module _ (room : ℕ) (inner : ℕ → Reader Expr) (argument : Reader Arg)
   named_sound after_name ts y e =
       let k = bind_some _ _ _ e in
       let a = bind_some _ _ _ k.2 in
-      let t = keyword_for_takes after_name ts k.0 k.1 in
-      let s = argument_sound k.0.1 a.0 a.1 in
+      let t = keyword_for_takes _ ts _ k.1 in
+      let s = argument_sound _ a.0 a.1 in
       moved (λ y. (vs : List Token) × SpellsKeyword (y.0).0 ts vs × SpellsArg (y.0).1 vs y.1 × MayFollow after_name (y.0).0 × (arg_depth (y.0).1 ≤ room)) a.2
       (k.0.1, t.0, s.0, t.1, s.1)
 
   arguments_closed : (after_name : Bool) (n : ℕ) (ts us : List Token) (y : Args × List Token) → after_mark close_paren ts ≡ Some us → arguments room inner argument after_name n ts ≡ Some y → (no_named, us) ≡ y
   unfolding arguments
-  arguments_closed after_name x ts us y h e = grind (arith, or_cases, some_same)
+  arguments_closed after_name n ts us y h e = grind (arith, or_cases, some_same)
 
   arguments_go_on : (after_name : Bool) (n : ℕ) (ts us : List Token) (y : Args × List Token) → past_comma close_paren ts ≡ Some us → arguments room inner argument after_name n us ≡ Some y
       → SpellsArgs y.0 us y.1 → FirstFollows after_name y.0 → SpellsMoreArgs y.0 after_name ts y.1
-  arguments_go_on after_name n ts us y c e s f = elim (comma_takes close_paren ts us c) [
-    | inl k ↦ after_comma y.0 y.1 k s f
+  arguments_go_on after_name n ts us y c e s f = elim (comma_takes _ ts us c) [
+    | inl k ↦ after_comma _ _ k s f
     | inr (i, vs, k) ↦ rw (← arguments_closed after_name n us vs y (mark_reads close_paren us vs k) e) (inl (i ∙ k))
   ]
     where
@@ -126,10 +126,10 @@ module _ (room : ℕ) (inner : ℕ → Reader Expr) (argument : Reader Arg)
         let a = bind_some _ _ _ k in
         let c = bind_some _ _ _ a.2 in
         let r = bind_some _ _ _ c.2 in
-        let s = named_sound after_name ts a.0 a.1 in
+        let s = named_sound _ ts _ a.1 in
         let t = arguments_sound (is_some (a.0.0).0) n c.0 r.0 r.1 in
         moved (λ y. IsArgs room ts y × FirstFollows after_name y.0) r.2
-        (((s.0, a.0.1, s.1, s.2, arguments_go_on (is_some (a.0.0).0) n a.0.1 c.0 r.0 c.1 r.1 t.0.0 t.1), omega (arith, s.4, t.0.1)), s.3)
+        (((s.0, a.0.1, s.1, s.2, arguments_go_on _ n _ _ _ c.1 r.1 t.0.0 t.1), omega (arith, s.4, t.0.1)), s.3)
     | inr (us, h, k) ↦ grind (arith, moved, mark_takes)
   ]
 
@@ -143,17 +143,17 @@ module _ (room : ℕ) (inner : ℕ → Reader Expr) (argument : Reader Arg)
   entry_sound ts y e =
       let k = bind_some _ _ _ e in
       let a = bind_some _ _ _ k.2 in
-      let s = argument_sound k.0.1 a.0 a.1 in
+      let s = argument_sound _ a.0 a.1 in
       moved (λ y. (vs : List Token) × SpellsLiteral (y.0).0 ts (mark colon ∷ vs) × SpellsArg (y.0).1 vs y.1 × (arg_depth (y.0).1 ≤ room)) a.2
       (k.0.1, key_takes ts k.0 k.1, s.0, s.1)
 
   pairs_closed : (n : ℕ) (ts us : List Token) (y : ArgPairs × List Token) → after_mark close_brace ts ≡ Some us → pairs room inner argument n ts ≡ Some y → (no_pairs, us) ≡ y
   unfolding pairs
-  pairs_closed x ts us y h e = grind (arith, or_cases, some_same)
+  pairs_closed n ts us y h e = grind (arith, or_cases, some_same)
 
   pairs_go_on : (n : ℕ) (ts us : List Token) (y : ArgPairs × List Token) → past_comma close_brace ts ≡ Some us → pairs room inner argument n us ≡ Some y → SpellsPairs y.0 us y.1 → SpellsMorePairs y.0 ts y.1
-  pairs_go_on n ts us y c e s = elim (comma_takes close_brace ts us c) [
-    | inl k ↦ after_comma y.0 y.1 k s
+  pairs_go_on n ts us y c e s = elim (comma_takes _ ts us c) [
+    | inl k ↦ after_comma _ _ k s
     | inr (i, vs, k) ↦ rw (← pairs_closed n us vs y (mark_reads close_brace us vs k) e) (inl (i ∙ k))
   ]
     where
@@ -170,8 +170,8 @@ module _ (room : ℕ) (inner : ℕ → Reader Expr) (argument : Reader Arg)
         let c = bind_some _ _ _ a.2 in
         let r = bind_some _ _ _ c.2 in
         let s = entry_sound ts a.0 a.1 in
-        let t = pairs_sound n c.0 r.0 r.1 in
-        moved (IsPairs room ts) r.2 ((s.0, a.0.1, s.1, s.2, pairs_go_on n a.0.1 c.0 r.0 c.1 r.1 t.0), omega (arith, s.3, t.1))
+        let t = pairs_sound n _ _ r.1 in
+        moved (IsPairs room ts) r.2 ((s.0, a.0.1, s.1, s.2, pairs_go_on n _ _ _ c.1 r.1 t.0), omega (arith, s.3, t.1))
     | inr (us, h, k) ↦ grind (arith, moved, mark_takes)
   ]
 
@@ -186,7 +186,7 @@ module _ (room : ℕ) (inner : ℕ → Reader Expr) (argument : Reader Arg)
       let n = bind_some _ _ _ e in
       let r = bind_some _ _ _ n.2 in
       let t = call_takes ts n.0 n.1 in
-      let s = all_sound n.0.1 r.0 r.1 in
+      let s = all_sound _ _ r.1 in
       moved (IsNamedCall ts) r.2 (n.0.1, t.0, t.1, s.0, s.1)
 
   atom_sound : (ts : List Token) (y : Expr × List Token) → atom room inner argument ts ≡ Some y → IsExpr (suc room) 7 ts y
@@ -207,7 +207,7 @@ module _ (room : ℕ) (inner : ℕ → Reader Expr) (argument : Reader Arg)
           | inr (n, i', j') ↦
               let r = bind_some _ _ _ j' in
               let t = maker_takes ts n i' in
-              let s = all_sound n.1 r.0 r.1 in
+              let s = all_sound _ _ r.1 in
               moved (IsExpr (suc room) 7 ts) r.2 (search, omega (arith, s.1))
           | inl (i', j') ↦ grind (arith, bind_some, moved, literal_takes)
         ]
@@ -223,7 +223,7 @@ module _ (room : ℕ) (inner : ℕ → Reader Expr) (argument : Reader Arg)
     | inl (h, k) ↦ grind (arith, moved)
     | inr (h, k) ↦
         let a = bind_some _ _ _ k in
-        let s = item_sound ts a.0 a.1 in
+        let s = item_sound ts _ a.1 in
         moved (λ y. SpellsBound y.0 ts y.1 × (optional_arg_depth y.0 ≤ room)) a.2 ((s.1, s.0.0), s.0.1)
   ]
 
@@ -248,8 +248,8 @@ module _ (room : ℕ) (inner : ℕ → Reader Expr) (argument : Reader Arg)
   span_sound from ts us y f d e =
       let to = bind_some _ _ _ e in
       let by = bind_some _ _ _ to.2 in
-      let s = bound_sound us to.0 to.1 in
-      let t = stride_sound to.0.1 by.0 by.1 in
+      let s = bound_sound us _ to.1 in
+      let t = stride_sound _ _ by.1 in
       grind (arith, moved)
 
   sub_from_sound : (ts : List Token) (a : Arg × List Token) (y : Sub × List Token) → IsArg room ts a → sub_from room inner argument a.0 a.1 ≡ Some y → IsSub room ts y
@@ -258,14 +258,14 @@ module _ (room : ℕ) (inner : ℕ → Reader Expr) (argument : Reader Arg)
     | inl (h, k) ↦ moved (IsSub room ts) k s
     | inr (us, h, k) ↦
         let c = first _ _ _ k in
-        span_sound (some_arg a.0) ts us y (grind (arith, item_is, mark_takes)) s.1 c.1
+        span_sound _ ts us y (grind (arith, item_is, mark_takes)) s.1 c.1
   ]
 
   sub_sound : (ts : List Token) (y : Sub × List Token) → sub_at room inner argument ts ≡ Some y → IsSub room ts y
   unfolding sub_at
   sub_sound ts y e = elim (or_cases _ _ _ _ e) [
     | inl (h, k) ↦ let a = bind_some _ _ _ k in sub_from_sound ts a.0 y (argument_sound ts a.0 a.1) a.2
-    | inr (us, h, k) ↦ span_sound no_arg ts us y (mark_takes colon ts us h) (omega arith) k
+    | inr (us, h, k) ↦ span_sound _ ts us y (mark_takes _ ts us h) (omega arith) k
   ]
 
   abbrev IsSecond : List Token → OptionalSub × List Token → Type 0
@@ -289,8 +289,8 @@ module _ (room : ℕ) (inner : ℕ → Reader Expr) (argument : Reader Arg)
   subscripts_sound by ts us y f e =
       let s = bind_some _ _ _ e in
       let t = bind_some _ _ _ s.2 in
-      let i = sub_sound us s.0 s.1 in
-      let j = second_sound s.0.1 t.0 t.1 in
+      let i = sub_sound us _ s.1 in
+      let j = second_sound _ _ t.1 in
       grind (arith, moved)
 
   abbrev IsBrackets : List Token → OptionalArg × List Token → Type 0
@@ -312,7 +312,7 @@ module _ (room : ℕ) (inner : ℕ → Reader Expr) (argument : Reader Arg)
   called_sound plain w ts us r y c f s e = grind (arith, moved)
   called_sound grouped w ts us r y c f s e =
       let b = bind_some _ _ _ e in
-      let t = brackets_sound r.1 b.0 b.1 in
+      let t = brackets_sound _ _ b.1 in
       grind (arith, bind_some, named_call_sound, moved)
   called_sound rolled w ts us r y c f s e = grind (arith, bind_some, named_call_sound, moved)
   called_sound expanded w ts us r y c f s e = grind (arith, bind_some, named_call_sound, moved)
@@ -330,7 +330,7 @@ module _ (room : ℕ) (inner : ℕ → Reader Expr) (argument : Reader Arg)
     | inl (h, k) ↦
         let v = bind_some _ _ _ k in
         let by = bind_some _ _ _ v.2 in
-        subscripts_sound by.0 ts v.0 y
+        subscripts_sound _ ts _ y
         (grind (arith, mark_takes, accessor_takes)) by.2
     | inr (vs, h, k) ↦ call_sound w ts vs y (grind (arith, mark_takes)) k
   ]
@@ -339,14 +339,14 @@ module _ (room : ℕ) (inner : ℕ → Reader Expr) (argument : Reader Arg)
   unfolding step_from
   step_from_sound no_arg ts us y s d e =
       let w = bind_some _ _ _ e in
-      dotted_sound w.0.0 ts w.0.1 y (s ∙ dotted_takes us w.0 w.1) w.2
+      dotted_sound _ ts _ y (s ∙ dotted_takes us w.0 w.1) w.2
   step_from_sound (some_arg a) ts us y s d e = moved (IsStep room ts) e (s, d)
 
   step_sound : (ts : List Token) (y : Step × List Token) → step room inner argument ts ≡ Some y → IsStep room ts y
   unfolding step
   step_sound ts y e =
       let b = bind_some _ _ _ e in
-      let s = brackets_sound ts b.0 b.1 in
+      let s = brackets_sound ts _ b.1 in
       search step_from_sound
 
   steps_sound : (n : ℕ) (x : Expr) (ts us : List Token) (y : Expr × List Token) → IsExpr (suc room) 7 ts (x, us) → steps room inner argument n x us ≡ Some y → IsExpr (suc room) 7 ts y
@@ -357,8 +357,8 @@ module _ (room : ℕ) (inner : ℕ → Reader Expr) (argument : Reader Arg)
         let p = bind_some _ _ _ k in
         let q = bind_some _ _ _ p.2 in
         let g = guard_some _ _ _ _ q.1 in
-        let t = step_sound us p.0 p.1 in
-        steps_sound n q.0.0 ts q.0.1 y (subst (IsExpr (suc room) 7 ts) g.0 ((us, s.0, t.0), g.1)) q.2
+        let t = step_sound us _ p.1 in
+        steps_sound n _ ts _ y (subst (IsExpr (suc room) 7 ts) g.0 ((us, s.0, t.0), g.1)) q.2
     | inr (h, k) ↦ grind (arith, moved)
   ]
 
@@ -374,7 +374,7 @@ module _ (room : ℕ) (inner : ℕ → Reader Expr) (argument : Reader Arg)
   signed_sound : (ts : List Token) (y : Expr × List Token) → signed room inner argument ts ≡ Some y → IsExpr (suc room) 6 ts y
   unfolding signed
   signed_sound ts y e = elim (or_cases _ _ _ _ e) [
-    | inl (h, k) ↦ let s = postfix_sound ts y k in (lower y.0 6 7 ts y.1 (omega arith) s.0, s.1)
+    | inl (h, k) ↦ let s = postfix_sound ts y k in (grind (arith, lower), s.1)
     | inr (o, h, k) ↦
         let p = bind_some _ _ _ k in
         let x = inner_sound 6 o.1 p.0 (omega arith) p.1 in
@@ -387,9 +387,6 @@ module _ (room : ℕ) (inner : ℕ → Reader Expr) (argument : Reader Arg)
   unfolding operator_at
   not_above m o ts e = grind (arith, chosen, leb-false)
 
-  room_left : (us : List Token) (o : Binary) (vs ws rs : List Token) (n : ℕ) → us ≡ op o ∷ vs → ws ≡ rs → length ws < length vs → length us ≤ suc n → length rs ≤ n
-  room_left us o vs ws rs n e f lt few = omega (arith, ap length e, ap length f)
-
   abbrev Ended : ℕ → List Token → Expr × List Token → Type 0
   Ended l ts y = IsExpr (suc room) l ts y × Stops l y.1
 
@@ -397,10 +394,10 @@ module _ (room : ℕ) (inner : ℕ → Reader Expr) (argument : Reader Arg)
   operators_sound : (n l m : ℕ) (x : Expr) (ts us : List Token) (y : Expr × List Token) → length us ≤ n → 1 ≤ m → l ≤ m → operator_at (suc m) us ≡ None
       → IsExpr (suc room) m ts (x, us) → operators room inner argument n l x us ≡ Some y → Ended l ts y
   unfolding operators operator_at
-  operators_sound zero l m x ts [] y few low le stop s e = moved (Ended l ts) e ((lower x l m ts [] le s.0, s.1), λ h. refl)
+  operators_sound zero l m x ts [] y few low le stop s e = grind (arith, moved, lower)
   operators_sound zero l m x ts (u ∷ us) y few low le stop s e = absurd (omega arith)
   operators_sound (suc n) l m x ts us y few low le stop s e = elim (or_cases _ _ _ _ e) [
-    | inl (h, k) ↦ moved (Ended l ts) k ((lower x l m ts us le s.0, s.1), λ i. h)
+    | inl (h, k) ↦ grind (arith, moved, lower)
     | inr (o, h, k) ↦
         let p = bind_some _ _ _ k in
         let q = bind_some _ _ _ p.2 in
@@ -410,11 +407,11 @@ module _ (room : ℕ) (inner : ℕ → Reader Expr) (argument : Reader Arg)
         let r = inner_sound (suc (level o.0)) o.1 p.0 (omega arith) p.1 in
         let below : level o.0 ≤ m = grind (arith, not_above) in
         let rest : p.0.1 ≡ q.0.1 = search in
-        let left = lower x (left_level o.0) m ts (op o.0 ∷ o.1) (grind arith) (subst (λ r. SpellsExpr x m ts r) t.0 s.0) in
+        let left = lower x (left_level o.0) m ts _ (grind arith) (subst (λ r. SpellsExpr x m ts r) t.0 s.0) in
         let whole : IsExpr (suc room) (level o.0) ts q.0 = grind arith in
         elim (chosen _ _ _ _ q.2) [
           | inl (z, j) ↦ grind (arith, eqb-true, moved)
-          | inr (z, j) ↦ grind (arith, room_left, expr_shorter, above, operators_sound n l (level o.0) q.0.0 ts q.0.1 y)
+          | inr (z, j) ↦ grind (arith, expr_shorter, above, operators_sound n l (level o.0) q.0.0 ts q.0.1 y)
         ]
   ]
 
@@ -422,14 +419,14 @@ module _ (room : ℕ) (inner : ℕ → Reader Expr) (argument : Reader Arg)
   unfolding expr_with
   expr_with_sound l ts y le e =
       let p = bind_some _ _ _ e in
-      operators_sound (length p.0.1) l 6 p.0.0 ts p.0.1 y (omega arith) (omega arith) le (no_operator 7 p.0.1 (omega arith)) (signed_sound ts p.0 p.1) p.2
+      operators_sound _ l 6 _ ts _ y (omega arith) (omega arith) le (no_operator 7 _ (omega arith)) (signed_sound ts _ p.1) p.2
 
   from_sound : (x : Expr) (ts us : List Token) (y : Expr × List Token) → IsExpr (suc room) 7 ts (x, us) → expr_from room inner argument x us ≡ Some y → IsExpr (suc room) 0 ts y
   unfolding expr_from
   from_sound x ts us y s e =
       let p = bind_some _ _ _ e in
-      let a = steps_sound _ x ts us p.0 s p.1 in
-      (operators_sound (length p.0.1) 0 6 p.0.0 ts p.0.1 y (omega arith) (omega arith) (omega arith) (no_operator 7 p.0.1 (omega arith)) (lower p.0.0 6 7 ts p.0.1 (omega arith) a.0, a.1) p.2).0
+      let a = steps_sound _ x ts us _ s p.1 in
+      (operators_sound (length p.0.1) 0 6 p.0.0 ts p.0.1 y (omega arith) (omega arith) (omega arith) (no_operator 7 p.0.1 (omega arith)) (grind (arith, lower), a.1) p.2).0
 
   -- ---- arguments
 
@@ -438,7 +435,7 @@ module _ (room : ℕ) (inner : ℕ → Reader Expr) (argument : Reader Arg)
   unparted_sound (expr x) ts us vs y f s e =
       let p = bind_some _ _ _ e in
       let q = bind_some _ _ _ p.2 in
-      let z = from_sound (paren x) ts p.0 q.0 (grind (arith, mark_takes)) q.1 in
+      let z = from_sound _ ts _ _ (grind (arith, mark_takes)) q.1 in
       grind (arith, moved)
   unparted_sound _ ts us vs y f s e = absurd cc
 
@@ -449,7 +446,7 @@ module _ (room : ℕ) (inner : ℕ → Reader Expr) (argument : Reader Arg)
     | inr (vs, h, k) ↦
         let c = first _ _ _ k in
         let q = bind_some _ _ _ c.1 in
-        let t = items_sound close_paren _ vs q.0 q.1 in
+        let t = items_sound _ _ vs _ q.1 in
         moved (IsArg (suc room) ts) q.2
         (grind (arith, item_is, mark_takes))
   ]
@@ -457,11 +454,11 @@ module _ (room : ℕ) (inner : ℕ → Reader Expr) (argument : Reader Arg)
   argument_with_sound : (ts : List Token) (y : Arg × List Token) → argument_with room inner argument ts ≡ Some y → IsArg (suc room) ts y
   unfolding argument_with
   argument_with_sound ts y e = elim (or_cases _ _ _ _ e) [
-    | inr (us, h, k) ↦ let a = bind_some _ _ _ k in opened_sound ts us a.0 y (mark_takes open_paren ts us h) (argument_sound us a.0 a.1) a.2
+    | inr (us, h, k) ↦ let a = bind_some _ _ _ k in opened_sound ts us a.0 y (mark_takes _ ts us h) (argument_sound us a.0 a.1) a.2
     | inl (h, k) ↦ elim (or_cases _ _ _ _ k) [
       | inr (us, h', k') ↦
           let r = bind_some _ _ _ k' in
-          let s = items_sound close_bracket _ us r.0 r.1 in
+          let s = items_sound _ _ us _ r.1 in
           moved (IsArg (suc room) ts) r.2 (search mark_takes, omega (arith, s.1))
       | inl (h', k') ↦ elim (or_cases _ _ _ _ k') [
         | inr (us, i, j) ↦

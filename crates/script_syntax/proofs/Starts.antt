@@ -3,7 +3,7 @@ use Rattle.{
   script_syntax.{proofs.Gives.{reserved_is_none, other_mark, unreserved, no_target}, specs.Reading.{and_then, pick, after_mark, after_word, name_at, target_at, operator_at, begins_step, ends_bound, word_at}},
   std.{proofs.Common.{arith, ◌≡◌, ℕ, Bool, true, false, List, [], ◌∷◌, None, refl, inl, inr}, specs.Prelude.{codes}},
   meaning.specs.Text.{Text, same_text},
-  language_meaning.specs.{Token.{Token, word, int, text, op, mark, Mark, equals, comma, colon, tilde, open_paren, close_paren, open_bracket, close_bracket, open_brace, close_brace}, Tree.{Literal, Expr, Step, OptionalExpr, Arg, ArgList, Args, ArgPairs, name, literal, unary, binary, after, len, make, paren, item, access, method, group, rolling, expanding, no_expr, some_expr, expr, many, row, table, nothing, no_args, more_args, no_named, more_named, no_pairs, more_pairs}, Grammar.{left_level, SpellsLiteral, SpellsExpr, SpellsStep, SpellsStride, SpellsArg, SpellsMoreItems, SpellsMoreArgs, SpellsMorePairs}},
+  language_meaning.specs.{Token.{Token, word, int, text, op, mark, Mark, equals, comma, colon, tilde, open_paren, close_paren, open_bracket, close_bracket, open_brace, close_brace}, Tree.{Literal, Expr, Step, OptionalExpr, Arg, ArgList, Args, ArgPairs, name, literal, unary, binary, after, len, make, paren, item, access, method, group, rolling, expanding, no_expr, some_expr, expr, many, row, table, nothing, no_args, more_args, no_named, more_named, no_pairs, more_pairs}, Grammar.{SpellsLiteral, SpellsExpr, SpellsStep, SpellsStride, SpellsArg, SpellsMoreItems, SpellsMoreArgs, SpellsMorePairs}},
 }
 use Rattle.language_meaning.specs.Tree as tree
 
@@ -37,21 +37,21 @@ StartsArg (mark open_brace ∷ ts) = Unit {0}
 StartsArg _ = ⊥
 
 literal_starts : (v : Literal) (ts us : List Token) → SpellsLiteral v ts us → StartsExpr ts
-literal_starts x ts us s = grind arith
+literal_starts v ts us s = grind arith
 
 pub expr_starts : (x : Expr) (l : ℕ) (ts us : List Token) → SpellsExpr x l ts us → StartsExpr ts
 expr_starts (name n) l ts us (s, h) = rw s (grind (arith, unreserved))
 expr_starts (literal v) l ts us s = literal_starts v ts us s
 expr_starts (unary tree.minus x) l ts us (h, vs, e, n, s) = rw e tt
 expr_starts (unary tree.invert x) l ts us (h, vs, e, s) = rw e tt
-expr_starts (binary o x y) l ts us (h, vs, s, t) = expr_starts x (left_level o) ts (op o ∷ vs) s
+expr_starts (binary o x y) l ts us (h, vs, s, t) = expr_starts x _ ts _ s
 expr_starts (after x p) l ts us (vs, s, t) = expr_starts x 7 ts vs s
 expr_starts (len x) l ts us (vs, e, s) = grind arith
 expr_starts (make n r) l ts us (vs, e, h, s) = grind arith
 expr_starts (paren x) l ts us (vs, e, s) = rw e tt
 
 as_arg : (ts : List Token) → StartsExpr ts → StartsArg ts
-as_arg x s = grind arith
+as_arg ts s = grind arith
 
 pub arg_starts : (a : Arg) (ts us : List Token) → SpellsArg a ts us → StartsArg ts
 arg_starts (expr x) ts us s = as_arg ts (expr_starts x 0 ts us s)
@@ -69,26 +69,26 @@ opens_arg m = false
 
 pub arg_no_mark : (m : Mark) (ts : List Token) → opens_arg m ≡ false → StartsArg ts → after_mark m ts ≡ None
 unfolding after_mark
-arg_no_mark m x h s = grind (arith, other_mark)
+arg_no_mark m ts h s = grind (arith, other_mark)
 
 pub arg_no_end : (ts : List Token) → StartsArg ts → ends_bound ts ≡ false
 unfolding ends_bound
-arg_no_end x s = grind arith
+arg_no_end ts s = grind arith
 
 pub expr_no_end : (ts : List Token) → StartsExpr ts → ends_bound ts ≡ false
 expr_no_end ts s = arg_no_end ts (as_arg ts s)
 
 pub arg_no_bracket : (ts : List Token) → StartsExpr ts → after_mark open_bracket ts ≡ None
 unfolding after_mark pick
-arg_no_bracket x s = grind arith
+arg_no_bracket ts s = grind arith
 
 pub arg_no_brace : (ts : List Token) → StartsExpr ts → after_mark open_brace ts ≡ None
 unfolding after_mark pick
-arg_no_brace x s = grind arith
+arg_no_brace ts s = grind arith
 
 pub no_none : (ts : List Token) → StartsExpr ts → after_word (codes "None") ts ≡ None
 unfolding after_word pick
-no_none x s = grind arith
+no_none ts s = grind arith
 
 pub literal_no_mark : (m : Mark) (v : Literal) (ts us : List Token) → opens_arg m ≡ false → SpellsLiteral v ts us → after_mark m ts ≡ None
 literal_no_mark m v ts us h s = search (arg_no_mark, as_arg, literal_starts)
@@ -110,7 +110,7 @@ expr_no_target (name n) l ts us (s, h) k = rw s (no_target n us k)
 expr_no_target (literal v) l ts us s k = grind (arith, reserved_is_none)
 expr_no_target (unary tree.minus x) l ts us (h, vs, e, n, s) k = rw e refl
 expr_no_target (unary tree.invert x) l ts us (h, vs, e, s) k = rw e refl
-expr_no_target (binary o x y) l ts us (h, vs, s, t) k = expr_no_target x (left_level o) ts (op o ∷ vs) s refl
+expr_no_target (binary o x y) l ts us (h, vs, s, t) k = expr_no_target x _ ts _ s refl
 expr_no_target (after x p) l ts us (vs, s, t) k = expr_no_target x 7 ts vs s (step_begins p vs us t)
 expr_no_target (len x) l ts us (vs, e, s) k = rw e (search reserved_is_none)
 expr_no_target (make n r) l ts us (vs, e, h, s) k = rw e (search reserved_is_none)
@@ -176,7 +176,7 @@ bracket_closes = record { no_comma = λ h. cc; no_start = refl; ends = close_bra
 
 pub more_items_end : (r : ArgList) (close : Mark) (ts us : List Token) → Closes close → SpellsMoreItems r close ts us → Ends 0 ts
 more_items_end no_args close ts us c (inl s) = rw s (c.ends us)
-more_items_end no_args close ts us c (inr s) = rw s (comma_ends (mark close ∷ us))
+more_items_end no_args close ts us c (inr s) = rw s (comma_ends _)
 more_items_end (more_args a r) close ts us c (vs, ws, e, i, s, t) = rw e (comma_ends vs)
 
 pub more_args_end : (r : Args) (named : Bool) (ts us : List Token) → SpellsMoreArgs r named ts us → Ends 0 ts × (after_mark equals ts ≡ None)
@@ -187,7 +187,7 @@ more_args_end (more_named n a r) named ts us (vs, ws, xs, e, i, s, t, u) = rw e 
 
 pub more_pairs_end : (r : ArgPairs) (ts us : List Token) → SpellsMorePairs r ts us → Ends 0 ts
 more_pairs_end no_pairs ts us (inl s) = rw s (close_brace_ends us)
-more_pairs_end no_pairs ts us (inr s) = rw s (comma_ends (mark close_brace ∷ us))
+more_pairs_end no_pairs ts us (inr s) = rw s (comma_ends _)
 more_pairs_end (more_pairs k a r) ts us (vs, ws, xs, e, l, s, t) = rw e (comma_ends vs)
 
 -- what ends a subscript

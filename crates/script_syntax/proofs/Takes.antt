@@ -9,7 +9,7 @@ use Rattle.language_meaning.specs.Tree as tree
 
 pub mark_takes : (m : Mark) (ts us : List Token) → after_mark m ts ≡ Some us → ts ≡ mark m ∷ us
 unfolding after_mark
-mark_takes m x us e = grind (arith, first, eqb-true, some_same)
+mark_takes m ts us e = grind (arith, first, eqb-true, some_same)
 
 pub mark_same : (m : Mark) (us : List Token) → after_mark m (mark m ∷ us) ≡ Some us
 unfolding after_mark pick
@@ -17,19 +17,19 @@ mark_same m us = search eq-eqb
 
 pub word_takes : (w : Text) (ts us : List Token) → after_word w ts ≡ Some us → ts ≡ word w ∷ us
 unfolding after_word
-word_takes w x us e = search (rules, first, some_same)
+word_takes w ts us e = search (rules, first, some_same)
 
 pub any_word : (ts : List Token) (y : Text × List Token) → word_at ts ≡ Some y → ts ≡ word y.0 ∷ y.1
 unfolding word_at
-any_word x y e = grind (arith, some_same)
+any_word ts y e = grind (arith, some_same)
 
 pub text_takes : (ts : List Token) (y : Text × List Token) → text_at ts ≡ Some y → ts ≡ text y.0 ∷ y.1
 unfolding text_at
-text_takes x y e = grind (arith, some_same)
+text_takes ts y e = grind (arith, some_same)
 
 pub ended_is : {A : Type 0} (x : A) (ts : List Token) (y : A) → ended x ts ≡ Some y → (x ≡ y) × (ts ≡ [])
 unfolding ended
-ended_is x x1 y e = grind (arith, some_same)
+ended_is x ts y e = grind (arith, some_same)
 
 pub name_takes : (ts : List Token) (y : Text × List Token) → name_at ts ≡ Some y → (ts ≡ word y.0 ∷ y.1) × IsName y.0
 unfolding name_at is_reserved
@@ -43,7 +43,7 @@ unfolding target_at
 target_takes ts y e =
     let n = bind_some _ _ _ e in
     let u = bind_some _ _ _ n.2 in
-    let t = name_takes ts n.0 n.1 in
+    let t = name_takes ts _ n.1 in
     grind (arith, moved, mark_takes)
 
 pub dotted_takes : (ts : List Token) (y : Text × List Token) → dotted_at ts ≡ Some y → ts ≡ mark dot ∷ word y.0 ∷ y.1
@@ -64,7 +64,7 @@ call_takes ts y e =
     let u = bind_some _ _ _ w.2 in
     let c = first _ _ _ u.2 in
     moved (λ p. (ts ≡ mark dot ∷ word p.0 ∷ mark open_paren ∷ p.1) × IsMethodName p.0) c.1
-    (grind (arith, dotted_takes, mark_takes), is_method w.0.0 c.0)
+    (grind (arith, dotted_takes, mark_takes), is_method _ c.0)
 
 pub len_takes : (ts us : List Token) → len_at ts ≡ Some us → ts ≡ word (codes "len") ∷ mark open_paren ∷ us
 unfolding len_at
@@ -74,7 +74,7 @@ pub maker_takes : (ts : List Token) (y : Text × List Token) → maker_at ts ≡
 unfolding maker_at
 maker_takes ts y e =
     let w = bind_some _ _ _ e in
-    let t = call_takes w.0 y w.2 in
+    let t = call_takes _ y w.2 in
     grind (arith, word_takes)
 
 pub operator_takes : (l : ℕ) (ts : List Token) (o : Binary × List Token) → operator_at l ts ≡ Some o → (ts ≡ op o.0 ∷ o.1) × (l ≤ level o.0)
@@ -91,7 +91,7 @@ SignIs invert ts us = ts ≡ mark tilde ∷ us
 
 pub sign_takes : (ts : List Token) (y : Unary × List Token) → sign_at ts ≡ Some y → SignIs y.0 ts y.1
 unfolding sign_at
-sign_takes x y e = grind (arith, other, moved)
+sign_takes ts y e = grind (arith, other, moved)
 
 positive_takes : (n : ℕ) (ts : List Token) (y : Literal × List Token) → positive n ts ≡ Some y → SpellsLiteral y.0 (int n ∷ ts) y.1
 unfolding positive
@@ -117,11 +117,11 @@ constant_takes ts y e = elim (or_cases _ _ _ _ e) [
 
 negative_at_takes : (ts : List Token) (y : Literal × List Token) → negative_at ts ≡ Some y → SpellsLiteral y.0 (op sub ∷ ts) y.1
 unfolding negative_at
-negative_at_takes x y e = grind (arith, negative_takes)
+negative_at_takes ts y e = grind (arith, negative_takes)
 
 pub literal_takes : (ts : List Token) (y : Literal × List Token) → literal_at ts ≡ Some y → SpellsLiteral y.0 ts y.1
 unfolding literal_at
-literal_takes x y e = grind (arith, constant_takes, positive_takes, moved, negative_at_takes)
+literal_takes ts y e = grind (arith, constant_takes, positive_takes, moved, negative_at_takes)
 
 pub accessor_takes : (w : Text) (by : Accessor) → accessor_at w ≡ Some by → w ≡ accessor_word by
 unfolding accessor_at
@@ -136,11 +136,11 @@ CallIs expanded w = w ≡ codes "expanding"
 pub call_of_takes : (w : Text) (c : Call) → call_of w ≡ Some c → CallIs c w
 unfolding call_of
 call_of_takes w c e = elim (chosen _ _ _ _ e) [
-  | inl (h, k) ↦ moved (λ a. CallIs a w) k (text_is w _ h)
+  | inl (h, k) ↦ grind (arith, moved, text_is)
   | inr (h, k) ↦ elim (chosen _ _ _ _ k) [
-    | inl (h', k') ↦ moved (λ a. CallIs a w) k' (text_is w _ h')
+    | inl (h', k') ↦ grind (arith, moved, text_is)
     | inr (h', k') ↦ elim (chosen _ _ _ _ k') [
-      | inl (i, j) ↦ moved (λ a. CallIs a w) j (text_is w _ i)
+      | inl (i, j) ↦ grind (arith, moved, text_is)
       | inr (i, j) ↦ let d = first _ _ _ j in moved (λ a. CallIs a w) d.1 (is_method w d.0)
     ]
   ]
@@ -148,7 +148,7 @@ call_of_takes w c e = elim (chosen _ _ _ _ e) [
 
 pub item_is : (a : Arg) → is_item a ≡ true → IsItem a
 unfolding is_item
-item_is x1 e = grind arith
+item_is a e = grind arith
 
 pub as_item_takes : (a : Arg) (ts : List Token) (y : Arg × List Token) → as_item a ts ≡ Some y → ((a, ts) ≡ y) × IsItem a
 unfolding as_item
@@ -163,7 +163,7 @@ with_keyword ts o = or_else o (None, ts) (λ n. (Some n.0, n.1))
 
 keyword_go : (ts : List Token) (o : Option (Text × List Token)) → target_at ts ≡ o → SpellsKeyword (with_keyword ts o).0 ts (with_keyword ts o).1
 unfolding or_else
-keyword_go ts x e = grind (arith, target_takes)
+keyword_go ts o e = grind (arith, target_takes)
 
 pub keyword_takes : (ts : List Token) → SpellsKeyword (keyword_at ts).0 ts (keyword_at ts).1
 unfolding keyword_at
@@ -171,7 +171,7 @@ keyword_takes ts = search keyword_go
 
 pub follows : (after_name : Bool) (n : Option Text) → may_follow after_name n ≡ true → MayFollow after_name n
 unfolding may_follow
-follows x n e = grind arith
+follows after_name n e = grind arith
 
 pub keyword_for_takes : (after_name : Bool) (ts : List Token) (y : Option Text × List Token) → keyword_for after_name ts ≡ Some y → SpellsKeyword y.0 ts y.1 × MayFollow after_name y.0
 unfolding keyword_for
@@ -183,32 +183,32 @@ key_takes ts y e = grind (arith, bind_some, moved, mark_takes, literal_takes)
 
 target_is : (s : Step) → is_target s ≡ true → IsTarget s
 unfolding is_target
-target_is x e = grind arith
+target_is s e = grind arith
 
 pub split_takes : (x : Expr) (y : Expr × Step) → split x ≡ Some y → (x ≡ after y.0 y.1) × IsTarget y.1
 unfolding split
-split_takes x1 y e = grind (arith, first, moved, target_is)
+split_takes x y e = grind (arith, first, moved, target_is)
 
 pub end_takes : (ts : List Token) (end : Text) → end_at ts ≡ Some end → SpellsEnd end ts
 unfolding end_at closed
 end_takes ts end e = grind (arith, or_cases, bind_some, ended_is, mark_takes, word_takes, text_takes)
 
 pub level_small : (o : Binary) → level o ≤ 5
-level_small x = grind arith
+level_small o = grind arith
 
 -- no operator has a level above 5
 pub no_operator : (l : ℕ) (ts : List Token) → 6 ≤ l → operator_at l ts ≡ None
 unfolding operator_at pick
-no_operator l x h = grind (arith, level_small, le_false)
+no_operator l ts h = grind (arith, level_small, le_false)
 
 pub mark_reads : (m : Mark) (ts us : List Token) → ts ≡ mark m ∷ us → after_mark m ts ≡ Some us
 mark_reads m ts us e = cc (mark_same m us)
 
 pub above : (n : ℕ) → nat_eq n 0 ≡ false → 1 ≤ n
-above x e = grind arith
+above n e = grind arith
 
 pub left_is : (o : Binary) → 1 ≤ level o → left_level o ≡ level o
-left_is x h = grind arith
+left_is o h = grind arith
 
 pub not_zero : (n : ℕ) → 1 ≤ n → nat_eq n 0 ≡ false
 not_zero n h = grind (arith, eqb_tells)

@@ -8,25 +8,25 @@ use Rattle.{
 
 pub bind_some : {A B : Type 0} (r : Option A) (f : A → Option B) (y : B) → and_then r f ≡ Some y → (x : A) × (r ≡ Some x) × (f x ≡ Some y)
 unfolding and_then
-bind_some x1 f y e = grind arith
+bind_some r f y e = grind arith
 
 pub or_cases : {A B : Type 0} (o : Option A) (other : B) (f : A → B) (y : B) → or_else o other f ≡ y → ((o ≡ None) × (other ≡ y)) ⊎ ((x : A) × (o ≡ Some x) × (f x ≡ y))
 unfolding or_else
-or_cases x1 other f y e = grind arith
+or_cases o other f y e = grind arith
 
 pub chosen : {A : Type 0} (b : Bool) (x y z : A) → pick b x y ≡ z → ((b ≡ true) × (x ≡ z)) ⊎ ((b ≡ false) × (y ≡ z))
 unfolding pick
-chosen x1 x y z e = grind arith
+chosen b x y z e = grind arith
 
 -- where only the first choice gives a value
 pub first : {A : Type 0} (b : Bool) (x : Option A) (z : A) → pick b x None ≡ Some z → (b ≡ true) × (x ≡ Some z)
 unfolding pick
-first x1 x z e = grind arith
+first b x z e = grind arith
 
 -- where only the second does
 pub other : {A : Type 0} (b : Bool) (x : Option A) (z : A) → pick b None x ≡ Some z → (b ≡ false) × (x ≡ Some z)
 unfolding pick
-other x1 x z e = grind arith
+other b x z e = grind arith
 
 pub some_same : {A : Type 0} {x y : A} → Some x ≡ Some y → x ≡ y
 some_same e = cc

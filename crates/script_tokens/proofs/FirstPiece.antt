@@ -1,7 +1,7 @@
 -- The first piece, by its length, and the pieces after it.
 use Rattle.{
-  std.proofs.Common.{◌≡◌, ℕ, suc, ◌+◌, ◌<◌, Bool, true, false, List, [], ◌∷◌, length, take, drop, refl, ap, arith, leb, eqb},
-  language_meaning.specs.Pieces.{Mode, plain, mode_after, opens, closes, choose, into_first, cut, pieces},
+  std.proofs.Common.{◌≡◌, ℕ, suc, ◌+◌, ◌<◌, Bool, List, [], ◌∷◌, length, take, drop, refl, arith, leb, eqb},
+  language_meaning.specs.Pieces.{Mode, plain, mode_after, opens, closes, choose, cut, pieces},
 }
 
 -- how long the rest of a piece is, of whose brackets so many were opened and closed
@@ -19,23 +19,19 @@ by_cases : (ends closes_all : Bool) (x y z : List (List ℕ)) (i j b : ℕ) (bs 
     → z ≡ (b ∷ take j bs) ∷ pieces (drop j bs)
     → choose ends (choose closes_all x y) z ≡ take (suc (choose ends (choose closes_all 0 i) j)) (b ∷ bs) ∷ pieces (drop (suc (choose ends (choose closes_all 0 i) j)) (b ∷ bs))
 unfolding choose
-by_cases true true x y z i j b bs p q r = p
-by_cases true false x y z i j b bs p q r = q
-by_cases false closes_all x y z i j b bs p q r = r
+by_cases = grind arith
 
 cut_first : (mode : Mode) (opened closed b : ℕ) (bs : List ℕ) → IsFirst mode opened closed (b ∷ bs)
 unfolding cut rest_len
-cut_first mode o c b [] = by_cases _ _ _ _ _ _ _ b [] refl refl refl
-cut_first mode o c b (e ∷ es) =
-    by_cases _ _ _ _ _ _ _ b (e ∷ es) refl (ap (into_first b) (cut_first plain o c e es))
-    (ap (into_first b) (cut_first (mode_after mode b) (o + opens mode b) (c + closes mode b) e es))
+cut_first _ o c b [] = search by_cases
+cut_first mode o c b (e ∷ es) = search (by_cases, cut_first plain o c e es, cut_first (mode_after mode b) (o + opens mode b) (c + closes mode b) e es)
 
 -- the first piece of bytes, where there are any
 pub pieces_first : (bytes : List ℕ) (n : ℕ) → n ≡ rest_len plain 0 0 bytes → 0 < length bytes → pieces bytes ≡ take n bytes ∷ pieces (drop n bytes)
 pieces_first [] n e some = absurd (omega arith)
-pieces_first (b ∷ bs) n e some = rw e (cut_first plain 0 0 b bs)
+pieces_first (b ∷ bs) n e _ = rw e (cut_first _ 0 0 b bs)
 
 pub rest_len-none : (mode : Mode) (opened closed : ℕ) (bs : List ℕ) → length bs < 1 → rest_len mode opened closed bs ≡ 0
 unfolding rest_len
-rest_len-none mode o c [] none = refl
-rest_len-none mode o c (b ∷ bs) none = absurd (omega arith)
+rest_len-none _ o c [] _ = refl
+rest_len-none _ o c (b ∷ bs) none = absurd (omega arith)

@@ -1,8 +1,8 @@
 -- A piece is read token by token.
 use Rattle.{
-  std.{proofs.{Common.{◌≡◌, ◌⊎◌, ◌∙◌, sym, ap, subst, refl, ℕ, ◌≤◌, ◌<◌, true, false, cond, ◌||◌, List, [], ◌∷◌, ◌++◌, Option, Some, None, length, get_or, eqb, append_assoc, arith, inl, inr}, lemmas.{Bool.Decides.{nat_tests}, Str.{IsUtf8-nil}, List.{append-nil, map-append}}}, specs.{Prelude.{MatchOption}, Str.{IsUtf8}}},
-  language_meaning.specs.Token.{Token, text, op, mark, begins_word, is_digit, ends_line, IsQuote, IsQuoted, IsToken, Lexes, skip, skip_comment},
-  script_tokens.{specs.{View.{token_of, tokens_of}, Absent.{BeginsNoToken, BeginsNoSign}, Quoted.{EndsNoText}}, proofs.{Runs.{true_or_false}, TokenLaws.{kind_at, kind_of, IsToken-kind, kind_of_quote, IsToken-unique, IsToken-shorter, IsToken-some, IsUtf8-after_token}, Texts.{IsUtf8-after_ascii}}},
+  std.{proofs.{Common.{rules, ◌≡◌, ◌∙◌, sym, ap, subst, refl, ℕ, ◌≤◌, ◌<◌, true, false, ◌||◌, List, [], ◌∷◌, ◌++◌, Option, length, get_or, eqb, append_assoc, arith, inl, inr}, lemmas.{Bool.Decides.{nat_tests}, Str.{IsUtf8-nil}, List.{append-nil, map-append}}}, specs.{Prelude.{MatchOption}, Str.{IsUtf8}}},
+  language_meaning.specs.Token.{Token, text, op, mark, begins_word, is_digit, ends_line, IsQuote, IsToken, Lexes, skip, skip_comment},
+  script_tokens.{specs.{View.{token_of, tokens_of}, Absent.{BeginsNoToken, BeginsNoSign}, Quoted.{EndsNoText}}, proofs.{Runs.{true_or_false}, TokenLaws.{kind_at, kind_of, IsToken-kind, IsToken-unique, IsToken-shorter, IsToken-some, IsUtf8-after_token}, Texts.{IsUtf8-after_ascii}}},
 }
 use Rattle.script_tokens.specs.declared.token.Token as code
 
@@ -13,39 +13,31 @@ no_token_short bytes short t rest is = omega (arith, IsToken-some t bytes rest i
 
 -- what follows a quote is text
 pub IsUtf8-after_quote : (b : ℕ) (bytes rest : List ℕ) → IsQuote b → bytes ≡ b ∷ rest → IsUtf8 bytes → IsUtf8 rest
-IsUtf8-after_quote b bytes rest (inl e) is all = IsUtf8-after_ascii [] b rest (omega arith) (subst IsUtf8 is all)
-IsUtf8-after_quote b bytes rest (inr e) is all = IsUtf8-after_ascii [] b rest (omega arith) (subst IsUtf8 is all)
+IsUtf8-after_quote b _ _ (inl e) is all = IsUtf8-after_ascii [] b _ (omega arith) (subst IsUtf8 is all)
+IsUtf8-after_quote b _ _ (inr e) is all = IsUtf8-after_ascii [] b _ (omega arith) (subst IsUtf8 is all)
 
 pub no_text : (b : ℕ) (bytes rest : List ℕ) → IsQuote b → bytes ≡ b ∷ rest → EndsNoText b rest → BeginsNoToken bytes
-no_text b bytes rest is e none (text s) after (quote, more, was, f, q) =
-    let same : quote ≡ b = cc (e, f) in
-    let others : more ≡ rest = cc (e, f) in
-    none s after (subst (λ (x : ℕ). IsQuoted x s rest after) same (subst (λ (bs : List ℕ). IsQuoted quote s bs after) others q))
-no_text b bytes rest is e none t after was =
-    let kinds : kind_of t ≡ 2 = sym (IsToken-kind t bytes after was) ∙ ap (λ bs. kind_at (get_or bs 0 0)) e ∙ kind_of_quote b is in
+no_text b _ _ is e none (text s) after (quote, more, was, f, q) = grind arith
+no_text b bytes _ is e none t after was =
+    let kinds : kind_of t ≡ 2 = grind (arith, IsToken-kind t bytes after was) in
     absurd (omega arith)
 
 no_sign_no_token : (bytes : List ℕ) → kind_at (get_or bytes 0 0) ≡ 3 → BeginsNoSign bytes → BeginsNoToken bytes
-no_sign_no_token bytes sign none (op o) rest is = none.0 o rest is
-no_sign_no_token bytes sign none (mark m) rest is = none.1 m rest is
-no_sign_no_token bytes sign none t rest is =
-    let kinds : kind_of t ≡ 3 = sym (IsToken-kind t bytes rest is) ∙ sign in
+no_sign_no_token _ sign none (op o) rest is = none.0 o rest is
+no_sign_no_token _ sign none (mark m) rest is = none.1 m rest is
+no_sign_no_token _ sign none t rest is =
+    let kinds = sym (IsToken-kind t _ _ is) ∙ sign in
     absurd (omega arith)
 
 kind_of_sign : (b : ℕ) → begins_word b ≡ false → is_digit b ≡ false → (IsQuote b → ⊥) → kind_at b ≡ 3
-kind_of_sign b letter digit quote = rw (letter, digit) (other (true_or_false (eqb b 39 || eqb b 34)))
-  where
-    other : ((eqb b 39 || eqb b 34) ≡ true) ⊎ ((eqb b 39 || eqb b 34) ≡ false) → ◌≡◌ {A = ℕ} (cond (eqb b 39 || eqb b 34) 2 3) 3
-    other (inl e) = absurd (quote (grind (arith, nat_tests)))
-    other (inr e) = rw e refl
+kind_of_sign = search (rules, true_or_false, nat_tests)
 
 match_none : {A : Type 0} (r : Option A) (P P' : Type 0) (Q : A → Type 0) → (P → P') → MatchOption r P Q → MatchOption r P' Q
-match_none None P P' Q go m = go m
-match_none (Some x) P P' Q go m = m
+match_none r P P' Q = grind arith
 
 pub only_signs : {A : Type 0} (r : Option A) (bytes : List ℕ) (Q : A → Type 0) → begins_word (get_or bytes 0 0) ≡ false → is_digit (get_or bytes 0 0) ≡ false → (IsQuote (get_or bytes 0 0) → ⊥)
     → MatchOption r (BeginsNoSign bytes) Q → MatchOption r (BeginsNoToken bytes) Q
-only_signs r bytes Q letter digit quote = match_none r (BeginsNoSign bytes) (BeginsNoToken bytes) Q (no_sign_no_token bytes (kind_of_sign (get_or bytes 0 0) letter digit quote))
+only_signs r bytes Q letter digit quote = search (match_none, no_sign_no_token, kind_of_sign)
 
 -- ---- what is skipped
 
@@ -68,10 +60,10 @@ mutual
   ]
 
 separator_is_ascii : (b : ℕ) (bs : List ℕ) → (eqb b 32 || eqb b 9 || ends_line b bs) ≡ true → b < 128
-separator_is_ascii b bs e = grind (arith, nat_tests)
+separator_is_ascii = grind (arith, nat_tests)
 
 is_below : (b n : ℕ) → eqb b n ≡ true → n < 128 → b < 128
-is_below b n e low = grind (arith, nat_tests)
+is_below = grind (arith, nat_tests)
 
 mutual
   pub IsUtf8-skip : (bs : List ℕ) → IsUtf8 bs → IsUtf8 (skip bs)
@@ -86,7 +78,7 @@ mutual
 
   -- the bytes of a comment, which may begin within a character
   IsUtf8-skip_comment : (front bs : List ℕ) → IsUtf8 (front ++ bs) → IsUtf8 (skip_comment bs)
-  IsUtf8-skip_comment front [] all = IsUtf8-nil
+  IsUtf8-skip_comment _ [] _ = IsUtf8-nil
   IsUtf8-skip_comment front (b ∷ bs) all = elim (true_or_false (eqb b 10)) [
     | inl ends ↦ rw ends (IsUtf8-skip bs (IsUtf8-after_ascii front b bs (is_below b 10 ends (omega arith)) all))
     | inr goes_on ↦ rw goes_on (IsUtf8-skip_comment (front ++ b ∷ []) bs (subst IsUtf8 (sym (append_assoc front (b ∷ []) bs)) all))
@@ -99,49 +91,41 @@ pub record IsLexedTo (piece rest : List ℕ) (ts : List Token) : Type 0 where
   pub grows : (more : List Token) → Lexes more rest → Lexes (ts ++ more) piece
   pub only : (all : List Token) → Lexes all piece → (more : List Token) × Lexes more rest
 
-pub lexed_none : (piece : List ℕ) → IsLexedTo piece piece []
-lexed_none piece = record { grows = λ more l. l; only = λ all l. (all, l) }
-
 after_token : (t : Token) (rest after : List ℕ) (more : List Token) → IsToken t rest after → Lexes more rest → (others : List Token) × Lexes others (skip after)
-after_token t rest after [] is l = absurd (no_token_short rest (omega (arith, ap length l)) t after is)
-after_token t rest after (u ∷ us) is (r, was, l) = (us, subst (λ (bs : List ℕ). Lexes us (skip bs)) (IsToken-unique u t rest r after was is).1 l)
+after_token t rest after [] is l = grind (arith, no_token_short)
+after_token t rest after (u ∷ us) is (r, was, l) = (us, subst (λ bs. Lexes us (skip bs)) (IsToken-unique u t rest r after was is).1 l)
 
 lexed_step : (piece rest after : List ℕ) (ts : List Token) (t : Token) → IsLexedTo piece rest ts → IsToken t rest after
     → IsLexedTo piece (skip after) (ts ++ t ∷ [])
-lexed_step piece rest after ts t so_far is = record {
-  grows = λ more l. rw append_assoc (so_far.grows (t ∷ more) (after, is, l));
-  only = λ all l. let left = so_far.only all l in after_token t rest after left.0 is left.1;
-}
+lexed_step = grind (arith, append_assoc, after_token)
 
 -- a turn of the loop over a piece
 pub lexed_pushed : (piece rest after rest' : List ℕ) (items items' : List code.Token) (t : code.Token) → IsLexedTo piece rest (tokens_of items)
     → IsToken (token_of t) rest after → items' ≡ items ++ t ∷ [] → rest' ≡ skip after → IsLexedTo piece rest' (tokens_of items')
-lexed_pushed piece rest after rest' items items' t so_far is pushed skipped =
-    rw (pushed, skipped, map-append token_of items (t ∷ [])) (lexed_step piece rest after (tokens_of items) (token_of t) so_far is)
+lexed_pushed = grind (arith, map-append, lexed_step)
 
 pub lexed_shorter : (rest after rest' : List ℕ) (t : Token) → IsToken t rest after → rest' ≡ skip after → length rest' < length rest
 lexed_shorter rest after rest' t is skipped = omega (arith, IsToken-shorter t rest after is, length-skip after, ap length skipped)
 
 pub IsUtf8-after_lexed : (rest after rest' : List ℕ) (t : Token) → IsUtf8 rest → IsToken t rest after → rest' ≡ skip after → IsUtf8 rest'
-IsUtf8-after_lexed rest after rest' t all is skipped = rw skipped (IsUtf8-skip after (IsUtf8-after_token t rest after all is))
+IsUtf8-after_lexed _ _ _ t all is skipped = rw skipped (IsUtf8-skip _ (IsUtf8-after_token t _ _ all is))
 
 pub lexed_end : (piece rest : List ℕ) (ts : List Token) → IsLexedTo piece rest ts → length rest ≡ 0 → Lexes ts piece
-lexed_end piece [] ts so_far none = subst (λ (us : List Token). Lexes us piece) (append-nil ts) (so_far.grows [] refl)
-lexed_end piece (b ∷ bs) ts so_far none = absurd (omega arith)
+lexed_end _ [] ts so_far _ = rw (← append-nil ts) (so_far.grows [] refl)
+lexed_end _ (b ∷ bs) _ so_far none = absurd (omega arith)
 
 stops_there : (rest : List ℕ) (more : List Token) → 0 < length rest → BeginsNoToken rest → Lexes more rest → ⊥
-stops_there rest [] some none l = omega (arith, ap length l)
-stops_there rest (t ∷ ts) some none (after, is, l) = none t after is
+stops_there _ [] some none l = omega (arith, ap length l)
+stops_there _ (t ∷ ts) _ none (after, is, l) = none t after is
 
 pub lexed_stops : (piece rest : List ℕ) (ts : List Token) → IsLexedTo piece rest ts → 0 < length rest → BeginsNoToken rest → (all : List Token) → Lexes all piece → ⊥
-lexed_stops piece rest ts so_far some none all l = let left = so_far.only all l in stops_there rest left.0 some none left.1
+lexed_stops = grind (arith, stops_there)
 
 -- a piece has one list of tokens
 pub Lexes-unique : (ts us : List Token) (bytes : List ℕ) → Lexes ts bytes → Lexes us bytes → ts ≡ us
-Lexes-unique [] [] bytes l m = refl
-Lexes-unique [] (u ∷ us) bytes l (r, is, m) = absurd (no_token_short bytes (omega (arith, ap length l)) u r is)
-Lexes-unique (t ∷ ts) [] bytes (r, is, l) m = absurd (no_token_short bytes (omega (arith, ap length m)) t r is)
-Lexes-unique (t ∷ ts) (u ∷ us) bytes (r, is, l) (s, was, m) =
-    let same = IsToken-unique t u bytes r s is was in
-    let others = Lexes-unique ts us (skip s) (subst (λ (bs : List ℕ). Lexes ts (skip bs)) same.1 l) m in
-    ap (λ xs. t ∷ xs) others ∙ ap (λ x. x ∷ us) same.0
+Lexes-unique [] [] _ l m = refl
+Lexes-unique [] (u ∷ us) _ l (r, is, m) = grind (arith, no_token_short)
+Lexes-unique (t ∷ ts) [] _ (r, is, l) m = grind (arith, no_token_short)
+Lexes-unique (t ∷ ts) (u ∷ us) _ (r, is, l) (s, was, m) =
+    let same = IsToken-unique t u _ r s is was in
+    search (Lexes-unique ts us (skip s) (subst (λ bs. Lexes ts (skip bs)) same.1 l) m)

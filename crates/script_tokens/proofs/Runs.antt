@@ -1,12 +1,11 @@
 -- The longest front of bytes that pass a test.
 use Rattle.{
-  std.{proofs.{Common.{◌≡◌, ◌∙◌, sym, ap, refl, ℕ, zero, suc, ◌+◌, ◌<◌, ◌≤◌, Bool, true, false, ◌&&◌, List, [], ◌∷◌, ◌++◌, length, take, drop, inl, inr, ◌⊎◌, arith}, lemmas.Str.{IsUtf8-from_ascii}}, specs.{List.{list_all, prefix_len}, Str.{IsAscii, IsUtf8}}},
+  std.{proofs.{Common.{◌≡◌, refl, ℕ, zero, suc, ◌+◌, ◌<◌, ◌≤◌, Bool, true, false, ◌&&◌, List, [], ◌∷◌, ◌++◌, length, take, drop, inl, inr, ◌⊎◌, arith}, lemmas.Str.{IsUtf8-from_ascii}}, specs.{List.{list_all, prefix_len}, Str.{IsAscii, IsUtf8}}},
   language_meaning.specs.Token.{IsRun, begins_with},
 }
 
 pub true_or_false : (b : Bool) → (b ≡ true) ⊎ (b ≡ false)
-true_or_false true = inl refl
-true_or_false false = inr refl
+true_or_false = grind arith
 
 -- the run, by its length
 pub run_of_length : (p : ℕ → Bool) (xs : List ℕ) → IsRun p (take (prefix_len p xs) xs) xs (drop (prefix_len p xs) xs)
@@ -15,47 +14,41 @@ run_of_length p (x ∷ xs) = elim (true_or_false (p x)) [
   | inl passes ↦
       let rest = run_of_length p xs in
       let one : 1 + prefix_len p xs ≡ suc (prefix_len p xs) = omega arith in
-      rw (passes, one) (ap (λ ys. x ∷ ys) rest.0, rw passes rest.1, rest.2)
-  | inr fails ↦ rw fails (refl, refl, fails)
+      rw (passes, one) (search, rw passes rest.1, rest.2)
+  | inr fails ↦ search
 ]
 
 pub both_true : (a b : Bool) → (a && b) ≡ true → (a ≡ true) × (b ≡ true)
-both_true true b e = (refl, e)
-both_true false b e = absurd cc
+both_true = grind arith
 
 pub not_both : (b : Bool) → b ≡ true → b ≡ false → ⊥
 not_both b holds fails = cc
 
 same_run : (p : ℕ → Bool) (front rest front' rest' : List ℕ) → front ++ rest ≡ front' ++ rest' → list_all p front ≡ true → list_all p front' ≡ true
     → begins_with p rest ≡ false → begins_with p rest' ≡ false → (front ≡ front') × (rest ≡ rest')
-same_run p [] rest [] rest' e f g h k = (refl, e)
-same_run p [] rest (y ∷ ys) rest' e f g h k =
-    absurd (not_both (p y) (both_true (p y) _ g).0 (sym (ap (begins_with p) e) ∙ h))
-same_run p (x ∷ xs) rest [] rest' e f g h k =
-    absurd (not_both (p x) (both_true (p x) _ f).0 (ap (begins_with p) e ∙ k))
+same_run p [] _ [] _ e f g h k = (refl, e)
+same_run p [] _ (y ∷ ys) _ e f g h k = search (not_both, both_true)
+same_run p (x ∷ xs) _ [] _ e f g h k = search (not_both, both_true)
 same_run p (x ∷ xs) rest (y ∷ ys) rest' e f g h k =
     let first : x ≡ y = cc in
     let others : xs ++ rest ≡ ys ++ rest' = cc in
-    let same = same_run p xs rest ys rest' others (both_true _ _ f).1 (both_true _ _ g).1 h k in
-    (ap (λ zs. x ∷ zs) same.0 ∙ ap (λ z. z ∷ ys) first, same.1)
+    let same = same_run p xs _ ys _ others (both_true _ _ f).1 (both_true _ _ g).1 h k in
+    search
 
 -- there is one run
 pub IsRun-unique : (p : ℕ → Bool) (xs front rest front' rest' : List ℕ) → IsRun p front xs rest → IsRun p front' xs rest' → (front ≡ front') × (rest ≡ rest')
-IsRun-unique p xs front rest front' rest' f g = same_run p front rest front' rest' (sym f.0 ∙ g.0) f.1 g.1 f.2 g.2
+IsRun-unique p xs front rest front' rest' f g = grind (arith, same_run)
 
 pub prefix_len-le : (p : ℕ → Bool) (xs : List ℕ) → prefix_len p xs ≤ length xs
 prefix_len-le p [] = omega arith
-prefix_len-le p (x ∷ xs) = elim (true_or_false (p x)) [
-  | inl passes ↦ let shorter = prefix_len-le p xs in rw passes (omega arith)
-  | inr fails ↦ rw fails (omega arith)
-]
+prefix_len-le p (x ∷ xs) = grind (arith, true_or_false, prefix_len-le p xs)
 
 pub run_at : (p : ℕ → Bool) (xs front rest : List ℕ) (n : ℕ) → n ≡ prefix_len p xs → front ≡ take n xs → rest ≡ drop n xs → IsRun p front xs rest
-run_at p xs front rest n is f r = rw (f, r, is) (run_of_length p xs)
+run_at p xs _ _ n is f r = rw (f, r, is) (run_of_length p xs)
 
 -- bytes that pass a test which only ASCII passes
 IsAscii-run : (p : ℕ → Bool) → ((b : ℕ) → p b ≡ true → b < 128) → (xs : List ℕ) → list_all p xs ≡ true → IsAscii xs
-IsAscii-run p low [] all i = omega arith
+IsAscii-run p low [] _ i = omega arith
 IsAscii-run p low (x ∷ xs) all zero = low x (both_true (p x) _ all).0
 IsAscii-run p low (x ∷ xs) all (suc i) = IsAscii-run p low xs (both_true (p x) _ all).1 i
 

@@ -23,27 +23,27 @@ pairs_of_row-items _ end_of-ArgPairs-items-2 = refl
 pairs_of_row-items _ (more_of-ArgPairs-items-2 {n = n} key a rest) = ap (tree.more_pairs (literal_of key) (arg_of a)) (pairs_of_row-items n rest)
 
 pub arg_of-Many : (l : ArgList) → arg_of (arg.Many l) ≡ tree.many (arg_list (parts_of l))
-arg_of-Many l = search (rules, list_of_row-items, list_lemmas)
+arg_of-Many = search (rules, list_of_row-items, list_lemmas)
 
 pub arg_of-Row : (l : ArgList) → arg_of (arg.Row l) ≡ tree.row (arg_list (parts_of l))
-arg_of-Row l = search (rules, list_of_row-items, list_lemmas)
+arg_of-Row = search (rules, list_of_row-items, list_lemmas)
 
 pub arg_of-Table : (l : ArgPairs) → arg_of (arg.Table l) ≡ tree.table (arg_pairs (pair_parts_of l))
-arg_of-Table l = search (rules, pairs_of_row-items, pairs_lemmas)
+arg_of-Table = search (rules, pairs_of_row-items, pairs_lemmas)
 
 pub expr_of-Make : (w : Words) (l : Args) → expr_of (expr.Make w l) ≡ tree.make w (named_args (named_parts_of l))
-expr_of-Make w l = search (rules, named_of_row-items, the_lemmas)
+expr_of-Make = search (rules, named_of_row-items, the_lemmas)
 
 pub step_of-Method : (w : Words) (l : Args) → step_of (step.Method w l) ≡ tree.method w (named_args (named_parts_of l))
-step_of-Method w l = search (rules, named_of_row-items, the_lemmas)
+step_of-Method = search (rules, named_of_row-items, the_lemmas)
 
 pub step_of-Rolling : (l : Args) (w : Words) (m : Args) → step_of (step.Rolling l w m) ≡ tree.rolling (named_args (named_parts_of l)) w (named_args (named_parts_of m))
-step_of-Rolling l w m = search (rules, named_of_row-items, the_lemmas)
+step_of-Rolling = search (rules, named_of_row-items, the_lemmas)
 
 pub step_of-Expanding : (l : Args) (w : Words) (m : Args) → step_of (step.Expanding l w m) ≡ tree.expanding (named_args (named_parts_of l)) w (named_args (named_parts_of m))
-step_of-Expanding l w m = search (rules, named_of_row-items, the_lemmas)
+step_of-Expanding = search (rules, named_of_row-items, the_lemmas)
 
 pub step_of-Group : (l : Args) (o : Option Arg) (w : Words) (m : Args)
     → step_of (step.Group l o w m) ≡ tree.group (named_args (named_parts_of l)) (optional_arg o) w (named_args (named_parts_of m))
-step_of-Group l None w m = search (rules, named_of_row-items, the_lemmas)
-step_of-Group l (Some a) w m = search (rules, named_of_row-items, the_lemmas)
+step_of-Group l None = search (rules, named_of_row-items, the_lemmas)
+step_of-Group l (Some a) = search (rules, named_of_row-items, the_lemmas)

@@ -23,10 +23,10 @@ value_at-bindings_of (e ∷ es) n = cc (value_at-bindings_of es n)
 -- a map's clauses on its entries, as they stand for names
 module _ {Y : Type 0} (es : List (String Y × Value)) (key : String Y) (x : Text) (named : string_bytes key ≡ x) where
   pub bound_entries : (es' : List (String Y × Value)) (v : Value) → es' ≡ insert_entry string_eq es key v → bindings_of es' ≡ bound (bindings_of es) x v
-  bound_entries es' v e = grind (arith, bindings_of-insert_entry)
+  bound_entries = grind (arith, bindings_of-insert_entry)
 
   pub left_entry : (left : Option Value) → left ≡ lookup (string_eq key) es → left ≡ value_at (bindings_of es) x
-  left_entry left e = grind (arith, value_at-bindings_of, string_bytes)
+  left_entry = grind (arith, value_at-bindings_of, string_bytes)
 
 pub names-bound : (bs : Bindings) (x : Text) (v : Value) → map (λ b. b.0) (bound bs x v) ≡ with_name (map (λ b. b.0) bs) x
 names-bound [] x v = refl
@@ -39,5 +39,5 @@ value_at-bound (b ∷ bs) x v m = grind (arith, true_false, same_congr, same_sym
 
 -- a name stands for its object
 pub named_object : (bs : Bindings) (n : Text) (id : ObjId) → value_at bs n ≡ Some (Object id) → is_named bs id.0 ≡ true
-named_object [] n id e = Prim.cc
+named_object [] n _ e = Prim.cc
 named_object (b ∷ bs) n id e = grind (arith, named_object bs n id)

@@ -5,7 +5,7 @@ use Rattle.{
   outside_io.specs.{Count.{HasRisen, raised}, Whole.{IsWholeFile, IsLonger, IsAbsent}, Files.{FilesValue}},
   meaning.specs.{Text.{Text, Contents}, Fault.{FaultValue, limit}},
   table_meaning.specs.Value.{Given, NamedGiven},
-  form_meaning.specs.{declared.{Function.TheVariants.{ReadCsv}, Parameter.{Parameter}}, Signature.{function_parameters}, Binding.{Bound, not_taken, not_listed, bound, fit, none_missing, are_listed, argument_at, arguments_from, on_bound}},
+  form_meaning.specs.{declared.{Function.TheVariants.{ReadCsv}, Parameter.{Parameter}}, Signature.{function_parameters}, Binding.{Bound, not_taken, not_listed, bound, fit, argument_at, arguments_from, on_bound}},
   cell_core.specs.declared.cell.Kind.{Kind},
   csv_meaning.specs.CsvRead.{beyond_limits, not_utf8, columns_of_file, columns_of_records},
   method_meaning.specs.Readers.{name_of_bound, file_name_of, csv_result, read_result},
@@ -19,41 +19,38 @@ module _ {A : Type 0} (texts : List Text) (names : List FileName) (held : Conten
 
   -- a name that stands for no path
   pub unnamed_file : (s : FilesValue) (f : EvalFault) → path_of_name (paths_of names) name ≡ None → IsNoFile f name → Halts Err texts (files_in names held) s s whole f
-  unnamed_file s x none is = grind (arith, goes_same)
+  unnamed_file = grind (arith, goes_same)
 
   module _ (path : Text) (found : path_of_name (paths_of names) name ≡ Some path) (old new : FilesValue) (once : new.fetches ≡ raised old.fetches 1) where
-    whole_fetches : whole.fetches ≡ 1 + 0
-    whole_fetches = search
-
     -- something was fetched, so the files tell their contents
     never : Holds None 1 whole.fetches held → ⊥
-    never x = grind (arith, whole_fetches)
+    never = grind arith
 
     fetched : (r : Result A FaultValue) → (Holds old.contents 1 whole.fetches held → of_bytes name (get held path) go ≡ r) → Goes held old new whole (at_once r)
     fetched r is = record { fetched = 1; counted = once; meant = λ h. ap (λ p. of_path held name p go) found ∙ ap (λ r. after 1 (at_once r)) (is h) }
 
     pub spent_file : Spends held old new whole
-    spent_file = record { fetched = 1; counted = once; within = λ h. omega (arith, whole_fetches) }
+    spent_file = record { fetched = 1; counted = once; within = λ h. grind arith }
 
     pub whole_file : (bytes : List ℕ) → IsWholeFile old.contents path bytes → Goes held old new whole (at_once (go bytes))
-    whole_file bytes is = fetched (go bytes) (at old.contents is)
+    whole_file bytes is = fetched _ (at old.contents is)
       where
         at : (contents : Option Contents) → IsWholeFile contents path bytes → Holds contents 1 whole.fetches held → of_bytes name (get held path) go ≡ go bytes
-        at None is h = absurd (never h)
+        at None _ h = absurd (never h)
         at (Some told) is h = ap (λ c. of_bytes name (get c path) go) h ∙ ap (λ o. of_bytes name o go) is
 
     pub absent_file : (f : EvalFault) → IsNoFile f name → IsAbsent old.contents path → HasRisen old.absences new.absences → Halts Err texts (files_in names held) old new whole f
-    absent_file x none is risen = grind (arith, fetched, never, spent_file)
+    absent_file = grind (arith, fetched, never, spent_file)
 
     pub long_file : RefusesLong go → IsLonger old.contents path (2 ^ 28) → Goes held old new whole (at_once (Err limit))
-    long_file refuses is = fetched (Err limit) (at old.contents is)
+    long_file refuses is = fetched _ (at old.contents is)
       where
         at : (contents : Option Contents) → IsLonger contents path (2 ^ 28) → Holds contents 1 whole.fetches held → of_bytes name (get held path) go ≡ Err limit
-        at None is h = absurd (never h)
+        at None _ h = absurd (never h)
         at (Some told) is h = ap (λ c. of_bytes name (get c path) go) h ∙ ap (λ o. of_bytes name o go) is.1 ∙ refuses is.0 is.2
 
     pub failed_file : HasRisen old.faults new.faults → Stuck held old new whole
-    failed_file risen = record { fetched = 1; counted = once; some = omega (arith); within = λ h. omega (arith, whole_fetches); risen = risen }
+    failed_file risen = record { fetched = 1; counted = once; some = omega (arith); within = λ h. grind arith; risen = risen }
 
 -- bytes beyond the limits are refused, where the arguments name a file
 module _ (gs : List NamedGiven) where
@@ -69,10 +66,10 @@ module _ (gs : List NamedGiven) where
       ap (λ b. if b then Err beyond_limits else if nat_lt (utf8_valid_len bytes) (length bytes) then Err (not_utf8 (utf8_valid_len bytes)) else columns_of_records kinds (records default_config (strip_bom bytes))) beyond
 
   long_result : (bytes : List ℕ) → 2 ^ 28 < length bytes → (name backend dtype : Given) → csv_result bytes (name ∷ backend ∷ dtype ∷ []) ≡ Err limit
-  long_result bytes long name backend dtype = search long_columns
+  long_result = search long_columns
 
   pub refuses_long : (name : Text) → file_name_of ReadCsv gs ≡ Ok name → RefusesLong (λ bytes. read_result bytes gs)
-  refuses_long name is bytes long = go (fit ps 0 gs) (none_missing ps gs 0 ps) (are_listed ps 0 gs) is
+  refuses_long name is bytes long = go (fit ps 0 gs) _ _ is
     where
       go : (a b c : Bool) → name_of_bound (bound_by a b c) ≡ Ok name → on_bound (bound_by a b c) (csv_result bytes) ≡ Err limit
       go true true true e = long_result bytes long (argument_at ps gs 0) (argument_at ps gs (0 + 1)) (argument_at ps gs (0 + 1 + 1))

@@ -10,8 +10,8 @@ use Rattle.{
 
 wrapped : (n : ℕ) → n < 18446744073709551616 → int_wrap w64 (pos n) ≡ cast_signed w64 n
 unfolding int_wrap
-wrapped n small = search mod-eq_of_lt
+wrapped = search mod-eq_of_lt
 
 pub length_answer : (w : World) (on : Value) (id : ObjId) (t : NumberedTable) (n : ℕ) (z : ℤ) → on ≡ Object id → w.tables id.0 ≡ Some t → n ≡ length t.labels → n < 18446744073709551616 → z ≡ cast_signed w64 n
     → length_result (entry_in w on) ≡ Ok (cell (int_cell (to_z w64 (of_z w64 z))))
-length_answer w on id t n z is at rows small signed = grind (arith, length-map, wrapped, of_z-to_z)
+length_answer = grind (arith, length-map, wrapped, of_z-to_z)

@@ -7,47 +7,44 @@ use Rattle.{
   script_work.{specs.Bindings.{Bindings, bindings_of, value_at, is_named, is_object, AreLive, AreNamed, IsOf}, proofs.{Numbers.{nat_same, some_none}, Bindings.{value_at-bindings_of}, Worlds.{some_shown, none_shown}}},
 }
 
-is_object_same : (v : Value) (id : ObjId) → is_object v id.0 ≡ true → v ≡ Object id
-is_object_same x id e = grind (arith, nat_same)
-
 -- an entry of an object that is named
 place_of_named : {Y : Type 0} (es : List (String Y × Value)) (id : ObjId) → is_named (bindings_of es) id.0 ≡ true → (i : ℕ) × (k : String Y) × (slice_get es i ≡ Some (k, Object id))
-place_of_named [] id e = Prim.cc
-place_of_named {Y} (e ∷ es) id named = go (place_of_named es id) (is_object e.1 id.0) refl named
+place_of_named [] _ e = Prim.cc
+place_of_named {Y} (e ∷ es) id named = go (place_of_named es id) _ refl named
   where
     later : (i : ℕ) × (k : String Y) × (slice_get es i ≡ Some (k, Object id)) → (i : ℕ) × (k : String Y) × (slice_get (e ∷ es) i ≡ Some (k, Object id))
     later p = (suc p.0, p.1, p.2)
 
     go : (is_named (bindings_of es) id.0 ≡ true → (i : ℕ) × (k : String Y) × (slice_get es i ≡ Some (k, Object id))) → (c : Bool) → is_object e.1 id.0 ≡ c → (if c then true else is_named (bindings_of es) id.0) ≡ true
         → (i : ℕ) × (k : String Y) × (slice_get (e ∷ es) i ≡ Some (k, Object id))
-    go among true is named = (zero, e.0, grind (arith, is_object_same))
-    go among false is named = later (among named)
+    go among true is named = (zero, e.0, grind (arith, nat_same))
+    go among false _ named = later (among named)
 
 module _ {Y : Type 0} (es : List (String Y × Value)) (unique : IsDistinct string_eq (keys_of es)) where
   pub name_of_named : (id : ObjId) → is_named (bindings_of es) id.0 ≡ true → (n : Text) × (value_at (bindings_of es) n ≡ Some (Object id))
   name_of_named id named =
       let p = place_of_named es id named in
-      (string_bytes p.1, value_at-bindings_of es (string_bytes p.1) ∙ lookup_from_place string_eq_equiv es p.0 p.1 (Object id) unique p.2)
+      (string_bytes p.1, value_at-bindings_of es _ ∙ lookup_from_place string_eq_equiv es p.0 p.1 _ unique p.2)
 
   pub live_are_named : (w : World) → AreLive (bindings_of es) w.tables → AreNamed (bindings_of es) w.tables → (id : ObjId) → IsSome (objects_of w id.0) ↔ ((n : Text) × (value_at (bindings_of es) n ≡ Some (Object id)))
-  live_are_named w live named id = grind (arith, name_of_named, some_shown)
+  live_are_named = grind (arith, name_of_named, some_shown)
 
   pub named_live : (tables : Tables) → AreLive (bindings_of es) tables → (id : ℕ) → is_named (bindings_of es) id ≡ true → IsSome (tables id)
-  named_live tables live id named = let p = name_of_named (record { 0 = id }) named in live p.0 (record { 0 = id }) p.1
+  named_live _ live id named = let p = name_of_named _ named in live p.0 (record { 0 = id }) p.1
 
   -- no name stands for an object that isn't live
   unnamed : (tables : Tables) → AreLive (bindings_of es) tables → (id : ObjId) → tables id.0 ≡ None → is_named (bindings_of es) id.0 ≡ false
-  unnamed tables live id none = go (is_named (bindings_of es) id.0) refl
+  unnamed _ live id none = go _ refl
     where
       go : (b : Bool) → is_named (bindings_of es) id.0 ≡ b → b ≡ false
-      go true named = let p = name_of_named id named in some_none (tables id.0) (live p.0 id p.1) none
-      go false named = refl
+      go true named = let p = name_of_named id named in some_none _ (live p.0 id p.1) none
+      go false _ = refl
 
   -- and so for none that a form makes
   pub form_unnamed : (bs : Bindings) (r : Result Value OpFault) (meant : Result Entry FaultValue) (old new : World) → bs ≡ bindings_of es → AreLive (bindings_of es) old.tables → Forms r meant old new → IfOk r (λ v. IsOf bs None v)
-  form_unnamed bs r meant old new same live answers = subst (λ b. IfOk r (λ v. IsOf b None v)) (sym same) (go r answers)
+  form_unnamed _ r meant old new same live answers = subst (λ b. IfOk r (λ v. IsOf b None v)) (sym same) (go r answers)
     where
       go : (r : Result Value OpFault) → Forms r meant old new → IfOk r (λ v. IsOf (bindings_of es) None v)
-      go (Ok (Object id)) answers = unnamed old.tables live id (none_shown old id.0 answers.0.1.0)
-      go (Ok (Scalar c)) answers = tt
-      go (Err f) answers = tt
+      go (Ok (Object id)) answers = search (unnamed, none_shown)
+      go (Ok (Scalar c)) _ = tt
+      go (Err f) _ = tt

@@ -5,20 +5,20 @@ use Rattle.{
 }
 
 pub nat_same : (a b : ℕ) → nat_eq a b ≡ true → a ≡ b
-nat_same a b e = grind (arith, nat_tests)
+nat_same = grind (arith, nat_tests)
 
 pub nat_eq_self : (n : ℕ) → nat_eq n n ≡ true
-nat_eq_self n = grind (arith, nat_tests)
+nat_eq_self = grind (arith, nat_tests)
 
 pub true_false : {P : Type 0} (b : Bool) → b ≡ true → b ≡ false → P
-true_false x e f = grind arith
+true_false = grind arith
 
 pub some_none : {X P : Type 0} (o : Option X) → IsSome o → o ≡ None → P
-some_none x1 live e = grind arith
+some_none = grind arith
 
 -- a text that is the same as one is like it to every other
 pub same_congr : (a b c : Text) → same_text a b ≡ true → same_text a c ≡ same_text b c
-same_congr a b c e = search rules
+same_congr = search rules
 
 pub same_sym : (a b : Text) → same_text a b ≡ same_text b a
-same_sym a b = search rules
+same_sym = search rules

@@ -13,4 +13,4 @@ use Rattle.{
 
 pub object_text : (texts : List Text) (tables : Tables) (v : Value) (id : ObjId) (t : NumberedTable) (shape : Shape) → v ≡ Object id → tables id.0 ≡ Some t → IsWhole t → HaveLevels (length t.level_names) t.labels → shape ≡ t.shape
     → text_of_shape shape (told texts (grid_of t)) ≡ entry_text (entry_of tables texts v)
-object_text texts tables v id t shape is at whole levels e = grind (arith, told_whole, shape_told)
+object_text = grind (arith, told_whole, shape_told)

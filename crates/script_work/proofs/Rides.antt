@@ -8,22 +8,16 @@ use Rattle.{
   frame_store.specs.{declared.{arguments.Value.{Value}, fault.OpFault.{OpFault}}, World.{World, entry_in, Forms}},
   script_meaning.specs.{Reading.{Files, Reading, Reads, at_once, gives, after, then_or, then_read}, Expression.{where_named, value_of_name}},
   script_work.{specs.{Bindings.{Bindings, value_at}, declared.fault.EvalFault.{EvalFault, TheVariants.{Refused, Input, NoMemory}}, Faults.{IsNoAttribute, IsNoName, evaluated}, Reads.{both_of, Holds, Goes, Stuck, Spends, Halts, Reaches, ReachesBytes, IsCaused, absent_name, count_after}}, proofs.Worlds.{entry_seen}},
-  fault_laws.specs.FormFault.{IsOfForm, HasFormFault},
+  fault_laws.specs.FormFault.{HasFormFault},
 }
 
 -- counts of fetches
 none_more : (n : ℕ) → 0 + n ≡ n
-none_more n = omega (arith)
-
-pub count_both : (count m n : ℕ) → count_after (count_after count m) n ≡ count_after count (m + n)
-count_both count x n = grind (arith, none_more)
+none_more = omega (arith)
 
 -- readings after fetches
 pub after_both : {X : Type 0} (m n : ℕ) (r : Reading X) → after m (after n r) ≡ after (m + n) r
-after_both m n r = grind arith
-
-pub after_none : {X : Type 0} (r : Reading X) → after 0 r ≡ r
-after_none r = search none_more
+after_both = grind arith
 
 abbrev found_after : {X : Type 0} → X → ℕ → Reading X
 found_after x n = record { fetches = n; answer = x }
@@ -33,24 +27,20 @@ ended m n x is = cc
 
 module _ {A X : Type 0} (stop : FaultValue → X) where
   pub then_gives : (a : A) (go : A → Reading X) → then_or stop (gives a) go ≡ go a
-  then_gives a go = after_none (go a)
+  then_gives = search none_more
 
   pub then_after : (n : ℕ) (r : Reads A) (go : A → Reading X) → then_or stop (after n r) go ≡ after n (then_or stop r go)
-  then_after n r go = search after_both
+  then_after = search after_both
 
 -- two parts that are read together
 module _ {X : Type 0} (stop : FaultValue → X) where
   module _ {A B : Type 0} where
     both_at : (a : A) (go : A → B → Reading X) (n : ℕ) (r : Result B FaultValue)
         → then_or stop (record { fetches = n; answer = r }) (go a) ≡ then_or stop (then_read (record { fetches = n; answer = r }) (λ w. let p : A × B = (a, w) in gives p)) (λ p. go p.0 p.1)
-    both_at a go n x = grind (arith, then_after, then_gives, ended)
-
-    both_from : (y : Reads B) (go : A → B → Reading X) (n : ℕ) (r : Result A FaultValue)
-        → then_or stop (record { fetches = n; answer = r }) (λ a. then_or stop y (go a)) ≡ then_or stop (both_of (record { fetches = n; answer = r }) y) (λ p. go p.0 p.1)
-    both_from y go n x = grind (arith, both_at, then_after, ended)
+    both_at = grind (arith, then_after, then_gives, ended)
 
     pub both_then : (x : Reads A) (y : Reads B) (go : A → B → Reading X) → then_or stop x (λ a. then_or stop y (go a)) ≡ then_or stop (both_of x y) (λ p. go p.0 p.1)
-    both_then x y go = both_from y go x.fetches x.answer
+    both_then = grind (arith, both_at, then_after, ended)
 
 -- the contents that hold for all fetches hold for the first and for the last of them
 none_of_both : (m n : ℕ) → m + n ≡ 0 → m ≡ 0
@@ -59,42 +49,28 @@ none_of_both m n is = omega (arith, is)
 none_of_last : (m n : ℕ) → m + n ≡ 0 → n ≡ 0
 none_of_last m n is = omega (arith, is)
 
-holds_first : (contents : Option Contents) (m n all : ℕ) (held : Contents) → Holds contents (m + n) all held → Holds contents m all held
-holds_first x m n all held h = grind (arith, none_of_both)
-
--- those that hold for a whole hold for what is left of it
-holds_last : (contents : Option Contents) (m n all left : ℕ) (held : Contents) → all ≡ m + left → Holds contents (m + n) all held → Holds contents n left held
-holds_last x m n all left held is h = grind (arith, none_of_last)
-
--- and those that hold for what goes on hold for its first part
-holds_part : (contents : Option Contents) (n part more : ℕ) (held : Contents) → Holds contents n (part + more) held → Holds contents n part held
-holds_part x n part more held h = grind (arith, none_of_both)
-
 pub serves_self : (s : FilesValue) → Serves s s
-serves_self s = grind arith
+serves_self = grind arith
 
 pub serves_both : {first second third : FilesValue} → Serves first second → Serves second third → Serves first third
-serves_both p q = grind arith
+serves_both = grind arith
 
 -- the cause of a file that isn't there
 caused_later : {first second : FilesValue} (third : FilesValue) → Serves first second → (paths : List (Text × Text)) (name : Option Text) → IsCaused paths second third name → IsCaused paths first third name
-caused_later third serves paths x cause = grind arith
+caused_later = grind arith
 
 -- a fault that isn't that of a file
 pub uncaused : (paths : List (Text × Text)) (old new : FilesValue) (name : Option Text) → name ≡ None → IsCaused paths old new name
-uncaused paths old new name is = rw is tt
-
-pub form_uncaused : (texts : List Text) (paths : List (Text × Text)) (old new : FilesValue) (code : Code) → IsOfForm (fault_of texts code) → IsCaused paths old new (absent_name code)
-form_uncaused texts paths old new x form = grind arith
+uncaused _ _ _ _ is = rw is tt
 
 -- the fault of a form, in what is meant
 pub fault_uncaused : {A : Type 0} (texts : List Text) (paths : List (Text × Text)) (old new : FilesValue) (code : Code) (meant : Result A FaultValue) → HasFormFault meant → meant ≡ Err (fault_of texts code) → IsCaused paths old new (absent_name code)
-fault_uncaused texts paths old new code meant form is = grind (arith, form_uncaused)
+fault_uncaused = grind arith
 
 module _ {X : Type 0} {held : Contents} where
   -- nothing was fetched
   pub goes_same : {s : FilesValue} {whole rest : Reading X} → whole ≡ rest → Goes held s s whole rest
-  goes_same {s} {whole} {rest} is = grind (arith, after_none)
+  goes_same {s} {whole} {rest} = grind (arith, none_more)
 
   pub goes_by : {old new : FilesValue} {whole other rest : Reading X} → whole ≡ other → Goes held old new other rest → Goes held old new whole rest
   goes_by {old} {new} {whole} {other} {rest} is g = rw is g
@@ -105,116 +81,107 @@ module _ {X : Type 0} {held : Contents} where
   module _ {first second : FilesValue} {a b : Reading X} (serves : Serves first second) (p : Goes held first second a b) where
     -- what holds for the whole holds for both parts of it
     halves : (n : ℕ) → Holds first.contents (p.fetched + n) a.fetches held → (a ≡ after p.fetched b) × Holds second.contents n b.fetches held
-    halves n h = grind (arith, holds_first, holds_last)
+    halves = grind (arith, none_of_both, none_of_last)
 
     counted_both : (third : FilesValue) (n : ℕ) → third.fetches ≡ count_after second.fetches n → third.fetches ≡ count_after first.fetches (p.fetched + n)
-    counted_both third n is = grind (arith, count_both)
+    counted_both = grind (arith, none_more)
 
     within_both : (n : ℕ) → (Holds second.contents n b.fetches held → n ≤ b.fetches) → Holds first.contents (p.fetched + n) a.fetches held → p.fetched + n ≤ a.fetches
-    within_both n within h = grind (arith, halves)
+    within_both = grind (arith, halves)
 
     pub goes_both : {third : FilesValue} {c : Reading X} → Goes held second third b c → Goes held first third a c
-    goes_both {third} {c} q = grind (arith, counted_both, halves, after_both)
+    goes_both {third} {c} = grind (arith, counted_both, halves, after_both)
 
     -- a read failed later
     pub stuck_both : {third : FilesValue} → Stuck held second third b → Stuck held first third a
-    stuck_both {third} q = grind (arith, counted_both, within_both)
+    stuck_both {third} = grind (arith, counted_both, within_both)
 
     -- memory was refused later
     pub spends_both : {third : FilesValue} → Spends held second third b → Spends held first third a
     spends_both {third} q = search (counted_both, within_both)
 
-  pub stuck_by : {old new : FilesValue} {whole other : Reading X} → whole ≡ other → Stuck held old new other → Stuck held old new whole
-  stuck_by {old} {new} is g = rw is g
-
-  pub spends_by : {old new : FilesValue} {whole other : Reading X} → whole ≡ other → Spends held old new other → Spends held old new whole
-  spends_by {old} {new} is g = rw is g
-
   pub goes_spends : {old new : FilesValue} {whole rest : Reading X} → Goes held old new whole rest → Spends held old new whole
-  goes_spends {old} {new} {whole} {rest} g = grind arith
+  goes_spends {old} {new} {whole} {rest} = grind arith
 
   pub spends_none : {s : FilesValue} {whole : Reading X} → Spends held s s whole
   spends_none {s} {whole} = grind arith
 
 module _ {X : Type 0} (stop : FaultValue → X) (texts : List Text) where
   pub halts_by : (files : Files) (old new : FilesValue) {whole other : Reading X} (f : EvalFault) → whole ≡ other → Halts stop texts files old new other f → Halts stop texts files old new whole f
-  halts_by files old new x is h = grind (arith, goes_by, stuck_by, spends_by)
+  halts_by = grind (arith, goes_by)
 
   pub halts_both : (files : Files) (third : FilesValue) {first second : FilesValue} {a b : Reading X} (f : EvalFault) → Serves first second → Goes files.held first second a b → Halts stop texts files second third b f → Halts stop texts files first third a f
-  halts_both files third (Refused code) serves p h = search (goes_both, caused_later)
-  halts_both files third Input serves p h = stuck_both serves p h
-  halts_both files third NoMemory serves p h = spends_both serves p h
+  halts_both _ _ (Refused code) serves p h = search (goes_both, caused_later)
+  halts_both _ _ Input serves p h = stuck_both serves p h
+  halts_both _ _ NoMemory serves p h = spends_both serves p h
 
 within_then : {A X : Type 0} (stop : FaultValue → X) (go : A → Reading X) (held : Contents) (contents : Option Contents) (whole : Reads A) (n : ℕ)
     → (Holds contents n whole.fetches held → n ≤ whole.fetches) → Holds contents n (then_or stop whole go).fetches held → n ≤ (then_or stop whole go).fetches
-within_then stop go held contents whole n within h = grind (arith, holds_part)
+within_then = grind (arith, none_of_both)
 
 module _ {A X : Type 0} {held : Contents} (stop : FaultValue → X) (go : A → Reading X) where
   -- what follows a reading
   pub goes_then : {old new : FilesValue} {whole rest : Reads A} → Goes held old new whole rest → Goes held old new (then_or stop whole go) (then_or stop rest go)
-  goes_then {old} {new} {whole} {rest} g = grind (arith, holds_part, then_after)
+  goes_then {old} {new} {whole} {rest} = grind (arith, none_of_both, then_after)
 
   -- the value goes on
   pub goes_value : {old new : FilesValue} {whole : Reads A} (a : A) (rest : Reading X) → Goes held old new whole (gives a) → go a ≡ rest → Goes held old new (then_or stop whole go) rest
-  goes_value a rest g is = goes_to (goes_then g) (then_gives stop a go ∙ is)
-
-  pub stuck_then : {old new : FilesValue} {whole : Reads A} → Stuck held old new whole → Stuck held old new (then_or stop whole go)
-  stuck_then {old} {new} {whole} g = grind (arith, within_then)
+  goes_value a _ g is = goes_to (goes_then g) (then_gives stop a go ∙ is)
 
   pub spends_then : {old new : FilesValue} {whole : Reads A} → Spends held old new whole → Spends held old new (then_or stop whole go)
-  spends_then {old} {new} {whole} g = grind (arith, within_then)
+  spends_then {old} {new} {whole} = grind (arith, within_then)
 
 -- the fault of the first stops the whole
 pub halts_first : {A X : Type 0} (texts : List Text) (files : Files) (old new : FilesValue) (whole : Reads A) (stop : FaultValue → X) (go : A → Reading X) (f : EvalFault)
     → Halts Err texts files old new whole f → Halts stop texts files old new (then_or stop whole go) f
-halts_first texts files old new whole stop go x h = grind (arith, goes_to, goes_then, ended, none_more, stuck_then, spends_then)
+halts_first = grind (arith, goes_to, goes_then, ended, none_more, within_then, spends_then)
 
 -- a fault after the first value
 pub halts_later : {A X : Type 0} (texts : List Text) (files : Files) (third : FilesValue) {first second : FilesValue} {whole : Reads A} (stop : FaultValue → X) (go : A → Reading X) (a : A) (f : EvalFault)
     → Serves first second → Goes files.held first second whole (gives a) → Halts stop texts files second third (go a) f → Halts stop texts files first third (then_or stop whole go) f
-halts_later texts files third stop go a f serves g h = search (halts_both, goes_value)
+halts_later = search (halts_both, goes_value)
 
 -- what an evaluation reaches
 module _ {V A : Type 0} (view : V → A) (texts : List Text) (files : Files) where
   pub reaches_both : (third : FilesValue) {first second : FilesValue} {whole rest : Reads A} (r : Result V EvalFault) → Serves first second → Goes files.held first second whole rest
       → Reaches view texts files second third rest r → Reaches view texts files first third whole r
-  reaches_both third (Ok v) serves g h = goes_both serves g h
-  reaches_both third (Err f) serves g h = search halts_both
+  reaches_both _ (Ok v) serves g h = goes_both serves g h
+  reaches_both _ (Err f) serves g h = search halts_both
 
   pub reaches_by : (old new : FilesValue) {whole rest : Reads A} (r : Result V EvalFault) → whole ≡ rest → Reaches view texts files old new rest r → Reaches view texts files old new whole r
-  reaches_by old new x is h = grind (arith, goes_by, halts_by)
+  reaches_by = grind (arith, goes_by, halts_by)
 
 pub bytes_by : {A : Type 0} (texts : List Text) (files : Files) (old new : FilesValue) {whole other : Reads A} (go : List ℕ → Result A FaultValue) (r : Result (List ℕ) EvalFault) → whole ≡ other
     → ReachesBytes go texts files old new other r → ReachesBytes go texts files old new whole r
-bytes_by texts files old new go x is h = grind (arith, goes_by, halts_by)
+bytes_by = grind (arith, goes_by, halts_by)
 
 -- what a form answers, as the whole does
 module _ (w w' : World) (files : Files) {old new : FilesValue} {whole : Reads Entry} (meant : Result Entry FaultValue) (form : HasFormFault meant) (g : Goes files.held old new whole (at_once meant)) where
   form_at : (r : Result Value OpFault) → Forms r meant w w' → Reaches (entry_in w') w'.texts files old new whole (evaluated r)
-  form_at x answers = grind (arith, goes_to, entry_seen, fault_uncaused, goes_spends)
+  form_at = grind (arith, goes_to, entry_seen, fault_uncaused, goes_spends)
 
   pub form_reads : (r : Result Value OpFault) (r' : Result Value EvalFault) → r' ≡ evaluated r → Forms r meant w w' → Reaches (entry_in w') w'.texts files old new whole r'
-  form_reads r r' is answers = grind (arith, form_at)
+  form_reads = grind (arith, form_at)
 
 pub evaluated_if : (P : Value → Type 0) (r : Result Value OpFault) (r' : Result Value EvalFault) → r' ≡ evaluated r → IfOk r P → IfOk r' P
-evaluated_if P r r' is h = grind arith
+evaluated_if P = grind arith
 
 -- a name that isn't there is the fault, or memory was refused
 pub unknown_fault : (texts : List Text) (files : Files) (s : FilesValue) (f : EvalFault) (known : Bool) (n : Text) (rest : Reads Entry) → IsNoAttribute f n known → Halts Err texts files s s (where_named known n rest) f
-unknown_fault texts files s x known n rest none = grind (arith, goes_same, uncaused, spends_none)
+unknown_fault = grind (arith, goes_same, uncaused, spends_none)
 
 -- a name that stands for nothing
 pub unnamed_fault : (texts : List Text) (files : Files) (s : FilesValue) (bs : Bindings) (w : World) (n : Text) (f : EvalFault) → IsNoName f n (value_at bs n) → Halts Err texts files s s (at_once (value_of_name n (option_map (entry_in w) (value_at bs n)))) f
-unnamed_fault texts files s bs w n x none = grind (arith, goes_same, uncaused, spends_none)
+unnamed_fault = grind (arith, goes_same, uncaused, spends_none)
 
 -- the value of a name
 pub name_reads : (files : Files) (s : FilesValue) (bs : Bindings) (w : World) (n : Text) (r : Result Value EvalFault) → IfOk r (λ v. value_at bs n ≡ Some v) → IfErr r (λ f. IsNoName f n (value_at bs n))
     → Reaches (entry_in w) w.texts files s s (at_once (value_of_name n (option_map (entry_in w) (value_at bs n)))) r
-name_reads files s bs w n x is none = grind (arith, goes_same, unnamed_fault)
+name_reads = grind (arith, goes_same, unnamed_fault)
 
 -- what is made without a fetch, unless memory is refused
 pub made_reads : (files : Files) (s : FilesValue) (w : World) (e : Entry) (r : Result Value EvalFault) → IfOk r (λ v. entry_in w v ≡ e) → IfErr r (λ f. f ≡ NoMemory) → Reaches (entry_in w) w.texts files s s (gives e) r
-made_reads files s w e x is memory = grind (arith, goes_same, spends_none)
+made_reads = grind (arith, goes_same, spends_none)
 
 -- The parts of a list one after the other: the parts so far are joined to what the rest gives.
 abbrev pub ahead : {G L : Type 0} → (G → L → L) → Reads G → Reads L → Reads L
@@ -224,29 +191,20 @@ abbrev pub joined : {L : Type 0} → (L → L → L) → L → Reads L → Reads
 joined join so_far rest = then_read rest (λ l. gives (join so_far l))
 
 module _ {G L : Type 0} (cons : G → L → L) (join : L → L → L) where
-  -- one part more
-  joined_at : (g : G) (so_far so_far' : L) → ((l : L) → join so_far (cons g l) ≡ join so_far' l) → (n : ℕ) (r : Result L FaultValue)
-      → joined join so_far (then_read (record { fetches = n; answer = r }) (λ l. gives (cons g l))) ≡ joined join so_far' (record { fetches = n; answer = r })
-  joined_at g so_far so_far' law n x = grind (arith, then_after, then_gives, ended)
-
-  joined_next : (rest : Reads L) (g : G) (so_far so_far' : L) → ((l : L) → join so_far (cons g l) ≡ join so_far' l)
-      → joined join so_far (then_read rest (λ l. gives (cons g l))) ≡ joined join so_far' rest
-  joined_next rest g so_far so_far' law = grind (arith, joined_at)
-
   module _ {held : Contents} {whole : Reads L} {old mid new : FilesValue} (serves : Serves old mid) (first : Reads G) (rest : Reads L) (so_far : L) (seen : Goes held old mid whole (joined join so_far (ahead cons first rest))) where
     pub loop_next : (g : G) (so_far' : L) → Goes held mid new first (gives g) → ((l : L) → join so_far (cons g l) ≡ join so_far' l) → Goes held old new whole (joined join so_far' rest)
-    loop_next g so_far' is law =
+    loop_next g _ is law =
         goes_both serves seen
-        (grind (arith, goes_to, goes_then, goes_value, joined_next))
+        (grind (arith, goes_to, goes_then, goes_value, then_after, then_gives, ended))
 
   pub loop_end : {held : Contents} {whole : Reads L} {old new : FilesValue} (rest : Reads L) (end so_far : L) → Goes held old new whole (joined join so_far rest) → rest ≡ gives end → join so_far end ≡ so_far → Goes held old new whole (gives so_far)
-  loop_end rest end so_far seen is law = goes_to seen (search then_gives)
+  loop_end _ _ _ seen is law = goes_to seen (search then_gives)
 
 pub loop_fault : {G L : Type 0} (texts : List Text) (files : Files) (new : FilesValue) (cons : G → L → L) (join : L → L → L) {whole : Reads L} {old mid : FilesValue} (serves : Serves old mid) (first : Reads G) (rest : Reads L) (so_far : L)
     → Goes files.held old mid whole (joined join so_far (ahead cons first rest)) → (f : EvalFault) → Halts Err texts files mid new first f → Halts Err texts files old new whole f
-loop_fault texts files new cons join {whole} {old} {mid} serves first rest so_far seen f h = search (halts_both, halts_first)
+loop_fault _ _ _ _ _ {whole} {old} {mid} = search (halts_both, halts_first)
 
 -- memory was refused after one part more
 pub loop_spends : {G L : Type 0} {held : Contents} (cons : G → L → L) (join : L → L → L) {whole : Reads L} {old mid new : FilesValue} (serves : Serves old mid) (first : Reads G) (rest : Reads L) (so_far : L)
     → Goes held old mid whole (joined join so_far (ahead cons first rest)) → (g : G) → Goes held mid new first (gives g) → Spends held old new whole
-loop_spends cons join serves first rest so_far seen g is = search (spends_both, spends_then, goes_spends)
+loop_spends = search (spends_both, spends_then, goes_spends)

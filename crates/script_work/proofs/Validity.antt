@@ -1,11 +1,11 @@
 -- The tables of live objects stay valid.
 use Rattle.{
-  std.{proofs.{Common.{arith, ◌≡◌, ℕ, Bool, true, false, nat_eq, List, Option, Some, None, refl, sym, ap, subst, IsSome}, lemmas.List.Elements.{All-nil}}, specs.Prelude.{if◌then◌else◌, option_map, ⊤, Result, Ok, Err, IfOk, IfSome, List, [], ◌∷◌, All}},
+  std.{proofs.{Common.{arith, ◌≡◌, ℕ, Bool, true, false, nat_eq, List, Option, Some, None, refl, sym, subst, IsSome}, lemmas.List.Elements.{All-nil}}, specs.Prelude.{if◌then◌else◌, option_map, ⊤, Result, Ok, Err, IfOk, IfSome, List, [], ◌∷◌, All}},
   meaning.specs.{Cell.{IsLonger}, Text.{Text}, Fault.{FaultValue}},
   table_meaning.specs.{Settled.{IsSettled}, Table.{NumberedTable, Table, table_value}, Valid.{IsValid}, Value.{Entry, scalar_in}},
   table_laws.{specs.Validity.{IsHeldCell, IsValidObject, IsValidEntry, IsValidGiven, AreValid, IsValidArgument, AreValidArguments}, proofs.ArgumentLaws.{more_valid}},
   frame_store.{specs.{Objects.{Tables, table_or, with_object}, Arguments.{argument_of, IsLive, IsLiveArgument, item_of, items_of, IsLiveItem, AreLiveItems, AreLive}, declared.{arguments.{Argument.{Argument, Nothing, One, Row, Many, Table'}, Value.{Value, TheVariants.{Object, Scalar}}, Item.{Item, One as OneItem, Row' as RowItem'}, Named.{Named}}, fault.OpFault.{OpFault, TheVariants.{Refused, NoMemory}}}, Shown.{Shown, shown, with_shown, table_in, FormAnswers, Changes}, World.{World, objects_of, entry_in, Forms, Sets, arguments_in, AreKnownArguments}}, proofs.Settling.{seen_later}},
-  script_work.specs.Bindings.{Bindings, is_named, released, AreNamed, KeepNamed},
+  script_work.specs.Bindings.{Bindings, released, AreNamed, KeepNamed},
   method_meaning.specs.Concat.{tables_of},
 }
 
@@ -14,105 +14,105 @@ abbrev Each : Shown → Type 0
 Each objects = (id : ℕ) → IfSome (objects id) IsValid
 
 each : (objects : Shown) → AreValid objects → Each objects
-each objects valid id = grind arith
+each = grind arith
 
 are_valid : (objects : Shown) → Each objects → AreValid objects
-are_valid objects h id t is = grind arith
+are_valid = grind arith
 
 -- a live object's table is valid
 table_valid : (f : NumberedTable → Table) (o : Option NumberedTable) → IsSome o → IfSome (option_map f o) IsValid → IsValid (f (table_or o))
-table_valid f x live h = grind arith
+table_valid = grind arith
 
 pub object_valid : (w : World) (v : Value) → AreValid (objects_of w) → IsLive w.tables v → IsValidObject (entry_in w v)
-object_valid w (Object id) valid live = table_valid (table_value w.texts) (w.tables id.0) live (each (objects_of w) valid id.0)
-object_valid w (Scalar c) valid live = tt
+object_valid w (Object id) valid live = table_valid _ _ live (each _ valid id.0)
+object_valid w (Scalar c) _ _ = tt
 
 -- a live argument whose scalar a column can hold
 pub argument_valid : (w : World) (a : Argument) → AreValid (objects_of w) → IsLiveArgument w.tables a → IfSome (scalar_in (argument_of w.tables w.texts a)) IsHeldCell → IsValidGiven (argument_of w.tables w.texts a)
-argument_valid w Nothing valid live held = tt
+argument_valid w Nothing _ _ _ = tt
 argument_valid w (One (Object id)) valid live held = search object_valid
-argument_valid w (One (Scalar c)) valid live held = held
-argument_valid w (Row l) valid live held = tt
-argument_valid w (Many l) valid live held = tt
-argument_valid w (Table' shape row) valid live held = tt
+argument_valid w (One (Scalar c)) _ _ held = held
+argument_valid w (Row l) _ _ _ = tt
+argument_valid w (Many l) _ _ _ = tt
+argument_valid w (Table' shape row) _ _ _ = tt
 
 -- the tables in live arguments are valid
 item_valid : (w : World) (item : Item) → AreValid (objects_of w) → IsLiveItem w.tables item → IsValidArgument (item_of w.tables w.texts item)
 item_valid w (OneItem v) valid live = object_valid w v valid live
-item_valid w (RowItem' shape row) valid live = tt
+item_valid w (RowItem' shape row) _ _ = tt
 
 items_valid : (w : World) (items : List Item) → AreValid (objects_of w) → AreLiveItems w.tables items → All IsValid (tables_of (items_of w.tables w.texts items))
-items_valid w [] valid live = All-nil IsValid
+items_valid w [] _ _ = All-nil IsValid
 items_valid w (item ∷ rest) valid live = search (more_valid, item_valid, items_valid w rest valid live.1)
 
 tables_valid : (w : World) (a : Argument) → AreValid (objects_of w) → IsLiveArgument w.tables a → IsValidArgument (argument_of w.tables w.texts a)
-tables_valid w Nothing valid live = tt
+tables_valid w Nothing _ _ = tt
 tables_valid w (One v) valid live = object_valid w v valid live
-tables_valid w (Row l) valid live = tt
+tables_valid w (Row l) _ _ = tt
 tables_valid w (Many l) valid live = search items_valid
-tables_valid w (Table' shape row) valid live = tt
+tables_valid w (Table' shape row) _ _ = tt
 
 live_valid : (w : World) (args : List Named) → AreValid (objects_of w) → AreLive w.tables args → AreValidArguments (arguments_in w args)
 live_valid w [] valid live = grind arith
 live_valid w (g ∷ rest) valid live = grind (arith, tables_valid, live_valid w rest valid live.1)
 
 pub arguments_valid : (w : World) (args : List Named) → AreValid (objects_of w) → AreKnownArguments w args → AreValidArguments (arguments_in w args)
-arguments_valid w args valid known = search live_valid
+arguments_valid w _ valid known = search live_valid
 
 some_valid : (o : Option Table) → IsValid (table_in o) → IfSome o IsValid
-some_valid x h = grind arith
+some_valid = grind arith
 
 put_valid : (id : ℕ) (old new : Shown) → IsValid (table_in (new id)) → new ≡ with_shown old id (new id) → AreValid old → AreValid new
-put_valid id old new h put valid = are_valid new (λ k. subst (λ o. IfSome o IsValid) (sym (ap (λ f. f k) put)) (by k (nat_eq id k)))
+put_valid id old new h put valid = are_valid _ (λ k. grind (arith, by, nat_eq))
   where
     by : (k : ℕ) (b : Bool) → IfSome (if b then new id else old k) IsValid
-    by k true = some_valid (new id) h
-    by k false = each old valid k
+    by k true = some_valid _ h
+    by k false = each _ valid k
 
 -- what a form makes is valid, and the others are as they were
 answered_valid : (texts : List Text) (r : Result Value OpFault) (meant : Result Entry FaultValue) (old new : Shown) → FormAnswers texts r meant old new → IfOk meant IsValidEntry → AreValid old → AreValid new
-answered_valid texts (Ok (Object id)) meant old new h made valid =
-    put_valid id.0 old new (subst (λ m. IfOk m IsValidEntry) h.0 made) h.1.2 valid
-answered_valid texts (Ok (Scalar c)) meant old new h made valid = rw h.1.0 valid
-answered_valid texts (Err (Refused code)) meant old new h made valid = rw h.1 valid
-answered_valid texts (Err NoMemory) meant old new h made valid = rw h valid
+answered_valid _ (Ok (Object id)) _ _ _ h made valid =
+    put_valid _ _ _ (subst (λ m. IfOk m IsValidEntry) h.0 made) h.1.2 valid
+answered_valid _ (Ok (Scalar c)) _ _ _ h _ valid = rw h.1.0 valid
+answered_valid _ (Err (Refused code)) _ _ _ h _ valid = rw h.1 valid
+answered_valid _ (Err NoMemory) _ _ _ h _ valid = rw h valid
 
 pub form_valid : (r : Result Value OpFault) (meant : Result Entry FaultValue) (old new : World) → Forms r meant old new → IfOk meant IsValidEntry → AreValid (objects_of old) → AreValid (objects_of new)
-form_valid r meant old new h made valid = answered_valid new.texts r meant (objects_of old) (objects_of new) h.0 made valid
+form_valid r _ _ _ h made valid = answered_valid _ r _ _ _ h.0 made valid
 
 changed_valid : (texts : List Text) (r : Result ⊤ OpFault) (on : Value) (meant : Result Table FaultValue) (old new : Shown) → Changes texts r on meant old new → IfOk meant IsValid → AreValid old → AreValid new
-changed_valid texts (Ok done) (Object id) meant old new h made valid = put_valid id.0 old new (subst (λ m. IfOk m IsValid) h.0 made) h.2 valid
-changed_valid texts (Ok done) (Scalar c) meant old new h made valid = absurd h
-changed_valid texts (Err (Refused code)) on meant old new h made valid = rw h.1 valid
-changed_valid texts (Err NoMemory) on meant old new h made valid = rw h valid
+changed_valid _ (Ok done) (Object id) _ _ _ h made valid = put_valid _ _ _ (subst (λ m. IfOk m IsValid) h.0 made) h.2 valid
+changed_valid _ (Ok done) (Scalar c) _ _ _ h _ _ = absurd h
+changed_valid _ (Err (Refused code)) _ _ _ _ h _ valid = rw h.1 valid
+changed_valid _ (Err NoMemory) _ _ _ _ h _ valid = rw h valid
 
 pub set_valid : (r : Result ⊤ OpFault) (on : Value) (meant : Result Table FaultValue) (old new : World) → Sets r on meant old new → IfOk meant IsValid → AreValid (objects_of old) → AreValid (objects_of new)
-set_valid r on meant old new h made valid = changed_valid new.texts r on meant (objects_of old) (objects_of new) h.0 made valid
+set_valid r on _ _ _ h made valid = changed_valid _ r on _ _ _ h.0 made valid
 
 -- further texts change no table
 pub longer_valid : (tables : Tables) (old new : List Text) → IsLonger old new → IsSettled shown old tables → AreValid (shown old tables) → AreValid (shown new tables)
-longer_valid tables old new longer settled valid = subst AreValid (sym (seen_later shown old new tables longer settled)) valid
+longer_valid _ old new longer settled valid = subst AreValid (sym (seen_later shown old new _ longer settled)) valid
 
 -- an object ends
 pub without_valid : (texts : List Text) (tables : Tables) (id : ℕ) → AreValid (shown texts tables) → AreValid (shown texts (with_object tables id None))
-without_valid texts tables id valid = are_valid (shown texts (with_object tables id None)) (λ k. by k (nat_eq id k))
+without_valid texts tables _ valid = are_valid _ (λ k. by k _)
   where
     by : (k : ℕ) (b : Bool) → IfSome (option_map (table_value texts) (if b then None else tables k)) IsValid
     by k true = tt
-    by k false = each (shown texts tables) valid k
+    by k false = each _ valid k
 
 pub released_valid : (texts : List Text) (bs : Bindings) (tables : Tables) (left : Option Value) → AreValid (shown texts tables) → AreValid (shown texts (released bs tables left))
-released_valid texts bs tables None valid = valid
-released_valid texts bs tables (Some (Scalar c)) valid = valid
-released_valid texts bs tables (Some (Object o)) valid = by (is_named bs o.0)
+released_valid _ _ _ None valid = valid
+released_valid _ _ _ (Some (Scalar c)) valid = valid
+released_valid texts _ tables (Some (Object o)) valid = by _
   where
     by : (b : Bool) → AreValid (shown texts (if b then tables else with_object tables o.0 None))
     by true = valid
     by false = search without_valid
 
 pub swept_valid : (texts : List Text) (bs : Bindings) (old new : Tables) → KeepNamed bs old new → AreNamed bs new → AreValid (shown texts old) → AreValid (shown texts new)
-swept_valid texts bs old new kept named valid = are_valid (shown texts new) (λ id. at id (new id) refl)
+swept_valid texts _ _ new kept named valid = are_valid _ (λ id. at id (new id) refl)
   where
     at : (id : ℕ) (o : Option NumberedTable) → new id ≡ o → IfSome (option_map (table_value texts) (new id)) IsValid
-    at id None is = rw is tt
-    at id (Some t) is = rw (kept id (named id (subst IsSome (sym is) refl))) (each (shown texts old) valid id)
+    at _ None is = rw is tt
+    at id (Some t) is = rw (kept id (named id (subst IsSome (sym is) refl))) (each _ valid id)

@@ -26,7 +26,7 @@ cell_in (cell c) = c
 cell_in (table t) = na_cell
 
 pub cell_value_settled : (texts : List Text) (live : Tables) (c : Cell) → IsSettled (entry_of live) texts (Scalar c) → IsSettled datum texts c
-cell_value_settled texts live c settled = grind arith
+cell_value_settled = grind arith
 
 -- what a list of scalars reaches
 abbrev list_of_scalars : Table → Option (List CellValue) → Result Reach FaultValue
@@ -41,11 +41,11 @@ module _ (texts : List Text) (t : NumberedTable) (plan : Plan) (all : TakesAll t
   pub list_planned : (parts : GivenList) (cells : List CellValue) (places : List ℕ) → Some cells ≡ scalars_in parts → form.column_places (table_value texts t) (map cell_label cells) ≡ Ok places
       → plan.columns ≡ places → plan.form ≡ answer.Frame
       → then_value (list_reach (table_value texts t) parts) (picked_result (table_value texts t)) ≡ picked_result (table_value texts t) (reach_of_plan plan)
-  list_planned parts cells places is found columns frame = grind (arith, all_rows)
+  list_planned = grind (arith, all_rows)
 
   pub column_planned : (label : LabelValue) (place : ℕ) → form.column_place (table_value texts t) label ≡ Ok place → plan.columns ≡ place ∷ [] → plan.form ≡ answer.Column
       → then_value (column_reach (table_value texts t) label) (picked_result (table_value texts t)) ≡ picked_result (table_value texts t) (reach_of_plan plan)
-  column_planned label place found columns column = grind (arith, all_rows)
+  column_planned = grind (arith, all_rows)
 
 -- a list that is a settled key
 abbrev pub list_in : GivenSub → GivenList

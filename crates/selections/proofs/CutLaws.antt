@@ -1,6 +1,6 @@
 -- Rows and columns that are cut from a table, as they are seen.
 use Rattle.{
-  std.{proofs.{Common.{◌≡◌, ◌∙◌, refl, ap, sym, subst, arith, ℕ, suc, ◌+◌, ◌<◌, List, [], ◌∷◌, map, length, slice_index_or, All, Option, Some, None, Result, Err}, lemmas.List.{length-map, Elements.{All-nil, All-cons}}}, specs.{Prelude.{IsSome}, List.{range_with_len}}},
+  std.{proofs.{Common.{◌≡◌, ◌∙◌, refl, ap, sym, subst, arith, ℕ, suc, ◌+◌, ◌<◌, List, [], ◌∷◌, map, length, slice_index_or, All, Option, None, Result, Err}, lemmas.List.{length-map, Elements.{All-nil, All-cons}}}, specs.{Prelude.{IsSome}, List.{range_with_len}}},
   cell_core.specs.{Texts.{AreDistinct}, declared.{cell.{Cell.{Cell, TheVariants.{Na}}, Label.{Label}}, grid.Shape.{Shape, TheVariants.{Series, Frame}}}},
   meaning.specs.{Text.{Text}, Cell.{CellValue, na_cell, datum, LabelValue}, FaultOf.{fault_of}, Fault.{FaultValue}},
   table_meaning.specs.{Settled.{IsSettled}, Table.{ColumnOf, NumberedTable, Table, table_value, heading_value, column_at, no_column}, Valid.{IsWhole}, Value.{Entry}},
@@ -17,7 +17,7 @@ headings_seen texts t (p ∷ ps) = search (heading_seen, headings_seen texts t p
 
 headings_settled : (texts : List Text) (t : NumberedTable) (places : List ℕ) → IsSettled headings_value texts t.headings → IsSettled headings_value texts (headings_at t places)
 headings_settled texts t [] settled = λ more. refl
-headings_settled texts t (p ∷ ps) settled = λ more j. heading_settled texts t.headings p (heading_of t p) refl settled more j ∷ headings_settled texts t ps settled more j
+headings_settled texts t (p ∷ ps) settled = λ more j. heading_settled _ _ p _ refl settled more j ∷ headings_settled texts t ps settled more j
 
 all_labelled : (t : NumberedTable) (places : List ℕ) → All IsSome t.headings → All (λ p. p < length t.headings) places → All IsSome (headings_at t places)
 all_labelled t [] some below = All-nil IsSome
@@ -31,7 +31,7 @@ headings_with name t places = record { columns_name = name; labels = headings_at
 -- what is chosen is what is cut
 module _ (texts : List Text) (rows columns : List ℕ) (t : NumberedTable) where
   cut_seen : (shape : Shape) (name : Option Label) → table_value texts (chosen shape (headings_with name t columns) rows columns t) ≡ record (cut (table_value texts t) rows columns) { shape = shape; columns_name = heading_value texts name }
-  cut_seen shape name = grind (arith, labels_seen, headings_seen, columns_seen)
+  cut_seen = grind (arith, labels_seen, headings_seen, columns_seen)
 
   pub series_seen : (headings : HeadingList) → headings ≡ headings_with None t columns → table_value texts (chosen Series headings rows columns t) ≡ as_series (cut (table_value texts t) rows columns)
   series_seen headings is = cc (cut_seen Series None)
@@ -39,7 +39,7 @@ module _ (texts : List Text) (rows columns : List ℕ) (t : NumberedTable) where
   pub frame_seen : (headings : HeadingList) → headings ≡ headings_with t.columns_name t columns → t.shape ≡ Frame → table_value texts (chosen Frame headings rows columns t) ≡ cut (table_value texts t) rows columns
   frame_seen headings is frame =
       ap (λ (h : HeadingList). table_value texts (chosen Frame h rows columns t)) is
-      ∙ cut_seen Frame t.columns_name
+      ∙ cut_seen _ _
       ∙ ap (λ (s : Shape). record (cut (table_value texts t) rows columns) { shape = s }) (sym frame)
 
 -- what is taken, as a Series and as a frame
@@ -48,10 +48,7 @@ module _ (texts : List Text) (taken : Taken) (columns : List ℕ) (t : NumberedT
   lost = without_leading (levels_lost taken)
 
   pub series_shown : (headings : HeadingList) → headings ≡ headings_with None t columns → table_value texts (taken_table Series headings taken columns t) ≡ as_series (lost (cut (table_value texts t) (rows_in taken) columns))
-  series_shown headings is = taken_seen texts Series headings taken columns t ∙ ap lost (search series_seen)
-
-  frame_shown : (headings : HeadingList) → headings ≡ headings_with t.columns_name t columns → t.shape ≡ Frame → table_value texts (taken_table Frame headings taken columns t) ≡ lost (cut (table_value texts t) (rows_in taken) columns)
-  frame_shown headings is frame = taken_seen texts Frame headings taken columns t ∙ ap lost (search frame_seen)
+  series_shown = grind (arith, taken_seen, series_seen)
 
 -- all rows of some columns
 rows_all : {C : Type 0} (d : C) (n : ℕ) (c : ColumnOf C) → length c.cells ≡ n → record { kind = c.kind; cells = map (λ row. slice_index_or c.cells row d) (range_with_len 0 n) } ≡ c
@@ -70,7 +67,7 @@ columns_filled texts t [] whole below = grind arith
 columns_filled texts t (p ∷ ps) whole below =
     All-cons (λ (c : ColumnOf CellValue). length c.cells ≡ length t.labels) (column_at (table_value texts t).columns p) (map (column_at (table_value texts t).columns) ps)
     (grind (arith, column_seen texts t.columns p, length-map (column_at t.columns p).cells (datum texts), whole.filled p no_column (below 0 p (omega arith))))
-    (columns_filled texts t ps whole (λ k d lt. below (suc k) d (omega arith)))
+    (columns_filled _ t ps whole (λ k d lt. below (suc k) d (omega arith)))
 
 pub all_rows_cut : (texts : List Text) (t : NumberedTable) (rows columns : List ℕ) → IsWhole t → All (λ place. place < length t.columns) columns → rows ≡ range_with_len 0 (length t.labels)
     → cut (table_value texts t) rows columns ≡ columns_frame (table_value texts t) columns
@@ -87,10 +84,10 @@ pub whole_chosen : (shape : Shape) (headings : HeadingList) (rows columns : List
     → chosen shape headings rows columns t ≡ headed_by shape headings t
 whole_chosen shape headings rows columns t whole all each =
     let label : ℕ → List Label = λ row. slice_index_or t.labels row [] in
-    let labels : map label (range_with_len 0 (length t.labels)) ≡ t.labels = list_is label t.labels 0 [] (λ k lt. let e : 0 + k ≡ k = omega arith in ap label e) in
+    let labels : map label (range_with_len 0 (length t.labels)) ≡ t.labels = list_is _ _ 0 [] (λ k lt. let e : 0 + k ≡ k = omega arith in ap label e) in
     let column : ℕ → ColumnOf Cell = λ place. cells_at (range_with_len 0 (length t.labels)) (column_at t.columns place) in
     let columns_are : map column (range_with_len 0 (length t.columns)) ≡ t.columns =
-    list_is column t.columns 0 no_column (λ k lt. let e : 0 + k ≡ k = omega arith in ap column e ∙ rows_all Na (length t.labels) (column_at t.columns k) (whole.filled k no_column lt)) in
+    list_is _ _ 0 _ (λ k lt. let e : 0 + k ≡ k = omega arith in ap column e ∙ rows_all Na _ _ (whole.filled k no_column lt)) in
     grind arith
 
 -- a table's own headings
@@ -99,21 +96,21 @@ own_headings t = record { columns_name = t.columns_name; labels = t.headings }
 
 pub frame_taken : (t : NumberedTable) (rows : Taken) (columns : List ℕ) (headings : HeadingList) → IsWhole t → t.shape ≡ Frame → AreTakenFrom t rows → All (λ place. place < length t.columns) columns
     → headings ≡ headings_with t.columns_name t columns → repeated_heading (headings_at t columns) ≡ None → CanTake Frame headings rows columns t
-frame_taken t rows columns headings whole frame rows_below columns_below is none = grind (arith, all_labelled, length-map, different)
+frame_taken = grind (arith, all_labelled, length-map, different)
 
 pub all_taken : (shape : Shape) (t : NumberedTable) (rows : Taken) (columns : List ℕ) (headings : HeadingList) → shape ≡ t.shape → IsWhole t → AreTakenFrom t rows → headings ≡ own_headings t → columns ≡ range_with_len 0 (length t.columns)
     → CanTake shape headings rows columns t
-all_taken shape t rows columns headings same whole rows_below own all = grind (arith, places_inside, places_count)
+all_taken = grind (arith, places_inside, places_count)
 
 -- each has headings whose texts were given
 pub series_given : (texts : List Text) (t : NumberedTable) (columns : List ℕ) (headings : HeadingList) → headings ≡ headings_with None t columns → IsSettled table_value texts t → AreSettledHeadings texts headings
-series_given texts t columns headings is settled = grind (arith, headings_settled)
+series_given = grind (arith, headings_settled)
 
 pub frame_given : (texts : List Text) (t : NumberedTable) (columns : List ℕ) (headings : HeadingList) → headings ≡ headings_with t.columns_name t columns → IsSettled table_value texts t → AreSettledHeadings texts headings
 frame_given texts t columns headings is settled = subst (AreSettledHeadings texts) (sym is) (search (columns_name_part, headings_settled, headings_part))
 
 pub own_given : (texts : List Text) (t : NumberedTable) (headings : HeadingList) → headings ≡ own_headings t → IsSettled table_value texts t → AreSettledHeadings texts headings
-own_given texts t headings own settled = search (own_name, own_labels)
+own_given = search (own_name, own_labels)
 
 -- unless a heading stands again, by numbers
 abbrev unless_again : Table → Option LabelValue → Result Entry FaultValue
@@ -126,11 +123,11 @@ finished_is texts t lost rows columns found distinct settled is = cc (headings_s
 pub frame_meant : (texts : List Text) (t : NumberedTable) (taken : Taken) (columns : List ℕ) (headings : HeadingList) → AreDistinct texts → IsSettled headings_value texts t.headings → t.shape ≡ Frame → headings ≡ headings_with t.columns_name t columns
     → repeated_heading (headings_at t columns) ≡ None
     → limited (table_value texts (taken_table Frame headings taken columns t)) ≡ finished (without_leading (levels_lost taken) (cut (table_value texts t) (rows_in taken) columns))
-frame_meant texts t taken columns headings distinct settled frame is none = cc (frame_shown texts taken columns t headings is frame, finished_is texts t (levels_lost taken) (rows_in taken) columns None distinct settled none)
+frame_meant texts t taken columns headings distinct settled frame is none = grind (arith, taken_seen, frame_seen, finished_is texts t (levels_lost taken) (rows_in taken) columns None distinct settled none)
 
 pub frame_refused : (texts : List Text) (store : Store) (t : NumberedTable) (lost : ℕ) (rows columns : List ℕ) (why : OpFault) → AreDistinct texts → IsSettled headings_value texts t.headings → NamesRepeated why (repeated_heading (headings_at t columns))
     → IsSettledWorld (world store texts) → Forms (Err why) (finished (without_leading lost (cut (table_value texts t) rows columns))) (world store texts) (world store texts)
 frame_refused texts store t lost rows columns (Refused code) distinct settled named left =
-    let meant = finished_is texts t lost rows columns (Some named.0) distinct settled named.1 ∙ ap (λ c. Err (fault_of texts c)) (sym named.2) in
+    let meant = finished_is _ t lost rows _ _ distinct settled named.1 ∙ ap (λ c. Err (fault_of texts c)) (sym named.2) in
     search (repeated_settled, headings_settled, longer_self)
 frame_refused texts store t lost rows columns NoMemory distinct settled named left = search longer_self

@@ -13,13 +13,13 @@ use Rattle.{
 use Rattle.form_meaning.specs.Finish as finish
 
 pub label_decides : (a b : Label) → Decides (same_number a b) (a ≡ b)
-label_decides a b = search rules
+label_decides = search rules
 
 pub some_same : {A : Type 0} (a b : A) → Some a ≡ Some b → a ≡ b
 some_same a b e = cc
 
 pub heading_decides : (a b : Option Label) → Decides (same_heading a b) (a ≡ b)
-heading_decides x x1 = grind arith
+heading_decides = grind arith
 
 -- a list that is settled, part by part
 abbrev first_or : {Y : Type 0} → Y → List Y → Y
@@ -31,10 +31,10 @@ others [] = []
 others (y ∷ ys) = ys
 
 pub head_settled : {X Y : Type 0} (view : List Text → X → Y) (texts : List Text) (x : X) (xs : List X) → IsSettled (λ ts. map (view ts)) texts (x ∷ xs) → IsSettled view texts x
-head_settled view texts x xs settled = grind arith
+head_settled = grind arith
 
 pub rest_settled : {X Y : Type 0} (view : List Text → X → Y) (texts : List Text) (x : X) (xs : List X) → IsSettled (λ ts. map (view ts)) texts (x ∷ xs) → IsSettled (λ ts. map (view ts)) texts xs
-rest_settled view texts x xs settled = grind arith
+rest_settled = grind arith
 
 -- a heading that stands again
 pub same_seen : (texts : List Text) (a b : Option Label) → AreDistinct texts → IsSettled heading_value texts a → IsSettled heading_value texts b → same_heading a b ≡ finish.same_heading (heading_value texts a) (heading_value texts b)
@@ -47,13 +47,13 @@ any_seen : (texts : List Text) (h : Option Label) (hs : List (Option Label)) →
     → list_any (same_heading h) hs ≡ list_any (finish.same_heading (heading_value texts h)) (headings_value texts hs)
 any_seen texts h [] distinct here settled = refl
 any_seen texts h (g ∷ gs) distinct here settled =
-    λ j. same_seen texts h g distinct here (search head_settled) j || any_seen texts h gs distinct here (grind arith) j
+    λ j. same_seen _ h g distinct here (search head_settled) j || any_seen _ h gs distinct here (grind arith) j
 
 pub repeated_seen : (texts : List Text) (hs : List (Option Label)) → AreDistinct texts → IsSettled headings_value texts hs → heading_value texts (repeated_heading hs) ≡ first_repeated (headings_value texts hs)
 repeated_seen texts [] distinct settled = refl
 repeated_seen texts (h ∷ hs) distinct settled =
-    go (repeated_seen texts hs distinct (grind arith)) (list_any (same_heading h) hs)
-    ∙ ap (λ b. if b then heading_value texts h else first_repeated (headings_value texts hs)) (any_seen texts h hs distinct (search head_settled) (grind arith))
+    go (repeated_seen _ hs distinct (grind arith)) _
+    ∙ ap (λ b. if b then heading_value texts h else first_repeated (headings_value texts hs)) (any_seen _ h hs distinct (search head_settled) (grind arith))
   where
     go : heading_value texts (repeated_heading hs) ≡ first_repeated (headings_value texts hs) → (b : Bool)
         → heading_value texts (if b then h else repeated_heading hs) ≡ (if b then heading_value texts h else first_repeated (headings_value texts hs))
@@ -62,13 +62,13 @@ repeated_seen texts (h ∷ hs) distinct settled =
 
 -- headings of which none stands again are different
 or_first : (a b : Bool) → (a || b) ≡ false → a ≡ false
-or_first x b e = grind arith
+or_first = grind arith
 
 or_second : (a b : Bool) → (a || b) ≡ false → b ≡ false
-or_second x b e = grind arith
+or_second = grind arith
 
 not_both : (b : Bool) → b ≡ false → b ≡ true → ⊥
-not_both x f t = grind arith
+not_both = grind arith
 
 not_among : (h : Option Label) (hs : List (Option Label)) → list_any (same_heading h) hs ≡ false → (j : ℕ) (d : Option Label) → j < length hs → h ≢ slice_index_or hs j d
 not_among h [] none j d lt = absurd (omega arith)
@@ -76,65 +76,65 @@ not_among h (g ∷ gs) none zero d lt = grind arith
 not_among h (g ∷ gs) none (suc j) d lt = not_among h gs (search or_second) j d (omega arith)
 
 not_again : (b : Bool) (h rest : Option Label) → IsSome h → (if b then h else rest) ≡ None → b ≡ false
-not_again x h rest some none = grind arith
+not_again = grind arith
 
 none_later : (b : Bool) (h rest : Option Label) → IsSome h → (if b then h else rest) ≡ None → rest ≡ None
-none_later x h rest some none = grind arith
+none_later = grind arith
 
 pub different : (hs : List (Option Label)) → All IsSome hs → repeated_heading hs ≡ None → AllPairs (λ a b. a ≢ b) hs
 different [] all none i j d before lt = absurd (omega arith)
 different (h ∷ hs) all none i zero d before lt = absurd (omega arith)
 different (h ∷ hs) all none zero (suc j) d before lt =
-    not_among h hs (not_again (list_any (same_heading h) hs) h (repeated_heading hs) (all 0 h (omega arith)) none) j d (omega arith)
+    not_among h hs (not_again _ h _ (all 0 h (omega arith)) none) j d (omega arith)
 different (h ∷ hs) all none (suc i) (suc j) d before lt =
-    different hs (λ k g below. all (suc k) g (omega arith)) (none_later (list_any (same_heading h) hs) h (repeated_heading hs) (all 0 h (omega arith)) none) i j d (omega arith) (omega arith)
+    different hs (λ k g below. all (suc k) g (omega arith)) (none_later _ h _ (all 0 h (omega arith)) none) i j d (omega arith) (omega arith)
 
 -- one heading more, from the last on
 among : (q h : Option Label) (keys : List (Option Label)) → list_any (same_heading h) keys ≡ true → same_heading q h ≡ true → list_any (same_heading q) keys ≡ true
-among q h keys there same = grind arith
+among = grind arith
 
 or_there : (a k : Bool) → (a ≡ true → k ≡ true) → k ≡ (a || k)
-or_there x k there = grind arith
+or_there = grind arith
 
 or_swapped : (a k : Bool) → (k || (a || false)) ≡ (a || k)
-or_swapped x x1 = grind arith
+or_swapped = grind arith
 
 key_more : (q h : Option Label) (keys : List (Option Label)) → list_any (same_heading q) (insert_key same_heading keys h) ≡ (same_heading q h || list_any (same_heading q) keys)
-key_more q h keys = search (rules, list_any-append)
+key_more = search (rules, list_any-append)
 
 pub drop_at : (hs : List (Option Label)) (p : ℕ) (d : Option Label) → p < length hs → drop p hs ≡ slice_index_or hs p d ∷ drop (p + 1) hs
-drop_at hs p d lt = grind (arith, drop-cons)
+drop_at = grind (arith, drop-cons)
 
 pub later_step : (hs keys keys' : List (Option Label)) (p : ℕ) (d q : Option Label) → p < length hs → ((q : Option Label) → list_any (same_heading q) keys ≡ list_any (same_heading q) (drop (p + 1) hs))
     → keys' ≡ insert_key same_heading keys (slice_index_or hs p d) → list_any (same_heading q) keys' ≡ list_any (same_heading q) (drop p hs)
-later_step hs keys keys' p d q lt so_far more = grind (arith, key_more, drop_at)
+later_step = grind (arith, key_more, drop_at)
 
 not_not : (b : Bool) → false ≡ not b → b ≡ true
-not_not x e = grind arith
+not_not = grind arith
 
 not_true : (b : Bool) → true ≡ not b → b ≡ false
-not_true x e = grind arith
+not_true = grind arith
 
 repeated_from : (hs keys : List (Option Label)) (p : ℕ) (d found : Option Label) (b : Bool) → p < length hs → ((q : Option Label) → list_any (same_heading q) keys ≡ list_any (same_heading q) (drop (p + 1) hs))
     → found ≡ repeated_heading (drop (p + 1) hs) → list_any (same_heading (slice_index_or hs p d)) keys ≡ b → (if b then slice_index_or hs p d else found) ≡ repeated_heading (drop p hs)
-repeated_from hs keys p d found b lt so_far was there = grind (arith, drop_at)
+repeated_from = grind (arith, drop_at)
 
 -- a heading that stands again, and one that doesn't
 pub repeated_here : (hs keys : List (Option Label)) (p : ℕ) (d found : Option Label) → p < length hs → ((q : Option Label) → list_any (same_heading q) keys ≡ list_any (same_heading q) (drop (p + 1) hs))
     → found ≡ repeated_heading (drop (p + 1) hs) → false ≡ not (list_any (same_heading (slice_index_or hs p d)) keys) → slice_index_or hs p d ≡ repeated_heading (drop p hs)
-repeated_here hs keys p d found lt so_far was new = repeated_from hs keys p d found true lt so_far was (search not_not)
+repeated_here hs keys p d found lt so_far was new = repeated_from hs _ p d _ true lt so_far was (search not_not)
 
 pub repeated_later : (hs keys : List (Option Label)) (p : ℕ) (d found : Option Label) → p < length hs → ((q : Option Label) → list_any (same_heading q) keys ≡ list_any (same_heading q) (drop (p + 1) hs))
     → found ≡ repeated_heading (drop (p + 1) hs) → true ≡ not (list_any (same_heading (slice_index_or hs p d)) keys) → found ≡ repeated_heading (drop p hs)
-repeated_later hs keys p d found lt so_far was new = repeated_from hs keys p d found false lt so_far was (search not_true)
+repeated_later hs keys p d found lt so_far was new = repeated_from hs _ p d _ false lt so_far was (search not_true)
 
 -- the first place of each heading, with one heading more before the others
 same_swapped : (a b : Option Label) → same_heading a b ≡ same_heading b a
-same_swapped a b = grind arith
+same_swapped = grind arith
 
 pub first_places_more : (hs : List (Option Label)) (p : ℕ) (d h : Option Label) (es es' : List (Option Label × ℕ)) → p < length hs → h ≡ slice_index_or hs p d
     → ((q : Option Label) → lookup (same_heading q) es' ≡ cond (same_heading h q) (Some p) (lookup (same_heading q) es)) → HaveFirstPlaces es (p + 1) (drop (p + 1) hs) → HaveFirstPlaces es' p (drop p hs)
-first_places_more hs p d h es es' lt is put so_far = grind (arith, drop_at)
+first_places_more = grind (arith, drop_at)
 
 -- a place at which a test passes is one of the list's
 pub position_inside : (test : Option Label → Bool) (from : ℕ) (hs : List (Option Label)) (k : ℕ) → position_from test from hs ≡ Some k → k < from + length hs

@@ -25,10 +25,10 @@ range_suc a (suc n) = grind (arith, range_suc (a + 1) n)
 
 pub one_more_place : (places places' : List ℕ) (place : ℕ) → places ≡ range_with_len 0 place → places' ≡ places ++ place ∷ [] → places' ≡ range_with_len 0 (place + 1)
 one_more_place places places' place before pushed =
-    pushed ∙ (λ j. before j ++ (let e : place ≡ 0 + place = omega arith in e) j ∷ []) ∙ sym (range_suc 0 place) ∙ ap (range_with_len 0) (let e : suc place ≡ place + 1 = omega arith in e)
+    pushed ∙ (λ j. before j ++ (let e : place ≡ 0 + place = omega arith in e) j ∷ []) ∙ sym (range_suc 0 _) ∙ ap (range_with_len 0) (let e : suc place ≡ place + 1 = omega arith in e)
 
 pub places_inside : (places : List ℕ) (count limit : ℕ) → places ≡ range_with_len 0 count → count ≡ limit → All (λ place. place < limit) places
-places_inside places count limit is same = grind (arith, get_or-range_with_len, length-range_with_len)
+places_inside = grind (arith, get_or-range_with_len, length-range_with_len)
 
 pub places_count : (places : List ℕ) (count : ℕ) → places ≡ range_with_len 0 count → length places ≡ count
 places_count places count is = cc (length-range_with_len 0 count)

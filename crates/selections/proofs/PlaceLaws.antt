@@ -18,37 +18,37 @@ heading_seen texts headings place = get_or-map (heading_value texts) headings pl
 pub heading_settled : (texts : List Text) (headings : List (Option Label)) (place : ℕ) (heading : Option Label) → heading ≡ slice_index_or headings place None → IsSettled headings_value texts headings → IsSettled heading_value texts heading
 heading_settled texts headings place heading is settled =
     subst (IsSettled heading_value texts) (sym is)
-    (λ more. sym (search heading_seen) ∙ ap (λ l. slice_index_or l place None) (settled more) ∙ heading_seen texts headings place)
+    (λ more. sym (search heading_seen) ∙ ap (λ l. slice_index_or l place None) (settled more) ∙ heading_seen texts _ place)
 
 -- a place after so many others
 abbrev pub moved : ℕ → Option ℕ → Option ℕ
 moved n o = option_map (λ k. n + k) o
 
 pub moved_none : (o : Option ℕ) → moved 0 o ≡ o
-moved_none x = grind arith
+moved_none = grind arith
 
 moved_suc : (n : ℕ) (o : Option ℕ) → moved n (option_map suc o) ≡ moved (n + 1) o
-moved_suc n x = grind arith
+moved_suc = grind arith
 
 abbrev place_if : List (Option LabelValue) → LabelValue → ℕ → Bool → Option ℕ
 place_if hs l n b = moved n (if b then Some 0 else option_map suc (place_of_label (drop (suc n) hs) l))
 
 from_place : (hs : List (Option LabelValue)) (l : LabelValue) (n : ℕ) (b : Bool) → n < length hs → same_heading (Some l) (slice_index_or hs n None) ≡ b → moved n (place_of_label (drop n hs) l) ≡ place_if hs l n b
-from_place hs l n b lt is = grind (arith, drop-cons)
+from_place = grind (arith, drop-cons)
 
 there : (texts : List Text) (headings : List (Option Label)) (place : ℕ) → place < length headings → place < length (headings_value texts headings)
-there texts headings place lt = omega (arith, length-map headings (heading_value texts))
+there texts headings = omega (arith, length-map headings (heading_value texts))
 
 seen_as : (texts : List Text) (headings : List (Option Label)) (label : Label) (place : ℕ) (heading : Option Label) (b : Bool) → heading ≡ slice_index_or headings place None
     → b ≡ same_heading (heading_value texts (Some label)) (heading_value texts heading) → same_heading (Some (label_datum texts label)) (slice_index_or (headings_value texts headings) place None) ≡ b
-seen_as texts headings label place heading b is same = grind (arith, heading_seen)
+seen_as = grind (arith, heading_seen)
 
 -- the first column with the label is met, or passed
 pub place_met : (texts : List Text) (headings : List (Option Label)) (label : Label) (place : ℕ) (heading : Option Label) (b : Bool) (whole : Option ℕ) → place < length headings → heading ≡ slice_index_or headings place None
     → b ≡ same_heading (heading_value texts (Some label)) (heading_value texts heading) → b ≡ true → moved place (place_of_label (drop place (headings_value texts headings)) (label_datum texts label)) ≡ whole → Some place ≡ whole
 place_met texts headings label place heading b whole lt is same is_so before =
     ap Some (let e : place ≡ place + 0 = omega arith in e)
-    ∙ sym (from_place (headings_value texts headings) (label_datum texts label) place true (there texts headings place lt) (grind (arith, seen_as)))
+    ∙ sym (from_place _ _ _ true (there _ _ _ lt) (grind (arith, seen_as)))
     ∙ before
 
 pub place_passed : (texts : List Text) (headings : List (Option Label)) (label : Label) (place : ℕ) (heading : Option Label) (b : Bool) (whole : Option ℕ) → place < length headings → heading ≡ slice_index_or headings place None
@@ -61,33 +61,33 @@ place_passed texts headings label place heading b whole lt is same other before 
     cc (moved_suc place (place_of_label (drop (suc place) hs) l), from_place hs l place false (there texts headings place lt) (seen_as texts headings label place heading b is same ∙ other))
 
 pub no_place : (texts : List Text) (headings : List (Option Label)) (label : Label) (place : ℕ) (whole : Option ℕ) → place ≡ length headings → moved place (place_of_label (drop place (headings_value texts headings)) (label_datum texts label)) ≡ whole → None ≡ whole
-no_place texts headings label place whole end before = grind (arith, length-map, drop-length)
+no_place = grind (arith, length-map, drop-length)
 
 -- a cell of a list that was given
 pub cell_seen : (texts : List Text) (cells : List Cell) (k : ℕ) (cell : Cell) → slice_get cells k ≡ Some cell → slice_index_or (cells_value texts cells) k na_cell ≡ datum texts cell
 cell_seen texts cells k cell at = cc (get_or-map (datum texts) cells k Na, get_or_from_slice_get cells k cell Na at)
 
 pub label_settled : (texts : List Text) (label : Label) (cell : Cell) → ((texts : List Text) → label_datum texts label ≡ cell_label (datum texts cell)) → IsSettled datum texts cell → IsSettled label_datum texts label
-label_settled texts label cell seen settled = grind arith
+label_settled = grind arith
 
 pub listed_settled : (texts : List Text) (cells : List Cell) (k : ℕ) (cell : Cell) (label : Label) → slice_get cells k ≡ Some cell → ((texts : List Text) → label_datum texts label ≡ cell_label (datum texts cell))
     → IsSettled cells_value texts cells → IsSettled label_datum texts label
 listed_settled texts cells k cell label at seen settled =
-    label_settled texts label cell seen (λ more. sym (search cell_seen) ∙ ap (λ l. slice_index_or l k na_cell) (settled more) ∙ cell_seen texts cells k cell at)
+    label_settled _ _ _ seen (λ more. sym (search cell_seen) ∙ ap (λ l. slice_index_or l k na_cell) (settled more) ∙ cell_seen _ _ k _ at)
 
 -- what f makes of each, after what was made so far
 abbrev pub made_after : {A B : Type 0} → (A → Result B FaultValue) → List B → List A → Result (List B) FaultValue
 made_after f made xs = then_value (try_all f xs) (λ ys. Ok (made ++ ys))
 
 more_made : {B : Type 0} (made : List B) (y : B) (r : Result (List B) FaultValue) → then_value (then_value r (λ ys. Ok (y ∷ ys))) (λ ys. Ok (made ++ ys)) ≡ then_value r (λ ys. Ok ((made ++ y ∷ []) ++ ys))
-more_made made y x = grind (arith, append_assoc)
+more_made = grind (arith, append_assoc)
 
 module _ {A B : Type 0} where
   abbrev joined : (A → Result B FaultValue) → List B → List A → Result B FaultValue → Result (List B) FaultValue
   joined f made xs r = then_value (then_value r (λ y. then_value (try_all f xs) (λ ys. Ok (y ∷ ys)))) (λ ys. Ok (made ++ ys))
 
   pub one_more : (f : A → Result B FaultValue) (made : List B) (x : A) (xs : List A) (y : B) → f x ≡ Ok y → made_after f made (x ∷ xs) ≡ made_after f (made ++ y ∷ []) xs
-  one_more f made x xs y is = grind (arith, more_made)
+  one_more = grind (arith, more_made)
 
   pub one_refused : (f : A → Result B FaultValue) (made : List B) (x : A) (xs : List A) (fault : FaultValue) → f x ≡ Err fault → made_after f made (x ∷ xs) ≡ Err fault
   one_refused f made x xs fault is = cc
@@ -100,7 +100,7 @@ abbrev pub labels_seen : List Text → List Cell → List LabelValue
 labels_seen texts cells = map cell_label (cells_value texts cells)
 
 labels_count : (texts : List Text) (cells : List Cell) → length (labels_seen texts cells) ≡ length cells
-labels_count texts cells = search length-map
+labels_count = search length-map
 
 label_at : (texts : List Text) (cells : List Cell) (k : ℕ) (cell : Cell) (label : Label) → slice_get cells k ≡ Some cell → label_datum texts label ≡ cell_label (datum texts cell) → slice_index_or (labels_seen texts cells) k na ≡ label_datum texts label
 label_at texts cells k cell label at seen = cc (get_or-map cell_label (cells_value texts cells) k na_cell, cell_seen texts cells k cell at)
@@ -117,14 +117,14 @@ places_more texts t cells k cell label place places places' whole lt at seen fou
     let next : k + 1 ≡ suc k = omega arith in
     (λ j. made_after (column_place t) (pushed j) (drop (next j) (labels_seen texts cells)))
     ∙ sym (search one_more)
-    ∙ ap (made_after (column_place t) places) (sym (from_label texts cells k cell label lt at seen))
+    ∙ ap (made_after (column_place t) places) (sym (from_label _ _ k _ _ lt at seen))
     ∙ before
 
 -- or none
 pub place_refused : (texts : List Text) (t : Table) (cells : List Cell) (k : ℕ) (cell : Cell) (label : Label) (places : List ℕ) (fault : FaultValue) (whole : Result (List ℕ) FaultValue)
     → k < length cells → slice_get cells k ≡ Some cell → label_datum texts label ≡ cell_label (datum texts cell) → column_place t (label_datum texts label) ≡ Err fault
     → made_after (column_place t) places (drop k (labels_seen texts cells)) ≡ whole → whole ≡ Err fault
-place_refused texts t cells k cell label places fault whole lt at seen refused before = grind (arith, from_label)
+place_refused = grind (arith, from_label)
 
 -- one more heading
 pub headings_more : (t : NumberedTable) (places : List ℕ) (k place : ℕ) (heading : Option Label) (before after : List (Option Label)) → k < length places → slice_get places k ≡ Some place → heading ≡ slice_index_or t.headings place None
@@ -141,7 +141,7 @@ pub met_is : (texts : List Text) (label : Label) (heading : Option Label) (b : B
 met_is texts label None b distinct settled there same is_so = search
 met_is texts label (Some x) b distinct settled there same is_so =
     let one : label ≡ x =
-    label_one texts label x distinct (label_given texts label settled) (search (label_given, heading_label)) (grind (arith, value_decides)) in
+    label_one texts label x distinct (label_given _ _ settled) (search (label_given, heading_label)) (grind (arith, value_decides)) in
     cc
 
 -- and no column has it where none is met
@@ -149,12 +149,12 @@ abbrev some_place : Bool → Option ℕ → Option ℕ
 some_place b o = if b then Some 0 else option_map suc o
 
 none_later : (b : Bool) (o : Option ℕ) → some_place b o ≡ None → (b ≡ false) × (o ≡ None)
-none_later x o e = grind arith
+none_later = grind arith
 
 pub absent_is : (texts : List Text) (headings : List (Option Label)) (label : Label) → place_of_label (headings_value texts headings) (label_datum texts label) ≡ None → All (λ heading. heading ≢ Some label) headings
 absent_is texts [] label none = grind arith
 absent_is texts (h ∷ hs) label none =
-    let both = none_later (same_heading (Some (label_datum texts label)) (heading_value texts h)) (place_of_label (headings_value texts hs) (label_datum texts label)) none in
+    let both = none_later _ _ none in
     grind (arith, value_decides, absent_is texts hs label both.1)
 
 -- the first place of a label by numbers is the one that is meant
@@ -165,8 +165,8 @@ position_seen : (texts : List Text) (n : ℕ) (hs : List (Option Label)) (label 
     → position_from (numbered.same_heading (Some label)) n hs ≡ moved n (place_of_label (headings_value texts hs) (label_datum texts label))
 position_seen texts n [] label distinct settled here = refl
 position_seen texts n (h ∷ hs) label distinct settled here =
-    go (position_seen texts (n + 1) hs label distinct (grind arith) here) (numbered.same_heading (Some label) h)
-    ∙ ap (λ b. place_or b n (place_of_label (headings_value texts hs) (label_datum texts label))) (same_seen texts (Some label) h distinct (λ more. ap Some (here more)) (search head_settled))
+    go (position_seen _ (n + 1) hs _ distinct (grind arith) here) _
+    ∙ ap (λ b. place_or b n (place_of_label (headings_value texts hs) (label_datum texts label))) (same_seen _ (Some label) h distinct (λ more. ap Some (here more)) (search head_settled))
   where
     go : position_from (numbered.same_heading (Some label)) (n + 1) hs ≡ moved (n + 1) (place_of_label (headings_value texts hs) (label_datum texts label)) → (b : Bool)
         → cond b (Some n) (position_from (numbered.same_heading (Some label)) (n + 1) hs) ≡ place_or b n (place_of_label (headings_value texts hs) (label_datum texts label))
@@ -178,10 +178,8 @@ pub looked_up : (texts : List Text) (es : List (Option Label × ℕ)) (t : Numbe
     → HaveFirstPlaces es 0 t.headings → place ≡ lookup (numbered.same_heading (Some label)) es → column_place (table_value texts t) (label_datum texts label) ≡ found (label_datum texts label) place
 looked_up texts es t label place distinct settled here first is =
     let there : place ≡ place_of_label (headings_value texts t.headings) (label_datum texts label) =
-    is ∙ first (Some label) ∙ position_seen texts 0 t.headings label distinct settled here ∙ moved_none (place_of_label (headings_value texts t.headings) (label_datum texts label)) in
+    is ∙ first (Some label) ∙ position_seen _ 0 _ _ distinct settled here ∙ moved_none _ in
     cc
 
 pub looked_inside : (es : List (Option Label × ℕ)) (t : NumberedTable) (label : Label) (place : ℕ) → IsWhole t → HaveFirstPlaces es 0 t.headings → Some place ≡ lookup (numbered.same_heading (Some label)) es → place < length t.columns
-looked_inside es t label place whole first is =
-    let lt : place < 0 + length t.headings = position_inside (numbered.same_heading (Some label)) 0 t.headings place (sym (is ∙ first (Some label))) in
-    omega arith
+looked_inside = grind (arith, position_inside)

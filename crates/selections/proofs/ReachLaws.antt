@@ -1,11 +1,11 @@
 -- The rows and columns that keys reach are those that are meant.
 use Rattle.{
-  std.{proofs.{Common.{◌≡◌, ◌∙◌, refl, ap, sym, subst, arith, ℕ, suc, ◌+◌, ◌<◌, pos, Bool, true, false, not, ◌&&◌, List, [], ◌∷◌, ◌++◌, map, take, length, slice_index_or, All, Option, Some, None, Result, Ok, Err, if◌then◌else◌, unwrap_or}, lemmas.{List.{length-map, map-append, take_more, Elements.{All-nil, All-cons}, FromFn.{length-range_with_len}}, Simd.{map-map}, Option.{get_or_from_slice_get}}, Math.ListN.{get_or-map}}, specs.{Prelude.{slice_get, IsSome}, List.{range_with_len}, Option.{is_some}, Cmp.Lexicographic.{pointwise}}},
+  std.{proofs.{Common.{◌≡◌, ◌∙◌, refl, ap, sym, subst, arith, ℕ, suc, ◌+◌, ◌<◌, pos, Bool, true, false, not, List, [], ◌∷◌, ◌++◌, map, take, length, slice_index_or, All, Option, Some, None, Result, Ok, Err, if◌then◌else◌, unwrap_or}, lemmas.{List.{length-map, map-append, take_more, Elements.{All-cons}, FromFn.{length-range_with_len}}, Simd.{map-map}, Option.{get_or_from_slice_get}}, Math.ListN.{get_or-map}}, specs.{Prelude.{slice_get, IsSome}, List.{range_with_len}, Option.{is_some}, Cmp.Lexicographic.{pointwise}}},
   cell_core.specs.{declared.{grid.Shape.{Shape, TheVariants.{Frame}}, cell.{Cell.{Cell}, Kind.TheVariants.{Boolean}, Label.{Label}}}, Texts.{AreDistinct}},
-  meaning.specs.{Symbol.{Accessor}, Text.{Text}, Cell.{CellValue, na_cell, datum, LabelValue, int}, Fault.{FaultValue, wrong_kind, bad_value, repeated, then_value}},
+  meaning.specs.{Symbol.{Accessor}, Text.{Text}, Cell.{CellValue, na_cell, datum, LabelValue, int}, Fault.{FaultValue, bad_value, repeated, then_value}},
   column_core.specs.Columns.{CellColumn},
-  table_meaning.specs.{Settled.{IsSettled}, Table.{ColumnOf, NumberedTable, Table, table_value, tuple_value, heading_value, column_value, column_at, no_column, row_of}, Value.{GivenSub}},
-  form_meaning.specs.{Binding.{is_frame}, Finish.{column_labels}, Infix.{same_tuple, is_boolean}},
+  table_meaning.specs.{Settled.{IsSettled}, Table.{ColumnOf, NumberedTable, Table, table_value, tuple_value, heading_value, column_at, no_column, row_of}, Value.{GivenSub}},
+  form_meaning.specs.{Binding.{is_frame}, Finish.{column_labels}, Infix.{same_tuple}},
   form_parts.specs.Makes.{MakesBy},
   frame_store.specs.{Parts.{axis_of}, Shown.{headings_value, columns_value}, declared.fault.OpFault.{OpFault}},
   index_core.specs.{Labels.{same_number}, Picks.{as_it_is}},
@@ -22,7 +22,7 @@ use Rattle.select_meaning.specs.Keys as meant
 -- a refusal before the last step
 pub refused_then : {X Y A B : Type 0} (v : List Text → X → A) (w : List Text → Y → B) (texts : List Text) (why : OpFault) (m : Result A FaultValue) (go : A → Result B FaultValue)
     → MakesBy v texts (Err why) m → MakesBy w texts (Err why) (then_value m go)
-refused_then v w texts x m go h = grind arith
+refused_then = grind arith
 
 -- a key that is settled has settled labels
 abbrev ok_or : {A : Type 0} → A → Result A FaultValue → A
@@ -31,7 +31,7 @@ ok_or d (Err f) = d
 
 pub key_settled : (texts : List Text) (levels : ℕ) (sub : List Text → GivenSub) (k : LocKey) → ((ts : List Text) → meant.label_key levels (sub ts) ≡ Ok (label_key_value ts k)) → ((more : List Text) → sub (texts ++ more) ≡ sub texts)
     → IsSettled label_key_value texts k
-key_settled texts levels sub k is settled = λ more. ap (ok_or (label_key_value texts k)) (sym (is (texts ++ more)) ∙ ap (meant.label_key levels) (settled more) ∙ is texts)
+key_settled = grind arith
 
 pub whole_settled : (texts : List Text) (levels : ℕ) (sub : List Text → GivenSub) (label : List Label) → ((ts : List Text) → meant.whole_key levels (sub ts) ≡ Ok (tuple_value ts label)) → ((more : List Text) → sub (texts ++ more) ≡ sub texts)
     → IsGivenTuple texts label
@@ -40,8 +40,7 @@ whole_settled texts levels sub label is settled = λ more. ap (ok_or (tuple_valu
 -- two keys that are settled are one that is
 pub joined_settled : (texts : List Text) (by : Accessor) (levels : ℕ) (first second key : List Text → GivenSub) → ((ts : List Text) → meant.joined_key by levels (first ts) (second ts) ≡ Ok (key ts)) → ((more : List Text) → first (texts ++ more) ≡ first texts)
     → ((more : List Text) → second (texts ++ more) ≡ second texts) → (more : List Text) → key (texts ++ more) ≡ key texts
-joined_settled texts by levels first second key is before after =
-    λ more. ap (ok_or (key texts)) (sym (is (texts ++ more)) ∙ (λ j. meant.joined_key by levels (before more j) (after more j)) ∙ is texts)
+joined_settled = grind arith
 
 -- the rows of a label of `at`
 module _ (texts : List Text) (t : NumberedTable) (axis : AxisValue) (levels : ℕ) (sub : List Text → GivenSub) (label copy : List Label) (count : levels ≡ length t.level_names) (same_axis : axis ≡ axis_of t)
@@ -50,98 +49,64 @@ module _ (texts : List Text) (t : NumberedTable) (axis : AxisValue) (levels : �
   found_at l a = found_labels (length a.names) (tuples_value texts a.tuples) (label_key_value texts (key.One l))
 
   at_is : meant.at_rows (table_value texts t) (sub texts) ≡ then_value (found_at copy axis) (once (tuple_value texts label))
-  at_is =
-      ap (λ (n : ℕ). then_value (meant.whole_key n (sub texts)) (λ k. then_value (found_labels n (tuples_value texts t.labels) (one_key k)) (once k))) (length-map t.level_names (heading_value texts) ∙ sym count)
-      ∙ ap (λ r. then_value r (λ k. then_value (found_labels levels (tuples_value texts t.labels) (one_key k)) (once k))) (is texts)
-      ∙ ap (λ (n : ℕ). then_value (found_labels n (tuples_value texts t.labels) (one_key (tuple_value texts label))) (once (tuple_value texts label))) count
-      ∙ (λ j. then_value (found_at (sym copied j) (sym same_axis j)) (once (tuple_value texts label)))
+  at_is = grind (arith, length-map)
 
   given_copy : IsSettled label_key_value texts (key.One copy)
-  given_copy = subst (λ (l : List Label). IsSettled label_key_value texts (key.One l)) (sym copied) (λ more. ap (λ l. one_key l) (whole_settled texts levels sub label is settled more))
+  given_copy = subst (λ (l : List Label). IsSettled label_key_value texts (key.One l)) (sym copied) (λ more. ap (λ l. one_key l) (whole_settled _ _ sub _ is settled more))
 
   pub at_refused : (why : OpFault) → (IsSettled label_key_value texts (key.One copy) → MakesBy pick_value texts (Err why) (found_at copy axis)) → MakesBy pick_value texts (Err why) (meant.at_rows (table_value texts t) (sub texts))
-  at_refused why found = subst (MakesBy pick_value texts (Err why)) (sym at_is) (refused_then pick_value pick_value texts why (found_at copy axis) (once (tuple_value texts label)) (found given_copy))
+  at_refused why found = rw at_is (refused_then pick_value pick_value _ why _ _ (found given_copy))
 
   abbrev once_of : Picked → Bool → Result Pick FaultValue
   once_of picked b = if b then Ok (pick_of picked) else Err (bad_value (repeated (tuple_value texts label)))
 
   pub at_found : (picked : Picked) → picked.single ≡ true → (IsSettled label_key_value texts (key.One copy) → found_at copy axis ≡ Ok (pick_of picked)) → meant.at_rows (table_value texts t) (sub texts) ≡ Ok (pick_of picked)
-  at_found picked single found = at_is ∙ ap (λ r. then_value r (once (tuple_value texts label))) (found given_copy) ∙ ap (once_of picked) single
+  at_found picked single found = cc (at_is, found given_copy)
 
   pub at_repeated : (picked : Picked) → picked.single ≡ false → (IsSettled label_key_value texts (key.One copy) → found_at copy axis ≡ Ok (pick_of picked))
       → (meant.at_rows (table_value texts t) (sub texts) ≡ Err (bad_value (repeated (tuple_value texts label)))) × ((more : List Text) → bad_value (repeated (tuple_value (texts ++ more) label)) ≡ bad_value (repeated (tuple_value texts label)))
   at_repeated picked single found = (
     at_is ∙ ap (λ r. then_value r (once (tuple_value texts label))) (found given_copy) ∙ ap (once_of picked) single,
-    λ more. ap (λ l. bad_value (repeated l)) (whole_settled texts levels sub label is settled more),
+    λ more. ap (λ l. bad_value (repeated l)) (whole_settled _ _ sub _ is settled more),
   )
 
 -- a key that is a mask, and one that isn't
 some_is : {A : Type 0} (a b : A) → Some a ≡ Some b → a ≡ b
 some_is a b e = cc
 
-pub loc_refused : (texts : List Text) (t : NumberedTable) (levels : ℕ) (sub : GivenSub) (why : OpFault) → levels ≡ length t.level_names → None ≡ object_key sub → MakesBy label_key_value texts (Err why) (meant.label_key levels sub)
-    → MakesBy pick_value texts (Err why) (meant.loc_rows (table_value texts t) sub)
-loc_refused texts t levels sub why count none refused =
-    subst (MakesBy pick_value texts (Err why)) (sym (grind (arith, length-map))) (refused_then label_key_value pick_value texts why (meant.label_key levels sub) (found_labels levels (tuples_value texts t.labels)) refused)
-
 pub loc_found : (texts : List Text) (t : NumberedTable) (axis : AxisValue) (levels : ℕ) (sub : List Text → GivenSub) (k : LocKey) (out : Result Picked OpFault) → levels ≡ length t.level_names → axis ≡ axis_of t → None ≡ object_key (sub texts)
     → ((ts : List Text) → meant.label_key levels (sub ts) ≡ Ok (label_key_value ts k)) → ((more : List Text) → sub (texts ++ more) ≡ sub texts)
     → (IsSettled label_key_value texts k → MakesBy pick_value texts out (found_labels (length axis.names) (tuples_value texts axis.tuples) (label_key_value texts k))) → MakesBy pick_value texts out (meant.loc_rows (table_value texts t) (sub texts))
-loc_found texts t axis levels sub k out count same_axis none is settled found =
-    subst (MakesBy pick_value texts out)
-    (ap (λ (a : AxisValue). found_labels (length a.names) (tuples_value texts a.tuples) (label_key_value texts k)) same_axis
-    ∙ ap (λ (n : ℕ). found_labels n (tuples_value texts t.labels) (label_key_value texts k)) (sym count)
-    ∙ ap (λ r. then_value r (found_labels levels (tuples_value texts t.labels))) (sym (is texts))
-    ∙ sym (grind (arith, length-map)))
-    (found (key_settled texts levels sub k is settled))
+loc_found = grind (arith, length-map, key_settled)
 
 -- two keys of a Series
 abbrev rows_joined : Accessor → Table → GivenSub → GivenSub → ℕ → Result Pick FaultValue
 rows_joined by t first second levels = then_value (meant.joined_key by levels first second) (meant.rows_by by t)
 
 module _ (texts : List Text) (t : NumberedTable) (by : Accessor) (levels : ℕ) (first second : GivenSub) (count : levels ≡ length t.level_names) where
-  two_are : rows_joined by (table_value texts t) first second levels ≡ meant.rows_by_two by (table_value texts t) first second
-  two_are = ap (rows_joined by (table_value texts t) first second) (count ∙ sym (length-map t.level_names (heading_value texts)))
-
   pub two_found : (k : GivenSub) (out : Result Picked OpFault) → meant.joined_key by levels first second ≡ Ok k → MakesBy pick_value texts out (meant.rows_by by (table_value texts t) k) → MakesBy pick_value texts out (meant.rows_by_two by (table_value texts t) first second)
-  two_found k out is found = subst (MakesBy pick_value texts out) (sym (ap (λ r. then_value r (meant.rows_by by (table_value texts t))) is) ∙ two_are) found
+  two_found = grind (arith, length-map)
 
 -- masks
 kept_is : (texts : List Text) (c : Cell) → is_kept (datum texts c) ≡ is_true c
-kept_is texts x = grind arith
+kept_is = grind arith
 
 cell_seen : (texts : List Text) (columns : List (ColumnOf Cell)) (k : ℕ)
     → is_kept (slice_index_or (map (λ c. slice_index_or c.cells k na_cell) (columns_value texts columns)) 0 na_cell) ≡ slice_index_or (map is_true (column_at columns 0).cells) k false
-cell_seen texts columns k =
-    ap is_kept (get_or-map (λ (c : ColumnOf CellValue). slice_index_or c.cells k na_cell) (columns_value texts columns) 0 no_column)
-    ∙ ap (λ (c : ColumnOf CellValue). is_kept (slice_index_or c.cells k na_cell)) (column_seen texts columns 0)
-    ∙ ap is_kept (get_or-map (datum texts) (column_at columns 0).cells k code_cell.Na)
-    ∙ kept_is texts (slice_index_or (column_at columns 0).cells k code_cell.Na)
-    ∙ sym (get_or-map is_true (column_at columns 0).cells k code_cell.Na)
+cell_seen texts columns k = cc (get_or-map (λ (c : ColumnOf CellValue). slice_index_or c.cells k na_cell) (columns_value texts columns) 0 no_column, column_seen texts columns 0, get_or-map (datum texts) (column_at columns 0).cells k code_cell.Na, kept_is texts (slice_index_or (column_at columns 0).cells k code_cell.Na), get_or-map is_true (column_at columns 0).cells k code_cell.Na)
 
 marks_seen : (texts : List Text) (m : NumberedTable) → length (column_at m.columns 0).cells ≡ length m.labels → meant.marks_of (table_value texts m) ≡ map is_true (column_at m.columns 0).cells
 marks_seen texts m filled =
     let marks = map is_true (column_at m.columns 0).cells in
     let mark : ℕ → Bool = λ k. is_kept (slice_index_or (row_of na_cell (table_value texts m) k).cells 0 na_cell) in
-    let count : length (map (tuple_value texts) m.labels) ≡ length marks = length-map m.labels (tuple_value texts) ∙ sym filled ∙ sym (length-map (column_at m.columns 0).cells is_true) in
-    map-map (λ r. is_kept (slice_index_or r.cells 0 na_cell)) (row_of na_cell (table_value texts m)) (range_with_len 0 (length (map (tuple_value texts) m.labels)))
-    ∙ ap (λ n. map mark (range_with_len 0 n)) count
-    ∙ list_is mark marks 0 false (λ k lt. let e : 0 + k ≡ k = omega arith in ap mark e ∙ cell_seen texts m.columns k)
+    let count : length (map (tuple_value texts) m.labels) ≡ length marks = grind (arith, length-map) in
+    cc (map-map (λ r. is_kept (slice_index_or r.cells 0 na_cell)) (row_of na_cell (table_value texts m)) (range_with_len 0 (length (map (tuple_value texts) m.labels))), list_is mark marks 0 false (λ k lt. let e : 0 + k ≡ k = omega arith in ap mark e ∙ cell_seen texts m.columns k))
 
 abbrev mask_rows : List Text → NumberedTable → NumberedTable → List Bool → Result (List ℕ) FaultValue
 mask_rows texts t m marks = found_pick (masked_rows same_tuple (tuples_value texts t.labels) (tuples_value texts m.labels) marks)
 
 abbrev listed : Result (List ℕ) FaultValue → Result Pick FaultValue
 listed r = then_value r (λ rows. Ok (listed_pick rows))
-
-mask_is : (texts : List Text) (t m : NumberedTable) → is_frame m.shape ≡ false → (column_at m.columns 0).kind ≡ Boolean → length (column_at m.columns 0).cells ≡ length m.labels
-    → meant.mask_pick (table_value texts t) (table_value texts m) ≡ listed (mask_rows texts t m (map is_true (column_at m.columns 0).cells))
-mask_is texts t m shape kind filled =
-    let T = table_value texts t in
-    let M = table_value texts m in
-    let boolean : is_boolean (column_at (columns_value texts m.columns) 0).kind ≡ true = ap (λ (c : ColumnOf CellValue). is_boolean c.kind) (column_seen texts m.columns 0) ∙ ap is_boolean kind in
-    ap (λ b. if b then listed (mask_rows texts t m (meant.marks_of M)) else Err wrong_kind) (λ j. not (shape j) && boolean j)
-    ∙ ap (λ marks. listed (mask_rows texts t m marks)) (marks_seen texts m filled)
 
 module _ (texts : List Text) (t m : NumberedTable) (axis mask_axis : AxisValue) (column : CellColumn) (r : Result (List ℕ) KeyFault) (distinct : AreDistinct texts)
     (given : IsSettled tuples_value texts t.labels) (mask_given : IsSettled tuples_value texts m.labels) (shape : is_frame m.shape ≡ false) (boolean : column.kind ≡ Boolean)
@@ -151,43 +116,33 @@ module _ (texts : List Text) (t m : NumberedTable) (axis mask_axis : AxisValue) 
   marks = map is_true column.cells
 
   by_number : PicksBy as_it_is r (masked_rows (pointwise same_number) t.labels m.labels marks)
-  by_number = subst (λ (a : AxisValue). PicksBy as_it_is r (masked_rows (pointwise same_number) t.labels a.tuples marks)) mask_same
-      (subst (λ (a : AxisValue). PicksBy as_it_is r (masked_rows (pointwise same_number) a.tuples mask_axis.tuples marks)) same_axis picks)
+  by_number = grind arith
 
   seen : MakesBy (λ (ts : List Text). as_it_is) texts (found_result r) (mask_rows texts t m marks)
   seen =
       let all = tuples_given texts t.labels given in
-      found_seen texts as_it_is r (masked_rows (pointwise same_number) t.labels m.labels marks) (masked_rows same_tuple (tuples_value texts t.labels) (tuples_value texts m.labels) marks) by_number
-      (masked_rows-map (IsGivenTuple texts) same_tuple (pointwise same_number) (tuple_value texts) (tuples_same texts distinct) t.labels m.labels marks all (tuples_given texts m.labels mask_given))
-      (mask_in (IsGivenTuple texts) (pointwise same_number) t.labels m.labels marks all)
+      found_seen _ _ r _ _ by_number
+      (search (masked_rows-map, tuples_same, tuples_given))
+      (search mask_in)
 
   this : meant.mask_pick (table_value texts t) (table_value texts m) ≡ listed (mask_rows texts t m marks)
-  this =
-      let kind : (column_at m.columns 0).kind ≡ Boolean = ap (λ (c : ColumnOf Cell). c.kind) at ∙ boolean in
-      let count : length (column_at m.columns 0).cells ≡ length m.labels = ap (λ (c : ColumnOf Cell). length c.cells) at ∙ filled in
-      mask_is texts t m shape kind count ∙ ap (λ (c : ColumnOf Cell). listed (mask_rows texts t m (map is_true c.cells))) at
+  this = grind (arith, column_seen, marks_seen)
 
   pub mask_refused : (mask : Table) (out : Result (List ℕ) OpFault) (why : OpFault) → mask ≡ table_value texts m → out ≡ found_result r → out ≡ Err why → MakesBy pick_value texts (Err why) (meant.mask_pick (table_value texts t) mask)
-  mask_refused mask out why same is err =
-      subst (λ (l : Table). MakesBy pick_value texts (Err why) (meant.mask_pick (table_value texts t) l)) (sym same)
-      (subst (MakesBy pick_value texts (Err why)) (sym this)
-      (refused_then (λ (ts : List Text). as_it_is) pick_value texts why (mask_rows texts t m marks) (λ rows. Ok (listed_pick rows))
-      (subst (λ (o : Result (List ℕ) OpFault). MakesBy (λ (ts : List Text). as_it_is) texts o (mask_rows texts t m marks)) (sym is ∙ err) seen)))
+  mask_refused = grind (arith, this, refused_then, seen)
 
   pub mask_found : (mask : Table) (out : Result (List ℕ) OpFault) (places : List ℕ) → mask ≡ table_value texts m → out ≡ found_result r → out ≡ Ok places → meant.mask_pick (table_value texts t) mask ≡ Ok (listed_pick places)
-  mask_found mask out places same is ok =
-      ap (meant.mask_pick (table_value texts t)) same ∙ this
-      ∙ ap listed (subst (λ (o : Result (List ℕ) OpFault). MakesBy (λ (ts : List Text). as_it_is) texts o (mask_rows texts t m marks)) (sym is ∙ ok) seen)
+  mask_found = grind (arith, this, seen)
 
 -- the labels of the columns as rows
 one_label : (h : Option Label) → IsSome h → length (heading_tuple h) ≡ 1
-one_label x some = grind arith
+one_label = grind arith
 
 pub axis_levels : (headings : List (Option Label)) (places : List ℕ) → All IsSome headings → All (λ place. place < length headings) places → HaveLevels 1 (map (λ place. heading_tuple (slice_index_or headings place None)) places)
-axis_levels headings [] some below = All-nil (λ tuple. length tuple ≡ 1)
+axis_levels headings [] some below = grind arith
 axis_levels headings (p ∷ ps) some below =
     All-cons (λ (tuple : List Label). length tuple ≡ 1) (heading_tuple (slice_index_or headings p None)) (map (λ place. heading_tuple (slice_index_or headings place None)) ps)
-    (one_label (slice_index_or headings p None) (some p None (below 0 p (omega arith)))) (axis_levels headings ps some (λ k d lt. below (suc k) d (omega arith)))
+    (one_label _ (some p None (below 0 p (omega arith)))) (axis_levels _ ps some (λ k d lt. below (suc k) d (omega arith)))
 
 pub heading_more : (headings : List (Option Label)) (places : List ℕ) (k place : ℕ) (made made' : List (List Label)) (label : Label) (tuple : List Label) → k < length places → slice_get places k ≡ Some place
     → slice_index_or headings place None ≡ Some label → tuple ≡ label ∷ [] → made ≡ map (λ place. heading_tuple (slice_index_or headings place None)) (take k places) → made' ≡ made ++ tuple ∷ []
@@ -196,7 +151,7 @@ heading_more headings places k place made made' label tuple lt at here is before
     let tuple_at : ℕ → List Label = λ place. heading_tuple (slice_index_or headings place None) in
     pushed
     ∙ (λ j. before j ++ (is ∙ ap heading_tuple (sym here)) j ∷ [])
-    ∙ ap (λ (p : ℕ). map tuple_at (take k places) ++ tuple_at p ∷ []) (sym (get_or_from_slice_get places k place 0 at))
+    ∙ ap (λ (p : ℕ). map tuple_at (take k places) ++ tuple_at p ∷ []) (sym (get_or_from_slice_get _ k _ 0 at))
     ∙ sym (map-append tuple_at (take k places) (slice_index_or places k 0 ∷ []))
     ∙ ap (map tuple_at) (sym (take_more places k 0 lt))
 
@@ -205,17 +160,16 @@ label_tuple None = []
 label_tuple (Some l) = l ∷ []
 
 tuple_seen : (texts : List Text) (h : Option Label) → tuple_value texts (heading_tuple h) ≡ label_tuple (heading_value texts h)
-tuple_seen texts x = grind arith
+tuple_seen = grind arith
 
 axis_seen : (texts : List Text) (headings : List (Option Label)) (places : List ℕ)
     → tuples_value texts (map (λ place. heading_tuple (slice_index_or headings place None)) places) ≡ map (λ place. label_tuple (slice_index_or (headings_value texts headings) place None)) places
 axis_seen texts headings [] = refl
 axis_seen texts headings (p ∷ ps) =
-    λ j. (tuple_seen texts (slice_index_or headings p None) ∙ ap label_tuple (sym (get_or-map (heading_value texts) headings p None))) j ∷ axis_seen texts headings ps j
+    λ j. (tuple_seen _ _ ∙ ap label_tuple (sym (get_or-map (heading_value texts) headings p None))) j ∷ axis_seen texts headings ps j
 
 pub axis_given : (texts : List Text) (headings : List (Option Label)) (places : List ℕ) → IsSettled headings_value texts headings → IsSettled tuples_value texts (map (λ place. heading_tuple (slice_index_or headings place None)) places)
-axis_given texts headings places settled =
-    λ more. axis_seen (texts ++ more) headings places ∙ ap (λ hs. map (λ place. label_tuple (slice_index_or hs place None)) places) (settled more) ∙ sym (axis_seen texts headings places)
+axis_given = grind (arith, axis_seen)
 
 labels_are : (texts : List Text) (headings : List (Option Label)) → All IsSome headings → map label_tuple (headings_value texts headings) ≡ map (λ h. unwrap_or h (int (pos 0)) ∷ []) (headings_value texts headings)
 labels_are texts [] some = refl
@@ -229,31 +183,25 @@ pub all_labels : (texts : List Text) (t : NumberedTable) (places : List ℕ) →
     → tuples_value texts (map (λ place. heading_tuple (slice_index_or t.headings place None)) places) ≡ column_labels (table_value texts t)
 all_labels texts t places some all =
     let seen = headings_value texts t.headings in
-    let count : length t.headings ≡ length seen = sym (length-map t.headings (heading_value texts)) in
-    axis_seen texts t.headings places
+    let count : length t.headings ≡ length seen = search length-map in
+    axis_seen _ _ _
     ∙ ap (map (λ place. label_tuple (slice_index_or seen place None))) (all ∙ ap (range_with_len 0) count)
-    ∙ sym (map-map label_tuple (λ place. slice_index_or seen place None) (range_with_len 0 (length seen)))
-    ∙ ap (map label_tuple) (list_is (λ place. slice_index_or seen place None) seen 0 None (λ k lt. let e : 0 + k ≡ k = omega arith in ap (λ (p : ℕ). slice_index_or seen p None) e))
-    ∙ labels_are texts t.headings some
+    ∙ sym (search (map-map, seen))
+    ∙ ap (map label_tuple) (list_is (λ place. slice_index_or seen place None) _ 0 _ (λ k lt. let e : 0 + k ≡ k = omega arith in ap (λ (p : ℕ). slice_index_or seen p None) e))
+    ∙ labels_are _ _ some
 
 -- the columns of a key that isn't a tuple
 loc_columns_is : (t : Table) (sub : GivenSub) → is_row sub ≡ false → meant.loc_columns t sub ≡ meant.label_pick 1 (column_labels t) sub
-loc_columns_is t x e = grind arith
+loc_columns_is = grind arith
 
 pub columns_found : (texts : List Text) (t : NumberedTable) (axis : AxisValue) (places : List ℕ) (sub : List Text → GivenSub) (k : LocKey) (out : Result Picked OpFault) → All IsSome t.headings → places ≡ range_with_len 0 (length t.headings)
     → axis ≡ columns_axis t places → is_row (sub texts) ≡ false → ((ts : List Text) → meant.label_key 1 (sub ts) ≡ Ok (label_key_value ts k)) → ((more : List Text) → sub (texts ++ more) ≡ sub texts)
     → (IsSettled label_key_value texts k → MakesBy pick_value texts out (found_labels (length axis.names) (tuples_value texts axis.tuples) (label_key_value texts k))) → MakesBy pick_value texts out (meant.loc_columns (table_value texts t) (sub texts))
-columns_found texts t axis places sub k out some all same_axis other is settled found =
-    subst (MakesBy pick_value texts out)
-    (ap (λ (a : AxisValue). found_labels (length a.names) (tuples_value texts a.tuples) (label_key_value texts k)) same_axis
-    ∙ ap (λ tuples. found_labels 1 tuples (label_key_value texts k)) (all_labels texts t places some all)
-    ∙ ap (λ r. then_value r (found_labels 1 (column_labels (table_value texts t)))) (sym (is texts))
-    ∙ sym (loc_columns_is (table_value texts t) (sub texts) other))
-    (found (key_settled texts 1 sub k is settled))
+columns_found = grind (arith, all_labels, loc_columns_is, key_settled)
 
 -- what isn't a Series is a frame
 pub no_series : (shape : Shape) → is_series shape ≡ false → shape ≡ Frame
-no_series x e = grind arith
+no_series = grind arith
 
 -- what one key reaches
 module _ (texts : List Text) (t : NumberedTable) (rows_meant : Result Pick FaultValue) (rows columns : Picked) (reached : rows_meant ≡ Ok (pick_of rows))
@@ -262,21 +210,11 @@ module _ (texts : List Text) (t : NumberedTable) (rows_meant : Result Pick Fault
   reached_of r c = record { rows = r; columns = c }
 
   pub reach_frame : t.shape ≡ Frame → meant.reach_of rows_meant (Ok (meant.all_columns (table_value texts t))) ≡ Ok (reached_of (pick_of rows) (pick_of columns))
-  reach_frame frame =
-      let count : length (map (column_value texts) t.columns) ≡ length t.columns = length-map t.columns (column_value texts) in
-      let this : meant.all_columns (table_value texts t) ≡ pick_of columns =
-      λ j. record {
-        rows = (ap (range_with_len 0) count ∙ sym places) j;
-        single = sym (single ∙ ap is_series frame) j;
-        dropped = sym sliced.0 j;
-        sliced = sym (sliced.1 ∙ ap not (single ∙ ap is_series frame)) j;
-      } in
-      ap (λ r. then_value r (λ p. Ok (reached_of p (meant.all_columns (table_value texts t))))) reached
-      ∙ ap (λ c. Ok (reached_of (pick_of rows) c)) this
+  reach_frame = grind (arith, length-map)
 
 -- the loop of the labels
 pub no_heading : {G : Type 0} (h : Option Label) → IsSome h → h ≡ None → G
-no_heading x some is = grind arith
+no_heading = grind arith
 
 pub axis_count : (headings : List (Option Label)) (places : List ℕ) (n : ℕ) → places ≡ range_with_len 0 n → length (map (λ place. heading_tuple (slice_index_or headings place None)) places) ≡ n
-axis_count headings places n all = length-map places (λ place. heading_tuple (slice_index_or headings place None)) ∙ ap (λ (l : List ℕ). length l) all ∙ length-range_with_len 0 n
+axis_count = grind (arith, length-map, length-range_with_len)

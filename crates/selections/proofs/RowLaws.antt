@@ -29,16 +29,13 @@ all_of kind t places = list_all (λ p. same_kind (kind_at t p) kind) places
 abbrev kind_if : Kind → Bool → Result Kind FaultValue
 kind_if kind b = if b then Ok kind else Err wrong_kind
 
-seen_kind : (texts : List Text) (t : NumberedTable) (p : ℕ) → (column_at (table_value texts t).columns p).kind ≡ kind_at t p
-seen_kind texts t p = grind (arith, column_seen texts t.columns p)
-
 all_seen : (texts : List Text) (t : NumberedTable) (kind : Kind) (places : List ℕ) → list_all (λ c. same_kind c.kind kind) (map (column_at (table_value texts t).columns) places) ≡ all_of kind t places
 all_seen texts t kind [] = refl
-all_seen texts t kind (p ∷ ps) = search (seen_kind, all_seen texts t kind ps)
+all_seen texts t kind (p ∷ ps) = search (column_seen, all_seen texts t kind ps)
 
 first_seen : (texts : List Text) (t : NumberedTable) (places : List ℕ) → kind_across (map (column_at (table_value texts t).columns) places) ≡ first_kind t places
 first_seen texts t [] = refl
-first_seen texts t (p ∷ ps) = seen_kind texts t p
+first_seen texts t (p ∷ ps) = search column_seen
 
 pub one_kind_is : (texts : List Text) (t : NumberedTable) (places : List ℕ) → one_kind (map (column_at (table_value texts t).columns) places) ≡ kind_if (first_kind t places) (all_of (first_kind t places) t places)
 one_kind_is texts t places = grind (arith, first_seen texts t places, all_seen texts t (first_kind t places) places)
@@ -62,27 +59,27 @@ kinds_more t places k place next lt at is same before =
     cc (from_kind kind t places k place lt at)
 
 pub first_is : (t : NumberedTable) (places : List ℕ) (k place : ℕ) → k ≡ 0 → k < length places → slice_get places k ≡ Some place → first_kind t places ≡ kind_at t place
-first_is t x k place zero_is lt at = grind arith
+first_is = grind arith
 
 pub kinds_done : (texts : List Text) (t : NumberedTable) (places : List ℕ) (k : ℕ) (kind : Kind) → k ≡ length places → kind ≡ kind_after k t places → all_of (first_kind t places) t (drop k places) ≡ all_of (first_kind t places) t places
     → one_kind (map (column_at (table_value texts t).columns) places) ≡ Ok kind
-kinds_done texts t places k kind end is before = grind (arith, one_kind_is texts t places, drop-length)
+kinds_done texts t places = grind (arith, one_kind_is texts t places, drop-length)
 
 both : (a b : Bool) → (a && b) ≡ true → (a ≡ true) × (b ≡ true)
-both x b e = grind arith
+both = grind arith
 
 each_kind : (kind : Kind) (t : NumberedTable) (places : List ℕ) → all_of kind t places ≡ true → HaveKind kind t places
 each_kind kind t [] e = grind arith
 each_kind kind t (p ∷ ps) e =
-    let here = both (same_kind (kind_at t p) kind) (all_of kind t ps) e in
+    let here = both _ _ e in
     grind (arith, each_kind kind t ps here.1)
 
 pub have_kind : (t : NumberedTable) (places : List ℕ) (k : ℕ) (kind : Kind) → k ≡ length places → kind ≡ kind_after k t places → all_of (first_kind t places) t (drop k places) ≡ all_of (first_kind t places) t places → HaveKind kind t places
-have_kind t places k kind end is before = grind (arith, each_kind, drop-length)
+have_kind = grind (arith, each_kind, drop-length)
 
 -- one more cell of a row
 pub kind_there : (kind : Kind) (t : NumberedTable) (places : List ℕ) (k place : ℕ) → HaveKind kind t places → k < length places → slice_get places k ≡ Some place → kind_at t place ≡ kind
-kind_there kind t places k place have lt at = grind (arith, get_or_from_slice_get)
+kind_there = grind (arith, get_or_from_slice_get)
 
 pub cell_more : (kind : Kind) (row : ℕ) (t : NumberedTable) (places : List ℕ) (k place : ℕ) (cell : Cell) (column made made' : CellColumn) → k < length places → slice_get places k ≡ Some place
     → column_at t.columns place ≡ record { kind = column.kind; cells = column.cells } → slice_get column.cells row ≡ Some cell → made ≡ cells_across kind row t (take k places)
@@ -95,10 +92,10 @@ cell_more kind row t places k place cell column made made' lt at is here before 
 
 -- the kind of the columns so far
 pub kind_later : (t : NumberedTable) (places : List ℕ) (k : ℕ) (kind : Kind) → 0 < k → kind ≡ kind_after k t places → kind ≡ first_kind t places
-kind_later t places x kind some is = grind arith
+kind_later = grind arith
 
 pub same_next : (next kind : Kind) → next ≡ kind → same_kind next kind ≡ true
 same_next next kind is = cc (kind_itself kind)
 
 pub other_kind : (next kind first : Kind) → kind ≡ first → next ≢ kind → same_kind next first ≡ false
-other_kind next kind first is apart = grind arith
+other_kind = grind arith

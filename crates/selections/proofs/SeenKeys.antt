@@ -10,7 +10,7 @@ use Rattle.{
   form_parts.{specs.Makes.{MakesBy}, proofs.LabelLaws.{same_by_number}},
   index_core.specs.Labels.{same_number, order_in},
   frame_store.specs.declared.fault.OpFault.{OpFault},
-  pick_meaning.{specs.{Faults.{PickFault, not_there, bound_not_unique, out_of_range, no_mask_label, step_zero, then_pick, pick_seen}, Rows.{rows_where, only_row}, Positions.{row_or_fault, rows_at}, Leading.{leads, leading_cmp}, Labels.{unless_none, rows_of_key, rows_of_keys}, Slices.{first_row, slice_on}, Masks.{cell_or_fault, cell_of_label, kept_by_label, masked_rows}, Keys.{LabelKey, one_key, each_key, between, Pick, listed_pick, sliced_pick, key_pick, picked_by_label, PlaceKey, one_place, each_place, place_slice, picked_by_place}}, proofs.SeenLaws.{then_seen, rows_of_key-map, rows_of_keys-map, slice_on-map}},
+  pick_meaning.{specs.{Faults.{PickFault, not_there, bound_not_unique, out_of_range, no_mask_label, step_zero, then_pick, pick_seen}, Positions.{row_or_fault, rows_at}, Leading.{leads, leading_cmp}, Labels.{unless_none, rows_of_key, rows_of_keys}, Slices.{first_row, slice_on}, Masks.{cell_or_fault, kept_by_label, masked_rows}, Keys.{LabelKey, one_key, each_key, between, Pick, listed_pick, sliced_pick, key_pick, picked_by_label, PlaceKey, one_place, each_place, place_slice, picked_by_place}}, proofs.SeenLaws.{then_seen, rows_of_key-map, rows_of_keys-map, slice_on-map}},
   select_meaning.specs.Keys.{found_pick, found_labels},
 }
 use Rattle.indexers.specs.declared.keys.LocKey.TheVariants as key
@@ -30,35 +30,35 @@ FaultIn P (Err fault) = KeyIn P fault
 
 module _ {K : Type 0} (P : K → Type 0) where
   then_in : {A B : Type 0} (r : Result A (PickFault K)) (go : A → Result B (PickFault K)) → FaultIn P r → ((a : A) → FaultIn P (go a)) → FaultIn P (then_pick r go)
-  then_in x go first later = grind arith
+  then_in = grind arith
 
   unless_in : (key : K) (rows : List ℕ) → P key → FaultIn P (unless_none key rows)
-  unless_in x x1 given = grind arith
+  unless_in = grind arith
 
   keys_in : {X : Type 0} (meets : K → X → Bool) (xs : List X) (keys : List K) → All P keys → FaultIn P (rows_of_keys meets xs keys)
   keys_in meets xs [] given = tt
   keys_in meets xs (key ∷ keys) given =
-      then_in (rows_of_key meets xs key) (λ rows. then_pick (rows_of_keys meets xs keys) (λ more. Ok (rows ++ more))) (unless_in key (rows_where (meets key) 0 xs) (given 0 key (omega arith)))
-      (λ rows. then_in (rows_of_keys meets xs keys) (λ more. Ok (rows ++ more)) (keys_in meets xs keys (λ k d lt. given (suc k) d (omega arith))) (λ more. tt))
+      then_in _ (λ rows. then_pick (rows_of_keys meets xs keys) (λ more. Ok (rows ++ more))) (unless_in _ _ (given 0 key (omega arith)))
+      (λ rows. then_in _ (λ more. Ok (rows ++ more)) (keys_in _ xs keys (λ k d lt. given (suc k) d (omega arith))) (λ more. tt))
 
   first_in : (cmp : K → K → Ordering) (xs : List K) (bound : Option K) → IfSome bound P → FaultIn P (first_row cmp xs bound)
-  first_in cmp xs x given = grind arith
+  first_in = grind arith
 
   slice_on_in : (levels : ℕ) (cmp : K → K → Ordering) (lower upper : Option K) (xs : List K) → IfSome lower P → IfSome upper P → FaultIn P (slice_on levels cmp lower upper xs)
-  slice_on_in levels cmp lower upper xs low up = grind (arith, then_in)
+  slice_on_in = grind (arith, then_in)
 
   cell_in : (x : K) (mask : List Bool) (row : Option ℕ) → P x → FaultIn P (cell_or_fault x mask row)
-  cell_in x mask x1 given = grind arith
+  cell_in = grind arith
 
   kept_in : (same : K → K → Bool) (labels : List K) (mask : List Bool) (row : ℕ) (xs : List K) → All P xs → FaultIn P (kept_by_label same labels mask row xs)
   kept_in same labels mask row [] given = tt
   kept_in same labels mask row (x ∷ xs) given =
-      then_in (cell_of_label same labels mask x) (λ kept. then_pick (kept_by_label same labels mask (row + 1) xs) (λ rows. Ok (if kept then row ∷ rows else rows)))
-      (cell_in x mask (only_row (rows_where (same x) 0 labels)) (given 0 x (omega arith)))
-      (λ kept. then_in (kept_by_label same labels mask (row + 1) xs) (λ rows. Ok (if kept then row ∷ rows else rows)) (kept_in same labels mask (row + 1) xs (λ k d lt. given (suc k) d (omega arith))) (λ rows. tt))
+      then_in _ (λ kept. then_pick (kept_by_label same labels mask (row + 1) xs) (λ rows. Ok (if kept then row ∷ rows else rows)))
+      (cell_in x _ _ (given 0 x (omega arith)))
+      (λ kept. then_in _ (λ rows. Ok (if kept then row ∷ rows else rows)) (kept_in same labels mask (row + 1) xs (λ k d lt. given (suc k) d (omega arith))) (λ rows. tt))
 
   pub mask_in : (same : K → K → Bool) (xs labels : List K) (mask : List Bool) → All P xs → FaultIn P (masked_rows same xs labels mask)
-  mask_in same xs labels mask given = grind (arith, kept_in)
+  mask_in = grind (arith, kept_in)
 
 -- labels whose texts were given their numbers
 abbrev pub IsGivenTuple : List Text → List Label → Type 0
@@ -66,7 +66,7 @@ IsGivenTuple texts tuple = IsSettled tuple_value texts tuple
 
 pub tuples_given : (texts : List Text) (tuples : List (List Label)) → IsSettled (λ ts. map (tuple_value ts)) texts tuples → All (IsGivenTuple texts) tuples
 tuples_given texts [] settled = grind arith
-tuples_given texts (t ∷ ts) settled = All-cons (IsGivenTuple texts) t ts (search head_settled) (tuples_given texts ts (grind arith))
+tuples_given texts (t ∷ ts) settled = All-cons (IsGivenTuple texts) t ts (search head_settled) (tuples_given _ ts (grind arith))
 
 -- the parts of a key
 abbrev one_of : LabelKey (List LabelValue) → List LabelValue
@@ -97,7 +97,7 @@ key_given : (texts : List Text) (k : List Label) → IsSettled label_key_value t
 key_given texts k settled = λ more. ap one_of (settled more)
 
 keys_given : (texts : List Text) (ks : List (List Label)) → IsSettled label_key_value texts (key.Many ks) → All (IsGivenTuple texts) ks
-keys_given texts ks settled = tuples_given texts ks (λ more. ap each_of (settled more))
+keys_given texts ks settled = tuples_given _ ks (λ more. ap each_of (settled more))
 
 -- the fault of a key names a label of the key
 pub key_in : (texts : List Text) (levels : ℕ) (tuples : List (List Label)) (k : LocKey) → IsSettled label_key_value texts k → FaultIn (IsGivenTuple texts) (picked_by_label same_number (order_in texts) levels tuples (label_key k))
@@ -105,8 +105,8 @@ key_in texts levels tuples key.All settled = tt
 key_in texts levels tuples (key.One k) settled = search (then_in, unless_in, key_given)
 key_in texts levels tuples (key.Many ks) settled = search (then_in, keys_in, keys_given)
 key_in texts levels tuples (key.Span lower upper) settled =
-    then_in (IsGivenTuple texts) (slice_on levels (leading_cmp (order_in texts)) lower upper tuples) (λ rows. Ok (sliced_pick rows))
-    (slice_on_in (IsGivenTuple texts) levels (leading_cmp (order_in texts)) lower upper tuples (grind (arith, bound_given)) (grind (arith, bound_given))) (λ rows. tt)
+    then_in _ (slice_on levels (leading_cmp (order_in texts)) lower upper tuples) (λ rows. Ok (sliced_pick rows))
+    (slice_on_in _ levels _ _ _ tuples (grind (arith, bound_given)) (grind (arith, bound_given))) (λ rows. tt)
 
 module _ (texts : List Text) (distinct : AreDistinct texts) where
   same_is : (a b : Label) → IsSettled label_datum texts a → IsSettled label_datum texts b → same_label (label_datum texts a) (label_datum texts b) ≡ same_number a b
@@ -130,25 +130,25 @@ module _ (texts : List Text) (distinct : AreDistinct texts) where
 
   -- a key's pick
   key_pick_seen : (levels : ℕ) (key : List Label) (rows : List ℕ) → key_pick levels (tuple_value texts key) rows ≡ key_pick levels key rows
-  key_pick_seen levels key rows = search length-map
+  key_pick_seen = search length-map
 
   pub picked_is : (levels : ℕ) (tuples : List (List Label)) (k : LocKey) → All (IsGivenTuple texts) tuples → IsSettled label_key_value texts k
       → picked_by_label same_label label_cmp levels (map (tuple_value texts) tuples) (label_key_value texts k) ≡ pick_seen (tuple_value texts) (picked_by_label same_number (order_in texts) levels tuples (label_key k))
   picked_is levels tuples key.All all settled = search length-map
   picked_is levels tuples (key.One k) all settled =
-      let given : IsGivenTuple texts k = key_given texts k settled in
+      let given : IsGivenTuple texts k = key_given _ k settled in
       cc (rows_of_key-map (IsGivenTuple texts) (leads same_label) (leads same_number) (tuple_value texts) (tuple_value texts) k (λ x there. leads_is k x given there) tuples all, then_seen (tuple_value texts) (rows_of_key (leads same_number) tuples k) (λ rows. Ok (key_pick levels k rows)) (λ rows. Ok (key_pick levels (tuple_value texts k) rows)) (λ rows. ap (λ (p : Pick). Ok p) (key_pick_seen levels k rows)))
   picked_is levels tuples (key.Many ks) all settled =
-      let given : All (IsGivenTuple texts) ks = keys_given texts ks settled in
+      let given : All (IsGivenTuple texts) ks = keys_given _ ks settled in
       ap (λ r. then_pick r (λ rows. Ok (listed_pick rows))) (search (rows_of_keys-map, leads_is))
-      ∙ then_seen (tuple_value texts) (rows_of_keys (leads same_number) tuples ks) (λ rows. Ok (listed_pick rows)) (λ rows. Ok (listed_pick rows)) (λ rows. refl)
+      ∙ then_seen _ (rows_of_keys (leads same_number) tuples ks) (λ rows. Ok (listed_pick rows)) (λ rows. Ok (listed_pick rows)) (λ rows. refl)
   picked_is levels tuples (key.Span lower upper) all settled =
       ap (λ r. then_pick r (λ rows. Ok (sliced_pick rows))) (search (slice_on-map, order_is))
-      ∙ then_seen (tuple_value texts) (slice_on levels (leading_cmp (order_in texts)) lower upper tuples) (λ rows. Ok (sliced_pick rows)) (λ rows. Ok (sliced_pick rows)) (λ rows. refl)
+      ∙ then_seen _ (slice_on levels (leading_cmp (order_in texts)) lower upper tuples) (λ rows. Ok (sliced_pick rows)) (λ rows. Ok (sliced_pick rows)) (λ rows. refl)
 
 -- the same places, whatever the keys are
 place_seen : {K J : Type 0} (f : K → J) (count : ℕ) (z : ℤ) (row : Option ℕ) → row_or_fault count z row ≡ pick_seen f (row_or_fault count z row)
-place_seen f count z x = grind arith
+place_seen = grind arith
 
 places_seen : {K J : Type 0} (f : K → J) (count : ℕ) (zs : List ℤ) → rows_at count zs ≡ pick_seen f (rows_at count zs)
 places_seen f count [] = refl
@@ -162,14 +162,14 @@ by_place_seen {K} {J} f count (place_slice from to step) = grind arith
 -- and their faults have no key
 module _ {K : Type 0} (P : K → Type 0) (count : ℕ) where
   place_in : (z : ℤ) (row : Option ℕ) → FaultIn P (row_or_fault count z row)
-  place_in z x = grind arith
+  place_in = grind arith
 
   places_in : (zs : List ℤ) → FaultIn P (rows_at count zs)
   places_in [] = tt
   places_in (z ∷ zs) = search (then_in, place_in, places_in zs)
 
   pub by_place_in : (k : PlaceKey) → FaultIn P (picked_by_place count k)
-  by_place_in x = grind (arith, then_in, place_in, places_in)
+  by_place_in = grind (arith, then_in, place_in, places_in)
 
 -- what is found is what is meant, seen through the texts
 pub found_seen : {A B : Type 0} (texts : List Text) (view : A → B) (r : Result A KeyFault) (by_number : Result B (PickFault (List Label))) (seen : Result B (PickFault (List LabelValue)))
@@ -191,26 +191,26 @@ found_seen texts view (Err fault.NoMemory) by_number seen is same given = tt
 pub places_found : (texts : List Text) (count : ℕ) (k : PosKey) (r : Result Picked KeyFault) (out : Result Picked OpFault) (m : Result PlaceKey FaultValue)
     → out ≡ found_result r → PicksBy pick_of r (picked_by_place count (place_key k)) → m ≡ Ok (place_key k) → MakesBy pick_value texts out (then_value m (λ key. found_pick (picked_by_place count key)))
 places_found texts count k r out m is picks here =
-    let seen = found_seen texts pick_of r (picked_by_place count (place_key k)) (picked_by_place count (place_key k)) picks (search by_place_seen) (search by_place_in) in
+    let seen = found_seen texts _ r _ (picked_by_place count (place_key k)) picks (search by_place_seen) (search by_place_in) in
     grind arith
 
 pub labels_found : (texts : List Text) (levels : ℕ) (tuples : List (List Label)) (k : LocKey) (r : Result Picked KeyFault) (out : Result Picked OpFault)
     → AreDistinct texts → IsSettled tuples_value texts tuples → IsSettled label_key_value texts k → out ≡ found_result r → PicksBy pick_of r (picked_by_label same_number (order_in texts) levels tuples (label_key k))
     → MakesBy pick_value texts out (found_labels levels (tuples_value texts tuples) (label_key_value texts k))
 labels_found texts levels tuples k r out distinct given settled is picks =
-    let seen = found_seen texts pick_of r (picked_by_label same_number (order_in texts) levels tuples (label_key k)) (picked_by_label same_label label_cmp levels (tuples_value texts tuples) (label_key_value texts k)) picks
-    (search (picked_is, tuples_given)) (key_in texts levels tuples k settled) in
+    let seen = found_seen _ _ r _ _ picks
+    (search (picked_is, tuples_given)) (key_in _ _ _ k settled) in
     rw is seen
 
 -- all of so many places
 pub range_below : (n : ℕ) → All (λ place. place < n) (range_with_len 0 n)
-range_below n k d lt = grind (arith, length-range_with_len, get_or-range_with_len)
+range_below = grind (arith, length-range_with_len, get_or-range_with_len)
 
 pub column_within : (places : List ℕ) (count n : ℕ) → count ≡ n → n ≡ 1 → places ≡ range_with_len 0 count → PicksBelow n record { places = places; single = true; dropped = 0; span = None }
-column_within places count n is one_column all = grind arith
+column_within = grind arith
 
 both_so : (a b : Bool) → (a && b) ≡ true → (a ≡ true) × (b ≡ true)
-both_so x b e = grind arith
+both_so = grind arith
 
 record IsLeft (levels : ℕ) (p : Pick) : Type 0 where
   one : p.single ≡ true → length p.rows ≡ 1
@@ -223,34 +223,31 @@ LeavesBy levels (Ok p) = IsLeft levels p
 LeavesBy levels (Err f) = Unit {0}
 
 few_left : (n levels : ℕ) → 1 ≤ levels → (if nat_lt n levels then n else 0) < levels
-few_left n levels some = grind arith
+few_left = grind arith
 
 key_left : (levels : ℕ) (key : List Label) (rows : List ℕ) → 1 ≤ levels → IsLeft levels (key_pick levels key rows)
-key_left levels key rows some = grind arith
-
-listed_left : (levels : ℕ) (rows : List ℕ) → 1 ≤ levels → IsLeft levels (listed_pick rows)
-listed_left levels rows some = grind arith
+key_left = grind arith
 
 sliced_left : (levels : ℕ) (rows : List ℕ) → 1 ≤ levels → IsLeft levels (sliced_pick rows)
-sliced_left levels rows some = grind arith
+sliced_left = grind arith
 
 -- what is found lies below
 module _ (count levels : ℕ) (r : Result Picked KeyFault) (out : Result Picked OpFault) (meant_pick : Result Pick (PickFault (List Label))) (is : out ≡ found_result r) (picks : PicksBy pick_of r meant_pick) (leaves : LeavesBy levels meant_pick) where
   found_so : (P : Picked → Type 0) (s : Result Picked KeyFault) → PicksBy pick_of s meant_pick → IfOk s (λ picked. IsLeft levels (pick_of picked) → P picked) → IfOk (found_result s) P
-  found_so x x1 same so = grind arith
+  found_so P = grind arith
 
   found_left : (P : Picked → Type 0) → ((picked : Picked) → IsLeft levels (pick_of picked) → P picked) → IfOk out P
-  found_left P so = grind arith
+  found_left P = grind arith
 
   found_within : IfOk r (IsSpanned count) → IfOk r (λ picked. All (λ row. row < count) picked.places) → IfOk out (PicksBelow count)
-  found_within spanned inside = grind arith
+  found_within = grind arith
 
 pub places_within : (count : ℕ) (k : PosKey) (r : Result Picked KeyFault) (out : Result Picked OpFault) → out ≡ found_result r → PicksBy pick_of r (picked_by_place count (place_key k))
     → IfOk r (IsSpanned count) → IfOk r (λ picked. All (λ row. row < count) picked.places) → IfOk out (PicksBelow count)
-places_within count k r out is picks = grind arith
+places_within = grind arith
 
 pub places_left : (count : ℕ) (k : PosKey) (r : Result Picked KeyFault) (out : Result Picked OpFault) → out ≡ found_result r → PicksBy pick_of r (picked_by_place count (place_key k)) → IfOk out (λ picked. picked.dropped ≡ 0)
-places_left count k r out is picks = grind arith
+places_left = grind arith
 
 module _ (texts : List Text) (levels : ℕ) (tuples : List (List Label)) (k : LocKey) (r : Result Picked KeyFault) (out : Result Picked OpFault) (some : 1 ≤ levels) (is : out ≡ found_result r)
     (picks : PicksBy pick_of r (picked_by_label same_number (order_in texts) levels tuples (label_key k))) where
@@ -258,7 +255,7 @@ module _ (texts : List Text) (levels : ℕ) (tuples : List (List Label)) (k : Lo
   by_label = picked_by_label same_number (order_in texts) levels tuples (label_key k)
 
   pub labels_within : IfOk r (IsSpanned (length tuples)) → IfOk r (λ picked. All (λ row. row < length tuples) picked.places) → IfOk out (PicksBelow (length tuples))
-  labels_within = grind (arith, sliced_left, key_left, listed_left)
+  labels_within = grind (arith, sliced_left, key_left)
 
   pub labels_left : IfOk out (λ picked. picked.dropped < levels)
-  labels_left = grind (arith, sliced_left, key_left, listed_left)
+  labels_left = grind (arith, sliced_left, key_left)

@@ -18,27 +18,27 @@ kinds_all rows kind [] = refl
 kinds_all rows kind (c ∷ cs) = cc (kinds_all rows kind cs)
 
 kind_first : (rows : List ℕ) (cs : List (ColumnOf CellValue)) → kind_across (map (column_rows rows) cs) ≡ kind_across cs
-kind_first rows x = grind arith
+kind_first = grind arith
 
 one_kind_rows : (rows : List ℕ) (cs : List (ColumnOf CellValue)) → one_kind (map (column_rows rows) cs) ≡ one_kind cs
 one_kind_rows rows cs = grind (arith, kinds_all rows (kind_across cs) cs)
 
 -- the parts of the Series
 label_seen : (texts : List Text) (h : Option Label) → IsSome h → unwrap_or (heading_value texts h) (int (pos 0)) ∷ [] ≡ tuple_value texts (heading_tuple h)
-label_seen texts x some = grind arith
+label_seen = grind arith
 
 labels_seen : (texts : List Text) (t : NumberedTable) (places : List ℕ) → All IsSome t.headings → All (λ place. place < length t.headings) places
     → map (λ h. unwrap_or h (int (pos 0)) ∷ []) (map (heading_at (table_value texts t)) places) ≡ tuples_value texts (columns_axis t places).tuples
 labels_seen texts t [] some below = refl
 labels_seen texts t (p ∷ ps) some below =
-    λ j. (ap (λ h. unwrap_or h (int (pos 0)) ∷ []) (heading_seen texts t.headings p) ∙ label_seen texts (slice_index_or t.headings p None) (some p None (below 0 p (omega arith)))) j
+    λ j. (ap (λ h. unwrap_or h (int (pos 0)) ∷ []) (heading_seen texts t.headings p) ∙ label_seen _ _ (some p None (below 0 p (omega arith)))) j
     ∷ labels_seen texts t ps some (λ k d lt. below (suc k) d (omega arith)) j
 
 cells_seen : (texts : List Text) (t : NumberedTable) (row : ℕ) (places : List ℕ)
     → map first_cell (map (column_rows (row ∷ [])) (map (column_at (table_value texts t).columns) places)) ≡ map (datum texts) (map (cell_across t row) places)
 cells_seen texts t row [] = refl
 cells_seen texts t row (p ∷ ps) =
-    λ j. (ap (λ (c : ColumnOf CellValue). slice_index_or c.cells row na_cell) (column_seen texts t.columns p) ∙ get_or-map (datum texts) (column_at t.columns p).cells row Na) j ∷ cells_seen texts t row ps j
+    λ j. (ap (λ (c : ColumnOf CellValue). slice_index_or c.cells row na_cell) (column_seen _ _ p) ∙ get_or-map (datum texts) (column_at t.columns p).cells row Na) j ∷ cells_seen texts t row ps j
 
 -- the name of a row: its label, or none where it has several
 pub name_of_one : (texts : List Text) (tuple : List Label) (l : Label) → length tuple ≡ 1 → slice_get tuple 0 ≡ Some l → Some (label_datum texts l) ≡ row_name (tuple_value texts tuple)
@@ -47,7 +47,7 @@ name_of_one texts (m ∷ []) l one at = search
 name_of_one texts (m ∷ (n ∷ ls)) l one at = cc
 
 pub label_first : (tuples : List (List Label)) (row : ℕ) (l : Label) → option_and_then (λ tuple. slice_get tuple 0) (slice_get tuples row) ≡ Some l → slice_get (slice_index_or tuples row []) 0 ≡ Some l
-label_first tuples row l at = grind (arith, get_or_from_slice_get)
+label_first = grind (arith, get_or_from_slice_get)
 
 pub name_of_several : (texts : List Text) (tuple : List Label) → length tuple ≢ 1 → None ≡ row_name (tuple_value texts tuple)
 name_of_several texts [] several = refl
@@ -76,7 +76,7 @@ module _ (t : NumberedTable) (row : ℕ) (label_name : Option Label) (kind : Kin
       }
 
   row_limited : (texts : List Text) (b : Bool) → within_limits (length places) 1 ≡ b → limited (table_value texts (row_table t row label_name kind places)) ≡ then_value (if b then Ok (table_value texts (row_table t row label_name kind places)) else Err limit) (λ t. Ok (value.table t))
-  row_limited texts b is = grind (arith, length-map)
+  row_limited = grind (arith, length-map)
 
   row_is : (texts : List Text) → one_kind (map (column_at (table_value texts t).columns) places) ≡ Ok kind → row_result (cut (table_value texts t) (row ∷ []) places) ≡ limited (table_value texts (row_table t row label_name kind places))
   row_is texts one = grind (arith, one_kind_rows (row ∷ []) (map (column_at (table_value texts t).columns) places), series_seen texts)
@@ -85,12 +85,12 @@ module _ (t : NumberedTable) (row : ℕ) (label_name : Option Label) (kind : Kin
       → (row_result (cut (table_value texts t) (row ∷ []) places) ≡ Ok (value.table (table_value texts made))) × IsSettled table_value texts made
   row_made texts made one within is settled = (
     cc (row_is texts one, row_limited texts true within),
-    settled_by table_value table_value (λ T. row_series (cut T (row ∷ []) places) kind) texts t made (λ ts. series_seen ts ∙ ap (table_value ts) (sym is)) settled,
+    settled_by table_value table_value (λ T. row_series (cut T (row ∷ []) places) kind) _ t _ (λ ts. series_seen ts ∙ ap (table_value ts) (sym is)) settled,
   )
 
   pub row_beyond : (texts : List Text) → one_kind (map (column_at (table_value texts t).columns) places) ≡ Ok kind → within_limits (length places) 1 ≡ false → row_result (cut (table_value texts t) (row ∷ []) places) ≡ Err limit
-  row_beyond texts one beyond = row_is texts one ∙ row_limited texts false beyond
+  row_beyond texts one beyond = row_is _ one ∙ row_limited _ _ beyond
 
 pub row_refused : (texts : List Text) (t : NumberedTable) (row : ℕ) (places : List ℕ) (why : OpFault) → MakesBy as_it_is texts (Err why) (one_kind (map (column_at (table_value texts t).columns) places))
     → Makes texts (Err why) (row_result (cut (table_value texts t) (row ∷ []) places))
-row_refused texts t row places x h = grind (arith, one_kind_rows)
+row_refused = grind (arith, one_kind_rows)

@@ -6,7 +6,7 @@ use Rattle.{
   table_meaning.specs.Value.{Given, GivenList, more_given, scalar_in},
   form_meaning.specs.{Binding.{is_truth}, Select.{cells_of}},
   select_meaning.specs.Select.{are_truths},
-  frame_store.specs.{Objects.{Tables}, Arguments.{item_of, items_of}, declared.arguments.Item.{Item}, Shown.{cells_value}},
+  frame_store.specs.{declared.arguments.Item.{Item}, Shown.{cells_value}},
   selections.specs.Selected.{scalars_in},
 }
 
@@ -27,11 +27,7 @@ abbrev if_scalars : GivenList → Bool → Option (List CellValue)
 if_scalars parts b = if b then Some (cells_of parts) else None
 
 pub scalars_more : (g : Given) (rest : GivenList) → scalars_in (more_given g rest) ≡ with_scalar (scalar_in g) (scalars_in rest)
-scalars_more x rest = grind arith
-
-from_item : (live : Tables) (texts : List Text) (items : List Item) (item : Item) (o : Option Cell) → item ≡ get_or items 0 item → 1 ≤ length items
-    → ((live : Tables) (texts : List Text) → option_map (datum texts) o ≡ scalar_in (item_of live texts item)) → scalars_in (items_of live texts items) ≡ with_scalar (option_map (datum texts) o) (scalars_in (items_of live texts (after items)))
-from_item live texts items item o is some scalar = cc (first_of items item is some, scalars_more (item_of live texts item) (items_of live texts (after items)), scalar live texts)
+scalars_more = grind arith
 
 -- scalars after those so far
 abbrev pub scalars_after : List Text → List Cell → Option (List CellValue) → Option (List CellValue)
@@ -60,7 +56,7 @@ pub tests_done : (test : CellValue → Bool) (texts : List Text) (cells : List C
 tests_done test texts cells k whole end before = cc (drop-length cells)
 
 positive : (n : ℕ) → 0 < n → nat_lt 0 n ≡ true
-positive n lt = grind arith
+positive = grind arith
 
 pub truths_are : (texts : List Text) (cells : List Cell) (b : Bool) → 0 < length cells → b ≡ list_all is_truth (cells_value texts cells) → b ≡ are_truths (cells_value texts cells)
-truths_are texts cells b lt is = search (positive, length-map)
+truths_are = search (positive, length-map)

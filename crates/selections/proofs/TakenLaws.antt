@@ -1,25 +1,21 @@
 -- Rows that are taken from a table.
 use Rattle.{
-  std.{proofs.{Common.{◌≡◌, ◌∙◌, refl, ap, sym, arith, ℕ, ◌+◌, true, List, [], ◌∷◌, ◌++◌, length, map, drop, slice_index_or, Some, None, Ok}, Math.ListN.{get_or-map}, lemmas.{List.{length-map, drop-map}, Simd.{map-map}}}, specs.{Prelude.{IsSome}, List.{range_with_len}}},
-  cell_core.specs.{declared.{cell.{Label.{Label}, Cell.{Cell, TheVariants.{Na}}}, grid.{Rows.{Rows}, Shape.{Shape}}}, Grids.{place_from}},
-  meaning.specs.{Text.{Text}, Cell.{CellValue, na_cell, datum, label_datum}},
-  table_meaning.specs.{Settled.{IsSettled}, Table.{ColumnOf, NumberedTable, column_at, no_column, table_value, heading_value, tuple_value, column_value}, Change.{strided_column, cut_columns}},
+  std.{proofs.{Common.{◌≡◌, ◌∙◌, refl, ap, sym, arith, ℕ, ◌+◌, true, List, [], ◌∷◌, length, map, drop, slice_index_or, Some, None, Ok}, Math.ListN.{get_or-map}, lemmas.{List.{length-map, drop-map}, Simd.{map-map}}}, specs.{Prelude.{IsSome}, List.{range_with_len}}},
+  cell_core.specs.declared.{cell.{Label.{Label}, Cell.{Cell, TheVariants.{Na}}}, grid.{Rows.{Rows}, Shape.{Shape}}},
+  meaning.specs.{Text.{Text}, Cell.{CellValue, na_cell, datum}},
+  table_meaning.specs.{Settled.{IsSettled}, Table.{ColumnOf, NumberedTable, column_at, table_value, tuple_value, column_value}, Change.{cut_columns}},
   form_meaning.specs.Finish.{limited, within_limits},
   select_meaning.specs.Select.{column_rows, rows_taken, without_leading},
   frame_store.{specs.{Objects.{tables, table_at, with_object}, World.{world, IsSettledWorld, Forms}, declared.{arguments.Value.TheVariants.{Object}, object.ObjId.{ObjId}, store.Store.{Store}}, Parts.{HeadingList, table_with, axis_of}}, proofs.Settling.{longer_self, settled_with, table_settled, level_names_part, labels_part, columns_part}},
-  selections.{proofs.{AnswerLaws.{column_seen, new_answers, table_is_settled}, PickedLaws.{list_is}, PlanLaws.{without_none}}, specs.{Chosen.{cells_at, columns_at, chosen, chosen_under, AreSettledHeadings}, Plans.{rows_in, levels_lost, taken_table}, declared.planning.Taken.{Taken, TheVariants.{Slice, Listed, Under}}}},
+  selections.{proofs.{AnswerLaws.{column_seen, new_answers, table_is_settled}, PickedLaws.{list_is}, PlanLaws.{without_none}}, specs.{Chosen.{columns_at, chosen, chosen_under, AreSettledHeadings}, Plans.{rows_in, levels_lost, taken_table}, declared.planning.Taken.{Taken, TheVariants.{Slice, Listed, Under}}}},
   multi_index.specs.Axes.{AxisValue, taken_axis},
   pick_meaning.specs.Rows.{rows_of},
 }
 
-column_cut : (rows : Rows) (c : ColumnOf Cell) → strided_column Na rows c ≡ cells_at (rows_of rows) c
-column_cut rows c =
-    ap (λ (l : List Cell). record { kind = c.kind; cells = l }) (sym (map-map (λ row. slice_index_or c.cells row Na) (place_from rows.start rows.step) (range_with_len 0 rows.count)))
-
 -- a slice that is cut is the rows that are chosen
 pub cut_is_chosen : (shape : Shape) (axis : AxisValue) (headings : HeadingList) (rows : Rows) (columns : List ℕ) (t : NumberedTable) → axis ≡ taken_axis (axis_of t) (rows_of rows)
     → table_with shape axis headings (cut_columns Na t.columns rows columns) ≡ chosen shape headings (rows_of rows) columns t
-cut_is_chosen shape axis headings rows columns t same = λ j. table_with shape (same j) headings (map (λ place. column_cut rows (column_at t.columns place) j) columns)
+cut_is_chosen = grind (arith, map-map)
 
 -- what is chosen, as it is seen
 cells_seen : (texts : List Text) (rows : List ℕ) (cells : List Cell) → map (datum texts) (map (λ row. slice_index_or cells row Na) rows) ≡ map (λ row. slice_index_or (map (datum texts) cells) row na_cell) rows
@@ -33,54 +29,45 @@ labels_seen texts (r ∷ rs) labels = λ j. sym (get_or-map (tuple_value texts) 
 pub columns_seen : (texts : List Text) (rows columns : List ℕ) (t : NumberedTable) → map (column_value texts) (columns_at rows columns t) ≡ map (column_rows rows) (map (column_at (table_value texts t).columns) columns)
 columns_seen texts rows [] t = refl
 columns_seen texts rows (p ∷ ps) t =
-    λ j. (ap (λ (l : List CellValue). record { kind = (column_at t.columns p).kind; cells = l }) (cells_seen texts rows (column_at t.columns p).cells) ∙ ap (column_rows rows) (sym (column_seen texts t.columns p))) j ∷ columns_seen texts rows ps t j
+    λ j. (ap (λ (l : List CellValue). record { kind = (column_at t.columns p).kind; cells = l }) (cells_seen _ _ _) ∙ ap (column_rows rows) (sym (column_seen texts t.columns p))) j ∷ columns_seen texts rows ps t j
 
 -- all columns of some rows
 all_columns : (columns : List (ColumnOf CellValue)) → map (column_at columns) (range_with_len 0 (length columns)) ≡ columns
-all_columns columns = list_is (column_at columns) columns 0 no_column (λ k lt. let e : 0 + k ≡ k = omega arith in ap (column_at columns) e)
+all_columns columns = list_is _ _ 0 _ (λ k lt. let e : 0 + k ≡ k = omega arith in ap (column_at columns) e)
 
 pub chosen_rows : (texts : List Text) (headings : HeadingList) (rows columns : List ℕ) (t : NumberedTable) → headings ≡ record { columns_name = t.columns_name; labels = t.headings } → columns ≡ range_with_len 0 (length t.columns)
     → table_value texts (chosen t.shape headings rows columns t) ≡ rows_taken (table_value texts t) rows
-chosen_rows texts headings rows columns t own all =
-    let T = table_value texts t in
-    let count : length t.columns ≡ length T.columns = sym (length-map t.columns (column_value texts)) in
-    let whole : map (column_at T.columns) columns ≡ T.columns = ap (map (column_at T.columns)) (all ∙ ap (range_with_len 0) count) ∙ all_columns T.columns in
-    ap (λ (h : HeadingList). table_value texts (chosen t.shape h rows columns t)) own
-    ∙ (λ j. record T { labels = labels_seen texts rows t.labels j; columns = (columns_seen texts rows columns t ∙ ap (map (column_rows rows)) whole) j })
+chosen_rows = grind (arith, length-map, all_columns, labels_seen, columns_seen)
 
 pub chosen_settled : (texts : List Text) (shape : Shape) (headings : HeadingList) (rows columns : List ℕ) (t : NumberedTable) → IsSettled table_value texts t → AreSettledHeadings texts headings → IsSettled table_value texts (chosen shape headings rows columns t)
 chosen_settled texts shape headings rows columns t settled given =
-    table_settled texts (chosen shape headings rows columns t) given.0 (level_names_part texts t settled)
-    (λ more. labels_seen (texts ++ more) rows t.labels ∙ ap (λ ls. map (λ row. slice_index_or ls row []) rows) (labels_part texts t settled more) ∙ sym (labels_seen texts rows t.labels))
+    table_settled _ _ given.0 (level_names_part _ t settled)
+    (λ more. labels_seen _ _ _ ∙ ap (λ ls. map (λ row. slice_index_or ls row []) rows) (labels_part _ t settled more) ∙ sym (labels_seen _ _ _))
     given.1
-    (λ more. columns_seen (texts ++ more) rows columns t ∙ ap (λ cs. map (column_rows rows) (map (column_at cs) columns)) (columns_part texts t settled more) ∙ sym (columns_seen texts rows columns t))
+    (λ more. columns_seen _ _ _ t ∙ ap (λ cs. map (column_rows rows) (map (column_at cs) columns)) (columns_part _ t settled more) ∙ sym (columns_seen _ _ _ t))
 
 -- without leading levels
 tuples_under : (texts : List Text) (count : ℕ) (tuples : List (List Label)) → map (tuple_value texts) (map (λ tuple. drop count tuple) tuples) ≡ map (drop count) (map (tuple_value texts) tuples)
 tuples_under texts count [] = refl
-tuples_under texts count (tuple ∷ tuples) = λ j. sym (drop-map (label_datum texts) count tuple) j ∷ tuples_under texts count tuples j
+tuples_under texts count (tuple ∷ tuples) = search (drop-map, tuples_under texts count tuples)
 
 under_seen : (texts : List Text) (count : ℕ) (shape : Shape) (headings : HeadingList) (rows columns : List ℕ) (t : NumberedTable)
     → table_value texts (chosen_under count shape headings rows columns t) ≡ without_leading count (table_value texts (chosen shape headings rows columns t))
-under_seen texts count shape headings rows columns t =
-    λ j. record (table_value texts (chosen shape headings rows columns t)) {
-      level_names = sym (drop-map (heading_value texts) count t.level_names) j;
-      labels = tuples_under texts count (map (λ row. slice_index_or t.labels row []) rows) j;
-    }
+under_seen = grind (arith, drop-map, tuples_under)
 
 -- a table that is taken is the rows and columns that are chosen, without the levels that are lost
 pub taken_seen : (texts : List Text) (shape : Shape) (headings : HeadingList) (taken : Taken) (columns : List ℕ) (t : NumberedTable)
     → table_value texts (taken_table shape headings taken columns t) ≡ without_leading (levels_lost taken) (table_value texts (chosen shape headings (rows_in taken) columns t))
-taken_seen texts shape headings (Slice rows) columns t = sym (without_none (table_value texts (chosen shape headings (rows_of rows) columns t)))
-taken_seen texts shape headings (Listed places) columns t = sym (without_none (table_value texts (chosen shape headings places columns t)))
-taken_seen texts shape headings (Under places count) columns t = under_seen texts count shape headings places columns t
+taken_seen texts shape headings (Slice rows) = search without_none
+taken_seen texts shape headings (Listed places) = search without_none
+taken_seen texts shape headings (Under places count) = search under_seen
 
 taken_settled : (texts : List Text) (shape : Shape) (headings : HeadingList) (taken : Taken) (columns : List ℕ) (t : NumberedTable) → IsSettled table_value texts t → AreSettledHeadings texts headings
     → IsSettled table_value texts (taken_table shape headings taken columns t)
 taken_settled texts shape headings taken columns t settled given =
-    λ more. taken_seen (texts ++ more) shape headings taken columns t
-    ∙ ap (without_leading (levels_lost taken)) (chosen_settled texts shape headings (rows_in taken) columns t settled given more)
-    ∙ sym (taken_seen texts shape headings taken columns t)
+    λ more. taken_seen _ _ _ _ _ t
+    ∙ ap (without_leading (levels_lost taken)) (search chosen_settled)
+    ∙ sym (taken_seen _ _ _ taken _ t)
 
 pub taken_answers : (texts : List Text) (store store' : Store) (on : ℕ) (id : ObjId) (shape : Shape) (headings : HeadingList) (taken : Taken) (columns : List ℕ) → IsSome (tables store on) → tables store id.0 ≡ None
     → tables store' ≡ with_object (tables store) id.0 (Some (taken_table shape headings taken columns (table_at (tables store) on))) → within_limits (length (rows_in taken)) (length columns) ≡ true
@@ -89,7 +76,7 @@ pub taken_answers : (texts : List Text) (store store' : Store) (on : ℕ) (id : 
 taken_answers texts store store' on id shape headings taken columns live fresh put within settled given =
     let t = table_at (tables store) on in
     let made = taken_table shape headings taken columns t in (
-      new_answers texts (tables store) (tables store') id made _ fresh put settled (grind (arith, taken_seen, length-map)),
+      new_answers _ _ _ id _ _ fresh put settled (grind (arith, taken_seen, length-map)),
       longer_self texts,
-      settled_with texts (tables store) (tables store') id.0 made settled (taken_settled texts shape headings taken columns t (table_is_settled texts (tables store) on live settled) given) put,
+      settled_with _ _ _ _ _ settled (taken_settled texts shape headings taken columns t (table_is_settled texts (tables store) on live settled) given) put,
     )

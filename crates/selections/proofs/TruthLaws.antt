@@ -1,12 +1,12 @@
 -- Lists of truth values.
 use Rattle.{
-  std.{proofs.{Common.{◌≡◌, refl, arith, ℕ, suc, ◌+◌, ◌<◌, Bool, true, false, ◌&&◌, List, [], ◌∷◌, drop, length, Option, Some, None}, Math.Seq.{drop-cons}}, specs.{Prelude.{nat_lt, slice_index_or}, Option.{option_map}, List.{list_all}}},
+  std.{proofs.Common.{◌≡◌, refl, arith, ℕ, ◌<◌, Bool, true, false, ◌&&◌, List, [], ◌∷◌, length, Option, Some, None}, specs.{Prelude.{nat_lt}, Option.{option_map}, List.{list_all}}},
   cell_core.specs.declared.cell.Cell.{Cell},
   meaning.specs.{Text.{Text}, Cell.{CellValue, datum}},
-  table_meaning.specs.Value.{cell, table, GivenList, nothing, one, row, many, entries, no_given, more_given, scalar_in},
+  table_meaning.specs.Value.{cell, table, GivenList, nothing, one, row, many, entries, no_given, more_given},
   form_meaning.specs.{Binding.{each, is_scalar, is_truth}, Select.{cells_of}},
   select_meaning.specs.Select.{are_truths},
-  frame_store.specs.{declared.arguments.Item.{Item}, Objects.{Tables}, Arguments.{items_of, item_of}},
+  frame_store.specs.{declared.arguments.Item.{Item}, Objects.{Tables}, Arguments.{items_of}},
   selections.specs.Selected.{each_truth},
 }
 use Rattle.cell_core.specs.declared.cell.Cell.TheVariants as code_cell
@@ -21,17 +21,7 @@ is_truth_cell (Some (code_cell.Bool b)) = true
 is_truth_cell o = false
 
 truth_cell : (texts : List Text) (o : Option Cell) → is_truth_scalar (option_map (datum texts) o) ≡ is_truth_cell o
-truth_cell texts x = grind arith
-
-pub truth_met : (live : Tables) (texts : List Text) (items : List Item) (k : ℕ) (item : Item) (o : Option Cell) (whole : Bool) → k < length items → slice_index_or items k item ≡ item
-    → option_map (datum texts) o ≡ scalar_in (item_of live texts item) → is_truth_cell o ≡ true → each_truth (items_of live texts (drop k items)) ≡ whole → each_truth (items_of live texts (drop (k + 1) items)) ≡ whole
-truth_met live texts items k item o whole lt at is met before =
-    let step : k + 1 ≡ suc k = omega arith in
-    grind (arith, drop-cons)
-
-pub other_met : (live : Tables) (texts : List Text) (items : List Item) (k : ℕ) (item : Item) (o : Option Cell) (whole : Bool) → k < length items → slice_index_or items k item ≡ item
-    → option_map (datum texts) o ≡ scalar_in (item_of live texts item) → is_truth_cell o ≡ false → each_truth (items_of live texts (drop k items)) ≡ whole → false ≡ whole
-other_met live texts items k item o whole lt at is met before = grind (arith, drop-cons)
+truth_cell = grind arith
 
 -- a list of truth values alone is one of scalars
 truths_are : (parts : GivenList) → (each is_scalar parts && list_all is_truth (cells_of parts)) ≡ each_truth parts
@@ -44,7 +34,7 @@ truths_are (more_given (many parts) rest) = refl
 truths_are (more_given (entries pairs) rest) = refl
 
 positive : (n : ℕ) → 0 < n → nat_lt 0 n ≡ true
-positive n lt = grind arith
+positive = grind arith
 
 some_cell : (live : Tables) (texts : List Text) (items : List Item) (b : Bool) → 0 < length items → each is_scalar (items_of live texts items) ≡ b → (b && are_truths (cells_of (items_of live texts items))) ≡ (b && list_all is_truth (cells_of (items_of live texts items)))
 some_cell live texts items false some is = refl
@@ -52,4 +42,4 @@ some_cell live texts [] true some is = grind arith
 some_cell live texts (x ∷ xs) true some is = grind arith
 
 pub truth_list_is : (live : Tables) (texts : List Text) (items : List Item) → 0 < length items → (each is_scalar (items_of live texts items) && are_truths (cells_of (items_of live texts items))) ≡ each_truth (items_of live texts items)
-truth_list_is live texts items some = search (some_cell, truths_are)
+truth_list_is = search (some_cell, truths_are)

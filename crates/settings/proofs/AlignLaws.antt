@@ -15,88 +15,85 @@ use Rattle.{
   selections.specs.Selected.{as_it_is},
 }
 use Rattle.row_keys.specs.Keys as numbers
-use Rattle.frame_store.specs.declared.fault.OpFault.TheVariants as op
 
 module _ (texts : List Text) (distinct : AreDistinct texts) (keys targets : List (List Label)) (given : IsSettled labels_value texts keys) (asked : IsSettled labels_value texts targets) where
   -- rows that are found by numbers are those by texts
   pub reindexed_by_number : reindexed same_tuple (labels_value texts keys) (labels_value texts targets) ≡ gaps_seen (tuple_value texts) (reindexed numbers.same_tuple keys targets)
   reindexed_by_number =
-      reindexed_seen (tuple_value texts) (IsSettled tuple_value texts) numbers.same_tuple (λ x y. false) same_tuple (λ x y. false) (λ x y f g. tuple_by_number texts x y distinct f g) (λ x y f g. refl)
-      keys (tuples_settled texts keys given) targets (tuples_settled texts targets asked)
+      reindexed_seen _ _ _ (λ x y. false) _ (λ x y. false) (λ x y f g. tuple_by_number _ x y distinct f g) (λ x y f g. refl)
+      _ (tuples_settled _ _ given) targets (tuples_settled _ _ asked)
 
   abbrev pub found_rows : Result (List (Option ℕ)) FaultValue
   found_rows = met_rows (reindexed same_tuple (labels_value texts keys) (labels_value texts targets))
 
   pub rows_met : (rows : List (Option ℕ)) → reindexed numbers.same_tuple keys targets ≡ Ok rows → found_rows ≡ Ok rows
-  rows_met rows is = cc reindexed_by_number
+  rows_met _ is = cc reindexed_by_number
 
   pub rows_refused : (fault : AlignFault) → AlignsBy as_rows (Err fault) (reindexed numbers.same_tuple keys targets) → MakesBy as_it_is texts (Err (align_refusal fault)) found_rows
   rows_refused (DuplicateLabels key) is =
-      let settled = repeat_given numbers.same_tuple keys targets (IsSettled tuple_value texts) key (tuples_settled texts keys given) is in
+      let settled = repeat_given _ _ _ (IsSettled tuple_value texts) key (tuples_settled _ _ given) is in
       (grind (arith, reindexed_by_number, gaps_seen), search)
   rows_refused TooLarge is = grind (arith, reindexed_by_number, gaps_seen)
   rows_refused NoMemory is = tt
 
 -- as many rows as labels, and rows of the Series
 pub rows_counted : (keys targets : List (List Label)) (rows : List (Option ℕ)) → reindexed numbers.same_tuple keys targets ≡ Ok rows → length rows ≡ length targets
-rows_counted keys targets rows is = rw is at (reindexed_count numbers.same_tuple keys targets)
+rows_counted keys targets _ is = rw is at (reindexed_count numbers.same_tuple keys targets)
 
 pub rows_below : (keys targets : List (List Label)) (rows : List (Option ℕ)) → reindexed numbers.same_tuple keys targets ≡ Ok rows → All (IsPlaceOf (length keys)) rows
-rows_below keys targets rows is = rw is at (reindexed_below numbers.same_tuple keys targets)
+rows_below keys targets _ is = rw is at (reindexed_below numbers.same_tuple keys targets)
 
 -- labels on other numbers of levels are others, unless there are none
 or_true : (b : Bool) → (b || true) ≡ true
-or_true true = refl
-or_true false = refl
+or_true = grind arith
 
 or_false : (b : Bool) → (b || false) ≡ b
-or_false true = refl
-or_false false = refl
+or_false = grind arith
 
 other_tuples : (a b : List LabelValue) → length a ≢ length b → same_tuple a b ≡ false
 other_tuples [] [] other = absurd (other refl)
-other_tuples [] (b ∷ bs) other = refl
-other_tuples (a ∷ as') [] other = refl
+other_tuples [] (b ∷ bs) _ = refl
+other_tuples (a ∷ as') [] _ = refl
 other_tuples (a ∷ as') (b ∷ bs) other = grind (arith, other_tuples as' bs (λ e. other (ap suc e)))
 
 some_row : (n : ℕ) → nat_eq (suc n) 0 ≡ false
-some_row n = grind (arith, nat_tests)
+some_row = grind (arith, nat_tests)
 
 other_rows : (texts : List Text) (a b : List (List Label)) (m n : ℕ) → HaveLevels m a → HaveLevels n b → m ≢ n → same_tuples (labels_value texts a) (labels_value texts b) ≡ (nat_eq (length a) 0 && nat_eq (length b) 0)
-other_rows texts [] [] m n f g other = refl
-other_rows texts [] (b ∷ bs) m n f g other = sym (some_row (length bs))
-other_rows texts (a ∷ as') [] m n f g other = search some_row
+other_rows _ [] [] m n f g other = refl
+other_rows _ [] (b ∷ bs) m n f g other = sym (some_row _)
+other_rows _ (a ∷ as') [] m n f g other = search some_row
 other_rows texts (a ∷ as') (b ∷ bs) m n f g other =
     let differ : length (tuple_value texts a) ≢ length (tuple_value texts b) = λ e. other (cc (f 0 [] (omega arith), length-map a _, length-map b _, g 0 [] (omega arith))) in
     search (other_tuples, nat_eq, some_row)
 
 may_meet_is : (texts : List Text) (a b : AxisValue) (m n : ℕ) → HaveLevels m a.tuples → HaveLevels n b.tuples → m ≡ length a.names → n ≡ length b.names
     → (nat_eq m n || (nat_eq (length a.tuples) 0 && nat_eq (length b.tuples) 0)) ≡ (same_tuples (labels_value texts a.tuples) (labels_value texts b.tuples) || nat_eq (length a.names) (length b.names))
-may_meet_is texts a b m n f g as_a as_b = go (nat_eq m n) refl ∙ (λ j. same_tuples (labels_value texts a.tuples) (labels_value texts b.tuples) || nat_eq (as_a j) (as_b j))
+may_meet_is texts a b m n f g as_a as_b = go _ refl ∙ (λ j. same_tuples (labels_value texts a.tuples) (labels_value texts b.tuples) || nat_eq (as_a j) (as_b j))
   where
     go : (r : Bool) → nat_eq m n ≡ r → (nat_eq m n || (nat_eq (length a.tuples) 0 && nat_eq (length b.tuples) 0)) ≡ (same_tuples (labels_value texts a.tuples) (labels_value texts b.tuples) || nat_eq m n)
     go true e = grind (arith, nat_eq, or_true)
     go false e =
         let other : m ≢ n = grind (arith, nat_tests) in
-        (λ j. e j || (nat_eq (length a.tuples) 0 && nat_eq (length b.tuples) 0)) ∙ sym (other_rows texts a.tuples b.tuples m n f g other)
+        (λ j. e j || (nat_eq (length a.tuples) 0 && nat_eq (length b.tuples) 0)) ∙ sym (other_rows texts _ _ m n f g other)
         ∙ sym (search or_false) ∙ (λ j. same_tuples (labels_value texts a.tuples) (labels_value texts b.tuples) || sym e j)
 
 pub rows_apart : (texts : List Text) (a b : AxisValue) (m n count : ℕ) → HaveLevels m a.tuples → HaveLevels n b.tuples → m ≡ length a.names → n ≡ length b.names → count ≡ length a.tuples → m ≢ n → count ≢ 0
     → nat_eq count 0 ≡ (same_tuples (labels_value texts a.tuples) (labels_value texts b.tuples) || nat_eq (length a.names) (length b.names))
-rows_apart texts a b m n count f g as_a as_b is other some =
+rows_apart _ a b m n count f g as_a as_b is other some =
     let levels : nat_eq m n ≡ false = grind (arith, nat_tests) in
     let none : nat_eq count 0 ≡ false = grind (arith, nat_tests) in
     let rows : nat_eq (length a.tuples) 0 ≡ false = cc in
-    none ∙ (λ j. sym levels j || (sym rows j && nat_eq (length b.tuples) 0)) ∙ may_meet_is texts a b m n f g as_a as_b
+    none ∙ (λ j. sym levels j || (sym rows j && nat_eq (length b.tuples) 0)) ∙ may_meet_is _ a b m n f g as_a as_b
 
 pub levels_refused : (texts : List Text) (labels : AxisValue) (s : NumberedTable) (axis : AxisValue) (b : Bool) → axis ≡ axis_of s
     → b ≡ (same_tuples (labels_value texts labels.tuples) (labels_value texts axis.tuples) || nat_eq (length labels.names) (length axis.names)) → b ≡ false
     → aligned_rows (length labels.names) (labels_value texts labels.tuples) (table_value texts s) ≡ Err (bad_value levels)
-levels_refused texts labels s axis b at is so = grind (arith, length-map, nat_eq)
+levels_refused = grind (arith, length-map, nat_eq)
 
 -- labels that are a Series' own take all its rows
 label_flips : (a b : LabelValue) → same_label b a ≡ same_label a b
-label_flips a b = grind (arith, same_from_decides, value_decides)
+label_flips = grind (arith, same_from_decides, value_decides)
 
 tuple_flips : (a b : List LabelValue) → same_tuple b a ≡ same_tuple a b
 tuple_flips [] [] = refl
@@ -111,7 +108,7 @@ tuples_flip (a ∷ as') [] = refl
 tuples_flip (a ∷ as') (b ∷ bs) = λ j. tuple_flips a b j && tuples_flip as' bs j
 
 own_rows : (level_count : ℕ) (labels : List (List LabelValue)) (s : Table) → same_tuples labels s.labels ≡ true → aligned_rows level_count labels s ≡ Ok (map Some (range_with_len 0 (length s.labels)))
-own_rows level_count labels s same = cc (tuples_flip s.labels labels)
+own_rows _ labels s same = cc (tuples_flip s.labels labels)
 
 module _ {C : Type 0} (na : C) (cells : List C) where
   each_row : (rows : List ℕ) → taken na cells (map Some rows) ≡ map (λ row. slice_index_or cells row na) rows
@@ -119,23 +116,22 @@ module _ {C : Type 0} (na : C) (cells : List C) where
   each_row (row ∷ rows) = cc (each_row rows)
 
   whole_taken : (count : ℕ) → length cells ≡ count → taken na cells (map Some (range_with_len 0 count)) ≡ cells
-  whole_taken count many = each_row (range_with_len 0 count) ∙ sym (fill_by_all (λ row. slice_index_or cells row na) cells count na many (λ row lt. refl))
+  whole_taken _ many = each_row _ ∙ sym (fill_by_all (λ row. slice_index_or cells row na) cells _ na many (λ row lt. refl))
 
 pub own_column : (level_count : ℕ) (labels : List (List LabelValue)) (s : Table) → same_tuples labels s.labels ≡ true → length (column_at s.columns 0).cells ≡ length s.labels → aligned_column level_count labels s ≡ Ok (column_at s.columns 0)
-own_column level_count labels s same many = search (own_rows, whole_taken)
+own_column = search (own_rows, whole_taken)
 
 -- cells that are taken, with their texts
 gap_seen : (texts : List Text) (cells : List Cell) (row : Option ℕ) → datum texts (gap_cell Na cells row) ≡ gap_cell na_cell (cells_value texts cells) row
-gap_seen texts cells None = refl
+gap_seen _ _ None = refl
 gap_seen texts cells (Some row) = sym (get_or-map (datum texts) cells row Na)
 
 pub taken_seen : (texts : List Text) (cells : List Cell) (rows : List (Option ℕ)) → cells_value texts (taken Na cells rows) ≡ taken na_cell (cells_value texts cells) rows
-taken_seen texts cells [] = refl
+taken_seen _ _ [] = refl
 taken_seen texts cells (row ∷ rows) = search (gap_seen, taken_seen texts cells rows)
 
 gap_given : (texts : List Text) (cells : List Cell) (row : Option ℕ) → AreGiven texts cells → IsPlaceOf (length cells) row → IsGiven texts (gap_cell Na cells row)
-gap_given texts cells None given inside = tt
-gap_given texts cells (Some row) given inside = given row Na inside
+gap_given = grind arith
 
 pub taken_given : (texts : List Text) (cells : List Cell) (rows : List (Option ℕ)) → AreGiven texts cells → All (IsPlaceOf (length cells)) rows → AreGiven texts (taken Na cells rows)
 taken_given texts cells rows given below =
@@ -144,17 +140,16 @@ taken_given texts cells rows given below =
 -- one row more
 pub gap_more : (cells : List Cell) (rows : List (Option ℕ)) (k : ℕ) (row : Option ℕ) (c : Cell) (before after : List Cell) → k < length rows → slice_get rows k ≡ Some row → c ≡ gap_cell Na cells row → before ≡ taken Na cells (take k rows) → after ≡ before ++ c ∷ []
     → after ≡ taken Na cells (take (k + 1) rows)
-gap_more cells rows k row c before after lt at is was pushed =
+gap_more cells rows k _ c _ _ lt at is was pushed =
     let here : c ≡ gap_cell Na cells (slice_index_or rows k None) = grind (arith, get_or_from_slice_get) in
     pushed
     ∙ (λ j. was j ++ here j ∷ [])
     ∙ sym (cc (take_more rows k None lt, map-append (gap_cell Na cells) (take k rows) (slice_index_or rows k None ∷ [])))
 
 pub place_there : (count : ℕ) (rows : List (Option ℕ)) (k : ℕ) (row : Option ℕ) → All (IsPlaceOf count) rows → k < length rows → slice_get rows k ≡ Some row → IsPlaceOf count row
-place_there count rows k row below lt at = grind (arith, get_or_from_slice_get)
+place_there = grind (arith, get_or_from_slice_get)
 
 -- a part that is refused
 pub refused_then : {X Y A B : Type 0} (view : List Text → X → A) (view' : List Text → Y → B) (texts : List Text) (meant : Result A FaultValue) (go : A → Result B FaultValue) (fault : OpFault)
     → MakesBy view texts (Err fault) meant → MakesBy view' texts (Err fault) (then_value meant go)
-refused_then view view' texts meant go (op.Refused code) makes = search
-refused_then view view' texts meant go op.NoMemory makes = tt
+refused_then = grind arith

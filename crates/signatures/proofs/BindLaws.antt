@@ -1,6 +1,6 @@
 -- Whether arguments fit, by the first of them.
 use Rattle.{
-  std.proofs.{Common.{◌≡◌, ◌≤◌, ◌-◌, ◌∙◌, ℕ, Bool, true, false, List, [], ◌∷◌, length, take, drop, get_or, ap, sym, arith, if◌then◌else◌}, lemmas.List.{take_rest}},
+  std.proofs.{Common.{◌≡◌, ◌≤◌, ◌-◌, ℕ, Bool, true, false, List, [], ◌∷◌, length, take, drop, get_or, arith, if◌then◌else◌}, lemmas.List.{take_rest}},
   meaning.specs.Text.{Text},
   form_meaning.specs.{declared.Parameter.{Parameter}, Binding.{fits, fit, counted}},
   frame_store.specs.{declared.arguments.Named.{Named}, Objects.{Tables}, Arguments.{named_of, arguments_of}},
@@ -14,16 +14,13 @@ step live texts ps k g gs =
     if fits ps k (named_of live texts g) (arguments_of live texts gs) then fit ps (counted k g.name) (arguments_of live texts gs) else false
 
 fit_first : (live : Tables) (texts : List Text) (ps : List Parameter) (k : ℕ) (gs : List Named) (g : Named) → g ≡ get_or gs 0 g → 1 ≤ length gs → fit ps k (arguments_of live texts gs) ≡ step live texts ps k g (after gs)
-fit_first live texts ps k [] g is some = absurd (omega (arith, some))
-fit_first live texts ps k (x ∷ xs) g is some =
-    sym (ap (λ y. step live texts ps k y (after (x ∷ xs))) is ∙ ap (step live texts ps k x) (take_rest (x ∷ xs) 1))
+fit_first _ _ _ k [] g is some = grind arith
+fit_first _ _ _ k (x ∷ xs) g is some = cc (take_rest (x ∷ xs) 1)
 
 pub fit_refused : (live : Tables) (texts : List Text) (ps : List Parameter) (k : ℕ) (gs : List Named) (g : Named) → g ≡ get_or gs 0 g → 1 ≤ length gs
     → fits ps k (named_of live texts g) (arguments_of live texts (after gs)) ≡ false → fit ps k (arguments_of live texts gs) ≡ false
-fit_refused live texts ps k gs g is some refused =
-    fit_first live texts ps k gs g is some ∙ ap (λ b. if b then fit ps (counted k g.name) (arguments_of live texts (after gs)) else false) refused
+fit_refused live texts ps k gs g is some refused = cc (fit_first live texts ps k gs g is some)
 
 pub fit_taken : (live : Tables) (texts : List Text) (ps : List Parameter) (k : ℕ) (gs : List Named) (g : Named) → g ≡ get_or gs 0 g → 1 ≤ length gs
     → fits ps k (named_of live texts g) (arguments_of live texts (after gs)) ≡ true → fit ps k (arguments_of live texts gs) ≡ fit ps (counted k g.name) (arguments_of live texts (after gs))
-fit_taken live texts ps k gs g is some taken =
-    fit_first live texts ps k gs g is some ∙ ap (λ b. if b then fit ps (counted k g.name) (arguments_of live texts (after gs)) else false) taken
+fit_taken live texts ps k gs g is some taken = cc (fit_first live texts ps k gs g is some)

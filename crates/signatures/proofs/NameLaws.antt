@@ -1,6 +1,6 @@
 -- The rows of the code are the names of the definition.
 use Rattle.{
-  std.{proofs.Common.{◌≡◌, ◌∙◌, refl, ap, sym, Bool, true, false, List, [], ◌∷◌, Option, Some, map, find, cond, Bor}, specs.{Prelude.{option_map, option_and_then}, Option.{option_copied}}},
+  std.{proofs.Common.{arith, ◌≡◌, refl, Bool, List, [], ◌∷◌, Option, map, find, Bor}, specs.{Prelude.{option_map, option_and_then}, Option.{option_copied}}},
   cell_core.specs.declared.grid.Shape.{Shape},
   meaning.specs.Text.{Text, same_text},
   form_meaning.specs.Signature.{method_names, method_at, method_named},
@@ -10,13 +10,7 @@ use Rattle.form_meaning.specs.Signature as signature
 
 find_meant : (p : signature.MethodName → Bool) (rows : List MethodName) → find p (map meant rows) ≡ option_map meant (find (λ row. p (meant row)) rows)
 find_meant p [] = refl
-find_meant p (row ∷ rows) = by (p (meant row)) (find_meant p rows)
-  where
-    by : (b : Bool) → find p (map meant rows) ≡ option_map meant (find (λ row. p (meant row)) rows) → cond b (Some (meant row)) (find p (map meant rows)) ≡ option_map meant (cond b (Some row) (find (λ row. p (meant row)) rows))
-    by true later = refl
-    by false later = later
+find_meant p (row ∷ rows) = grind (arith, find_meant p rows)
 
 pub method_of_row : (s : Shape) (t : Text) (rows : List MethodName) (row : Option (Bor MethodName)) → option_copied row ≡ find (λ row. same_text row.name.now t) rows → map meant rows ≡ method_names → method_named s t ≡ option_and_then (method_at s) (option_map meant (option_copied row))
-method_of_row s t rows row found all =
-    ap (λ ns. option_and_then (method_at s) (find (λ n. same_text n.name t) ns)) (sym all)
-    ∙ ap (option_and_then (method_at s)) (find_meant (λ n. same_text n.name t) rows ∙ ap (option_map meant) (sym found))
+method_of_row = grind (arith, find_meant)

@@ -1,9 +1,9 @@
 -- Binding by walks meets its rule.
 use Rattle.{
-  std.{proofs.{Common.{◌≡◌, ◌∙◌, ◌<◌, ◌+◌, ℕ, zero, suc, Bool, true, false, not, cond, List, [], ◌∷◌, length, take, refl, ap, sym, arith, if◌then◌else◌, inl, inr}, lemmas.{Bool.{eqb-true, eqb-false, lt-ltb}, List.Sums.{sum_by-cons}, Option.{slice_get_within}}}, specs.Prelude.{slice_get, count_by, nat_lt, nat_eq, Option, Some, None}},
+  std.{proofs.{Common.{◌≡◌, ◌∙◌, ◌<◌, ◌+◌, ℕ, zero, suc, Bool, true, false, not, cond, List, [], ◌∷◌, length, take, refl, ap, sym, arith, if◌then◌else◌}, lemmas.{Bool.{eqb-true, eqb-false, lt-ltb}, List.Sums.{sum_by-cons}, Option.{slice_get_within}}}, specs.Prelude.{slice_get, count_by, nat_eq, Option, Some, None}},
   meaning.specs.Text.{Text},
   table_meaning.specs.Value.{Given, NamedGiven},
-  form_meaning.specs.{declared.{Parameter.{Parameter}, Omitted.{Omitted}}, Binding.{takes, stands_for, stand_in, or_stand_in, goes_to, counted, given_at, is_given, taken_by, listed_by, fit, are_listed, argument_at, arguments_from, may_be_omitted, none_missing, Bound, not_taken, not_listed, bound, bound_of}},
+  form_meaning.specs.{declared.Parameter.{Parameter}, Binding.{takes, or_stand_in, goes_to, counted, given_at, is_given, taken_by, listed_by, fit, are_listed, argument_at, arguments_from, may_be_omitted, none_missing, Bound, not_taken, not_listed, bound, bound_of}},
   signatures.specs.{Filled.{Fills}, Rule.{is_unnamed, place_after, HasPlace, IsTaken, HasArgument, AreTaken, AreListed, AreInOrder, IsBinding}},
 }
 use Rattle.form_meaning.specs.declared.Omitted.TheVariants as omitted
@@ -11,22 +11,13 @@ use Rattle.form_meaning.specs.declared.Omitted.TheVariants as omitted
 -- cases
 
 if_both : (a b : Bool) → (if a then b else false) ≡ true → (a ≡ true) × (b ≡ true)
-if_both true b h = (refl, h)
-if_both false b h = cc
+if_both = grind arith
 
 both_if : (a b : Bool) → a ≡ true → b ≡ true → (if a then b else false) ≡ true
-both_if a b x y = ap (λ v. if v then b else false) x ∙ y
-
-not_given : (o : Option Given) → not (is_given o) ≡ true → o ≡ None
-not_given None h = refl
-not_given (Some a) h = cc
-
-no_argument : (o : Option Given) → is_given o ≡ false → o ≡ None
-no_argument None h = refl
-no_argument (Some a) h = cc
+both_if a b x y = cc
 
 some_is : {X : Type 0} (d x y : X) → Some x ≡ Some y → x ≡ y
-some_is {X = X} d x y h = ap (λ o. elim o as (λ v. X) [ None ↦ d | Some v ↦ v ]) h
+some_is d x y h = cc
 
 -- how many of these have no name, and the place of an argument after them, where k without a name came before
 
@@ -37,17 +28,13 @@ abbrev goes_after : List Parameter → ℕ → List NamedGiven → ℕ → Named
 goes_after ps k gs i g = goes_to ps (k + unnamed (take i gs)) g.name
 
 count_first : (k n : ℕ) (name : Option Text) → k + (cond (is_unnamed name) 1 0 + n) ≡ counted k name + n
-count_first k n None = omega arith
-count_first k n (Some name) = omega arith
-
-next_count : (k : ℕ) (g : NamedGiven) (gs : List NamedGiven) → k + unnamed (g ∷ gs) ≡ counted k g.name + unnamed gs
-next_count k g gs = ap (λ n. k + n) (sum_by-cons (λ x. cond (is_unnamed x.name) 1 0) g gs) ∙ count_first k (unnamed gs) g.name
+count_first = grind arith
 
 goes_next : (ps : List Parameter) (k : ℕ) (x : NamedGiven) (gs : List NamedGiven) (i : ℕ) (g : NamedGiven) → goes_after ps k (x ∷ gs) (suc i) g ≡ goes_after ps (counted k x.name) gs i g
-goes_next ps k x gs i g = ap (λ n. goes_to ps n g.name) (next_count k x (take i gs))
+goes_next = search (sum_by-cons, count_first)
 
 goes_first : (ps : List Parameter) (k : ℕ) (name : Option Text) → goes_to ps (k + 0) name ≡ goes_to ps k name
-goes_first ps k name = ap (λ n. goes_to ps n name) (omega arith)
+goes_first = grind arith
 
 -- an argument among these that goes to a place
 record Goes (ps : List Parameter) (k : ℕ) (gs : List NamedGiven) (place : ℕ) (a : Given) : Type 0 where
@@ -58,11 +45,11 @@ record Goes (ps : List Parameter) (k : ℕ) (gs : List NamedGiven) (place : ℕ)
   is : argument.value ≡ a
 
 goes_later : (ps : List Parameter) (k : ℕ) (x : NamedGiven) (gs : List NamedGiven) (place : ℕ) (a : Given) → Goes ps (counted k x.name) gs place a → Goes ps k (x ∷ gs) place a
-goes_later ps k x gs place a h =
-    record { index = suc h.index; argument = h.argument; is_at = h.is_at; goes = goes_next ps k x gs h.index h.argument ∙ h.goes; is = h.is }
+goes_later _ k x _ _ a h =
+    record { index = suc h.index; argument = h.argument; is_at = h.is_at; goes = search goes_next; is = h.is }
 
 given_goes : (ps : List Parameter) (k : ℕ) (gs : List NamedGiven) (place : ℕ) (a : Given) → given_at ps k gs place ≡ Some a → Goes ps k gs place a
-given_goes ps k [] place a h = cc
+given_goes _ k [] _ a h = cc
 given_goes ps k (x ∷ gs) place a h =
     elim (nat_eq (goes_to ps k x.name) place) as (λ b. (nat_eq (goes_to ps k x.name) place ≡ b) → cond b (Some x.value) (given_at ps (counted k x.name) gs place) ≡ Some a → Goes ps k (x ∷ gs) place a) [
       | true ↦ λ e is. record { index = 0; argument = x; is_at = refl; goes = goes_first ps k x.name ∙ eqb-true _ _ e; is = some_is a x.value a is }
@@ -71,11 +58,7 @@ given_goes ps k (x ∷ gs) place a h =
 
 none_goes : (ps : List Parameter) (k : ℕ) (gs : List NamedGiven) (place : ℕ) → given_at ps k gs place ≡ None → (i : ℕ) (g : NamedGiven) → slice_get gs i ≡ Some g → goes_after ps k gs i g ≡ place → ⊥
 none_goes ps k [] place h i g is goes = cc
-none_goes ps k (x ∷ gs) place h zero g is goes =
-    elim (nat_eq (goes_to ps k x.name) place) as (λ b. (nat_eq (goes_to ps k x.name) place ≡ b) → cond b (Some x.value) (given_at ps (counted k x.name) gs place) ≡ None → ⊥) [
-      | true ↦ λ e none. cc
-      | false ↦ λ e none. eqb-false _ _ e (sym (goes_first ps k x.name) ∙ ap (λ y. goes_to ps (k + 0) y.name) (some_is g x g is) ∙ goes)
-    ] refl h
+none_goes ps k (x ∷ gs) place h zero g is goes = grind (arith, eqb-false, goes_first, some_is)
 none_goes ps k (x ∷ gs) place h (suc i) g is goes =
     elim (nat_eq (goes_to ps k x.name) place) as (λ b. cond b (Some x.value) (given_at ps (counted k x.name) gs place) ≡ None → ⊥) [
       | true ↦ λ none. cc
@@ -94,59 +77,54 @@ abbrev EachListed : List Parameter → ℕ → List NamedGiven → Type 0
 EachListed ps k gs = (i : ℕ) (g : NamedGiven) → slice_get gs i ≡ Some g → listed_by (slice_get ps (goes_after ps k gs i g)) g.value ≡ true
 
 first_taken : (ps : List Parameter) (k : ℕ) (x g : NamedGiven) → Some x ≡ Some g → taken_by (slice_get ps (goes_to ps k x.name)) x.value ≡ true → taken_by (slice_get ps (goes_to ps (k + 0) g.name)) g.value ≡ true
-first_taken ps k x g is h = ap (λ n. taken_by (slice_get ps n) g.value) (goes_first ps k g.name) ∙ ap (λ y. taken_by (slice_get ps (goes_to ps k y.name)) y.value) (sym (some_is g x g is)) ∙ h
+first_taken = grind (arith, goes_first, some_is)
 
 fit_taken : (ps : List Parameter) (k : ℕ) (gs : List NamedGiven) → fit ps k gs ≡ true → EachTaken ps k gs
-fit_taken ps k [] h i g is = cc
-fit_taken ps k (x ∷ gs) h zero g is = first_taken ps k x g is (if_both _ _ (if_both _ _ h).0).0
+fit_taken _ k [] h i g is = cc
+fit_taken _ k (x ∷ gs) h zero g is = grind (arith, first_taken, if_both)
 fit_taken ps k (x ∷ gs) h (suc i) g is =
     ap (λ n. taken_by (slice_get ps n) g.value) (goes_next ps k x gs i g) ∙ fit_taken ps (counted k x.name) gs (if_both _ _ h).1 i g is
 
 first_apart : (ps : List Parameter) (k : ℕ) (x : NamedGiven) (gs : List NamedGiven) → given_at ps (counted k x.name) gs (goes_to ps k x.name) ≡ None → (g : NamedGiven) → Some x ≡ Some g → (j : ℕ) (h : NamedGiven) → slice_get gs j ≡ Some h → goes_to ps (k + 0) g.name ≡ goes_after ps k (x ∷ gs) (suc j) h → ⊥
 first_apart ps k x gs none g is j h later e =
     none_goes ps (counted k x.name) gs (goes_to ps k x.name) none j h later
-    (sym (goes_next ps k x gs j h) ∙ sym e ∙ goes_first ps k g.name ∙ ap (λ y. goes_to ps k y.name) (sym (some_is g x g is)))
+    (cc (goes_next ps k x gs j h, goes_first ps k g.name, some_is g x g is))
 
 fit_apart : (ps : List Parameter) (k : ℕ) (gs : List NamedGiven) → fit ps k gs ≡ true → AllApart ps k gs
-fit_apart ps k [] fitted i j g h is later e = cc
-fit_apart ps k (x ∷ gs) fitted zero zero g h is later e = refl
-fit_apart ps k (x ∷ gs) fitted zero (suc j) g h is later e =
-    absurd (first_apart ps k x gs (not_given _ (if_both _ _ (if_both _ _ fitted).0).1) g is j h later e)
-fit_apart ps k (x ∷ gs) fitted (suc i) zero g h is later e =
-    absurd (first_apart ps k x gs (not_given _ (if_both _ _ (if_both _ _ fitted).0).1) h later i g is (sym e))
+fit_apart _ k [] fitted i j g h is later e = cc
+fit_apart _ k (x ∷ gs) _ zero zero g h _ _ e = refl
+fit_apart _ k (x ∷ gs) fitted zero (suc j) g h is later e = grind (arith, first_apart, if_both)
+fit_apart _ k (x ∷ gs) fitted (suc i) zero g h is later e = grind (arith, first_apart, if_both)
 fit_apart ps k (x ∷ gs) fitted (suc i) (suc j) g h is later e =
     ap suc (fit_apart ps (counted k x.name) gs (if_both _ _ fitted).1 i j g h is later (sym (goes_next ps k x gs i g) ∙ e ∙ goes_next ps k x gs j h))
 
 none_given : (ps : List Parameter) (k : ℕ) (x : NamedGiven) (gs : List NamedGiven) → AllApart ps k (x ∷ gs) → (o : Option Given) → given_at ps (counted k x.name) gs (goes_to ps k x.name) ≡ o → not (is_given o) ≡ true
-none_given ps k x gs apart None is = refl
+none_given _ k x _ apart None _ = refl
 none_given ps k x gs apart (Some a) is =
     let h = given_goes ps (counted k x.name) gs (goes_to ps k x.name) a is in
-    let e : zero ≡ suc h.index = apart zero (suc h.index) x h.argument refl h.is_at (goes_first ps k x.name ∙ sym h.goes ∙ sym (goes_next ps k x gs h.index h.argument)) in
-    absurd (omega (arith, e))
+    let e = apart zero (suc h.index) x h.argument refl h.is_at (grind (arith, goes_first, goes_next)) in
+    search
 
 fit_from : (ps : List Parameter) (k : ℕ) (gs : List NamedGiven) → EachTaken ps k gs → AllApart ps k gs → fit ps k gs ≡ true
-fit_from ps k [] taken apart = refl
+fit_from _ k [] taken apart = refl
 fit_from ps k (x ∷ gs) taken apart =
-    let first : taken_by (slice_get ps (goes_to ps k x.name)) x.value ≡ true = ap (λ n. taken_by (slice_get ps n) x.value) (sym (goes_first ps k x.name)) ∙ taken zero x refl in
-    let alone : not (is_given (given_at ps (counted k x.name) gs (goes_to ps k x.name))) ≡ true = none_given ps k x gs apart _ refl in
-    let rest : fit ps (counted k x.name) gs ≡ true = fit_from ps (counted k x.name) gs
+    let first : taken_by (slice_get ps (goes_to ps k x.name)) x.value ≡ true = cc (goes_first ps k x.name, taken zero x refl) in
+    let alone : not (is_given (given_at ps (counted k x.name) gs (goes_to ps k x.name))) ≡ true = search none_given in
+    let rest = fit_from ps (counted k x.name) gs
     (λ i g is. ap (λ n. taken_by (slice_get ps n) g.value) (sym (goes_next ps k x gs i g)) ∙ taken (suc i) g is)
-    (λ i j g h is later e. let next : suc i ≡ suc j = apart (suc i) (suc j) g h is later (goes_next ps k x gs i g ∙ e ∙ sym (goes_next ps k x gs j h)) in omega (arith, next)) in
-    both_if _ _ (both_if _ _ first alone) rest
-
-first_listed : (ps : List Parameter) (k : ℕ) (x g : NamedGiven) → Some x ≡ Some g → listed_by (slice_get ps (goes_to ps k x.name)) x.value ≡ true → listed_by (slice_get ps (goes_to ps (k + 0) g.name)) g.value ≡ true
-first_listed ps k x g is h = ap (λ n. listed_by (slice_get ps n) g.value) (goes_first ps k g.name) ∙ ap (λ y. listed_by (slice_get ps (goes_to ps k y.name)) y.value) (sym (some_is g x g is)) ∙ h
+    (λ i j g h is later e. let next : suc i ≡ suc j = search goes_next in omega (arith, next)) in
+    search both_if
 
 listed_each : (ps : List Parameter) (k : ℕ) (gs : List NamedGiven) → are_listed ps k gs ≡ true → EachListed ps k gs
-listed_each ps k [] h i g is = cc
-listed_each ps k (x ∷ gs) h zero g is = first_listed ps k x g is (if_both _ _ h).0
+listed_each _ k [] h i g is = cc
+listed_each _ k (x ∷ gs) h zero g is = grind (arith, goes_first, some_is)
 listed_each ps k (x ∷ gs) h (suc i) g is =
     ap (λ n. listed_by (slice_get ps n) g.value) (goes_next ps k x gs i g) ∙ listed_each ps (counted k x.name) gs (if_both _ _ h).1 i g is
 
 listed_from : (ps : List Parameter) (k : ℕ) (gs : List NamedGiven) → EachListed ps k gs → are_listed ps k gs ≡ true
-listed_from ps k [] each = refl
+listed_from _ k [] _ = refl
 listed_from ps k (x ∷ gs) each =
-    let first : listed_by (slice_get ps (goes_to ps k x.name)) x.value ≡ true = ap (λ n. listed_by (slice_get ps n) x.value) (sym (goes_first ps k x.name)) ∙ each zero x refl in
+    let first : listed_by (slice_get ps (goes_to ps k x.name)) x.value ≡ true = cc (goes_first ps k x.name, each zero x refl) in
     both_if _ _ first (listed_from ps (counted k x.name) gs (λ i g is. ap (λ n. listed_by (slice_get ps n) g.value) (sym (goes_next ps k x gs i g)) ∙ each (suc i) g is))
 
 -- the walks over the parameters
@@ -158,82 +136,62 @@ abbrev EachThere : List Parameter → List NamedGiven → ℕ → List Parameter
 EachThere ps gs m rest = (j : ℕ) (p : Parameter) → slice_get rest j ≡ Some p → is_there (is_given (given_at ps 0 gs (m + j))) p ≡ true
 
 there_at : (ps : List Parameter) (gs : List NamedGiven) (m n : ℕ) (p : Parameter) → m ≡ n → is_there (is_given (given_at ps 0 gs m)) p ≡ true → is_there (is_given (given_at ps 0 gs n)) p ≡ true
-there_at ps gs m n p e h = ap (λ v. is_there (is_given (given_at ps 0 gs v)) p) (sym e) ∙ h
+there_at _ _ m n p e h = cc
 
 missing_each : (ps : List Parameter) (gs : List NamedGiven) (m : ℕ) (rest : List Parameter) → none_missing ps gs m rest ≡ true → EachThere ps gs m rest
-missing_each ps gs m [] h j p is = cc
-missing_each ps gs m (x ∷ rest) h zero p is = there_at ps gs m (m + 0) p (omega arith) (ap (is_there (is_given (given_at ps 0 gs m))) (sym (some_is p x p is)) ∙ (if_both _ _ h).0)
+missing_each _ _ m [] h j p is = cc
+missing_each _ _ m (x ∷ rest) h zero p is = grind (arith, there_at, some_is, if_both)
 missing_each ps gs m (x ∷ rest) h (suc j) p is = there_at ps gs ((m + 1) + j) (m + suc j) p (omega arith) (missing_each ps gs (m + 1) rest (if_both _ _ h).1 j p is)
 
 missing_from : (ps : List Parameter) (gs : List NamedGiven) (m : ℕ) (rest : List Parameter) → EachThere ps gs m rest → none_missing ps gs m rest ≡ true
-missing_from ps gs m [] each = refl
+missing_from _ _ m [] _ = refl
 missing_from ps gs m (x ∷ rest) each =
     both_if _ _ (there_at ps gs (m + 0) m x (omega arith) (each zero x refl))
     (missing_from ps gs (m + 1) rest (λ j p is. there_at ps gs (m + suc j) ((m + 1) + j) p (omega arith) (each (suc j) p is)))
 
 arguments_at : (ps : List Parameter) (gs : List NamedGiven) (m : ℕ) (rest : List Parameter) (j : ℕ) (p : Parameter) → slice_get rest j ≡ Some p → slice_get (arguments_from ps gs m rest) j ≡ Some (argument_at ps gs (m + j))
-arguments_at ps gs m [] j p is = cc
-arguments_at ps gs m (x ∷ rest) zero p is = let e : m ≡ m + 0 = omega arith in ap (λ n. Some (argument_at ps gs n)) e
-arguments_at ps gs m (x ∷ rest) (suc j) p is = let e : (m + 1) + j ≡ m + suc j = omega arith in arguments_at ps gs (m + 1) rest j p is ∙ ap (λ n. Some (argument_at ps gs n)) e
+arguments_at _ _ m [] j p is = cc
+arguments_at _ _ m (x ∷ rest) zero p is = grind arith
+arguments_at ps gs m (x ∷ rest) (suc j) p is = grind (arith, arguments_at ps gs (m + 1) rest)
 
 arguments_count : (ps : List Parameter) (gs : List NamedGiven) (m : ℕ) (rest : List Parameter) → length (arguments_from ps gs m rest) ≡ length rest
-arguments_count ps gs m [] = refl
+arguments_count _ _ m [] = refl
 arguments_count ps gs m (x ∷ rest) = ap suc (arguments_count ps gs (m + 1) rest)
 
 -- places
 
-position_found : (found : Bool) (n place : ℕ) → cond found (Some n) None ≡ Some place → n ≡ place
-position_found true n place h = some_is 0 n place h
-position_found false n place h = cc
-
 placed_goes : (ps : List Parameter) (before : List NamedGiven) (name : Option Text) (place : ℕ) → place_after ps before name ≡ Some place → goes_to ps (0 + unnamed before) name ≡ place
-placed_goes ps before None place h = let e : unnamed before ≡ place = some_is 0 _ place h in omega (arith, e)
-placed_goes ps before (Some name) place h = position_found _ _ place h
+placed_goes = grind (arith, some_is)
 
 goes_placed : (ps : List Parameter) (before : List NamedGiven) (name : Option Text) (place : ℕ) → goes_to ps (0 + unnamed before) name ≡ place → place < length ps → place_after ps before name ≡ Some place
-goes_placed ps before None place h within = let e : unnamed before ≡ place = omega (arith, h) in ap Some e
-goes_placed ps before (Some name) place h within =
-    ap (λ n. cond (nat_lt n (length ps)) (Some n) None) h ∙ ap (λ b. cond b (Some place) None) (lt-ltb place (length ps) within)
+goes_placed = grind (arith, lt-ltb)
 
 has_place : (ps : List Parameter) (gs : List NamedGiven) (i : ℕ) (g : NamedGiven) (place : ℕ) (p : Parameter) → slice_get gs i ≡ Some g → goes_after ps 0 gs i g ≡ place → slice_get ps place ≡ Some p → HasPlace ps gs i g place
-has_place ps gs i g place p is goes found = record { argument = is; placed = goes_placed ps (take i gs) g.name place goes (slice_get_within ps place p found) }
+has_place = search (goes_placed, slice_get_within)
 
 goes_of : (ps : List Parameter) (gs : List NamedGiven) (i : ℕ) (g : NamedGiven) (place : ℕ) → HasPlace ps gs i g place → goes_after ps 0 gs i g ≡ place
-goes_of ps gs i g place h = placed_goes ps (take i gs) g.name place h.placed
+goes_of _ _ i g _ h = search placed_goes
 
 taken_at : (ps : List Parameter) (gs : List NamedGiven) (i : ℕ) (g : NamedGiven) → slice_get gs i ≡ Some g → (o : Option Parameter) → slice_get ps (goes_after ps 0 gs i g) ≡ o → taken_by o g.value ≡ true → IsTaken ps gs i g
-taken_at ps gs i g is None found h = cc
-taken_at ps gs i g is (Some p) found h =
-    record { place = goes_after ps 0 gs i g; parameter = p; placed = has_place ps gs i g _ p is refl found; found = found; taken = h }
+taken_at = grind (arith, has_place)
 
 -- a required parameter has an argument
 
 argument_of : (ps : List Parameter) (gs : List NamedGiven) (place : ℕ) (p : Parameter) → slice_get ps place ≡ Some p → (a : Given) → given_at ps 0 gs place ≡ Some a → HasArgument ps gs place
 argument_of ps gs place p found a is =
     let h = given_goes ps 0 gs place a is in
-    record { index = h.index; argument = h.argument; placed = has_place ps gs h.index h.argument place p h.is_at h.goes found }
+    grind (arith, has_place)
 
 required_given : (ps : List Parameter) (gs : List NamedGiven) (place : ℕ) (p : Parameter) → slice_get ps place ≡ Some p → p.omitted ≡ omitted.Required → (o : Option Given) → given_at ps 0 gs place ≡ o → is_there (is_given o) p ≡ true → HasArgument ps gs place
-required_given ps gs place p found needed (Some a) is h = argument_of ps gs place p found a is
-required_given ps gs place p found needed None is h = let e : false ≡ true = ap may_be_omitted (sym needed) ∙ h in cc
-
-given_required : (ps : List Parameter) (gs : List NamedGiven) (place : ℕ) (p : Parameter) → (given : Bool) → is_given (given_at ps 0 gs place) ≡ given → (o : Omitted) → p.omitted ≡ o → (p.omitted ≡ omitted.Required → HasArgument ps gs place) → (if given then true else may_be_omitted o) ≡ true
-given_required ps gs place p true is o kind complete = refl
-given_required ps gs place p false is omitted.Required kind complete =
-    let h = complete kind in
-    absurd (none_goes ps 0 gs place (no_argument _ is) h.index h.argument h.placed.argument (goes_of ps gs h.index h.argument place h.placed))
-given_required ps gs place p false is omitted.None kind complete = refl
-given_required ps gs place p false is (omitted.Number z) kind complete = refl
-given_required ps gs place p false is (omitted.Truth b) kind complete = refl
-given_required ps gs place p false is (omitted.Text t) kind complete = refl
+required_given = grind (arith, argument_of)
 
 -- the rule
 
 taken_from : (ps : List Parameter) (gs : List NamedGiven) → fit ps 0 gs ≡ true → none_missing ps gs 0 ps ≡ true → AreTaken ps gs
 taken_from ps gs fitted given =
     record {
-      each = λ i g is. taken_at ps gs i g is _ refl (fit_taken ps 0 gs fitted i g is);
-      apart = λ i j place g h one two. fit_apart ps 0 gs fitted i j g h one.argument two.argument (goes_of ps gs i g place one ∙ sym (goes_of ps gs j h place two));
+      each = grind (arith, taken_at, fit_taken);
+      apart = grind (arith, fit_apart, goes_of);
       complete = λ place p found needed. required_given ps gs place p found needed _ refl (there_at ps gs (0 + place) place p (omega arith) (missing_each ps gs 0 ps given place p found));
     }
 
@@ -243,40 +201,29 @@ fit_of ps gs h =
     (λ i g is. let t = h.each i g is in ap (λ n. taken_by (slice_get ps n) g.value) (goes_of ps gs i g t.place t.placed) ∙ ap (λ o. taken_by o g.value) t.found ∙ t.taken)
     (λ i j g k is later e.
     let t = h.each i g is in
-    let same = goes_of ps gs i g t.place t.placed in
-    h.apart i j t.place g k t.placed (has_place ps gs j k t.place t.parameter later (sym e ∙ same) t.found))
+    h.apart i j t.place g k t.placed (has_place ps gs j k t.place t.parameter later (sym e ∙ (goes_of ps gs i g t.place t.placed)) t.found))
 
 none_missing_of : (ps : List Parameter) (gs : List NamedGiven) → AreTaken ps gs → none_missing ps gs 0 ps ≡ true
 none_missing_of ps gs h =
-    missing_from ps gs 0 ps (λ j p found. there_at ps gs j (0 + j) p (omega arith) (given_required ps gs j p _ refl p.omitted refl (h.complete j p found)))
+    missing_from ps gs 0 ps (λ j p found. there_at ps gs j (0 + j) p (omega arith) (grind (arith, none_goes, goes_of)))
 
 listed_found : (ps : List Parameter) (gs : List NamedGiven) → are_listed ps 0 gs ≡ true → AreListed ps gs
-listed_found ps gs h i place g p placed found =
-    ap (λ o. listed_by o g.value) (sym found) ∙ ap (λ n. listed_by (slice_get ps n) g.value) (sym (goes_of ps gs i g place placed)) ∙ listed_each ps 0 gs h i g placed.argument
+listed_found = grind (arith, goes_of, listed_each)
 
 listed_at : (ps : List Parameter) (gs : List NamedGiven) → AreListed ps gs → (i : ℕ) (g : NamedGiven) → slice_get gs i ≡ Some g → (o : Option Parameter) → slice_get ps (goes_after ps 0 gs i g) ≡ o → listed_by o g.value ≡ true
-listed_at ps gs h i g is None found = refl
-listed_at ps gs h i g is (Some p) found = h i _ g p (has_place ps gs i g _ p is refl found) found
-
-listed_of : (ps : List Parameter) (gs : List NamedGiven) → AreListed ps gs → are_listed ps 0 gs ≡ true
-listed_of ps gs h = listed_from ps 0 gs (λ i g is. listed_at ps gs h i g is _ refl)
+listed_at = grind (arith, has_place)
 
 -- the list that is bound
 
 given_value : (ps : List Parameter) (gs : List NamedGiven) → AreTaken ps gs → (i place : ℕ) (g : NamedGiven) → HasPlace ps gs i g place → (o : Option Given) → given_at ps 0 gs place ≡ o → or_stand_in o (slice_get ps place) ≡ g.value
-given_value ps gs h i place g placed None is = absurd (none_goes ps 0 gs place is i g placed.argument (goes_of ps gs i g place placed))
+given_value ps gs h i place g placed None is = search (none_goes, goes_of)
 given_value ps gs h i place g placed (Some a) is =
     let t = h.each i g placed.argument in
     let there = given_goes ps 0 gs place a is in
-    let same : t.place ≡ place = sym (goes_of ps gs i g t.place t.placed) ∙ goes_of ps gs i g place placed in
+    let same : t.place ≡ place = search goes_of in
     let other = has_place ps gs there.index there.argument place t.parameter there.is_at there.goes (ap (slice_get ps) (sym same) ∙ t.found) in
-    let one : i ≡ there.index = h.apart i there.index place g there.argument placed other in
-    let equal : g ≡ there.argument = some_is g g there.argument (sym placed.argument ∙ ap (slice_get gs) one ∙ there.is_at) in
-    sym there.is ∙ ap (λ y. y.value) (sym equal)
-
-omitted_value : (ps : List Parameter) (gs : List NamedGiven) (place : ℕ) (p : Parameter) → slice_get ps place ≡ Some p → (HasArgument ps gs place → ⊥) → (o : Option Given) → given_at ps 0 gs place ≡ o → or_stand_in o (slice_get ps place) ≡ stands_for p.omitted
-omitted_value ps gs place p found none None is = ap stand_in found
-omitted_value ps gs place p found none (Some a) is = absurd (none (argument_of ps gs place p found a is))
+    let one = h.apart i there.index place g there.argument placed other in
+    search some_is
 
 in_order : (ps : List Parameter) (gs : List NamedGiven) → AreTaken ps gs → AreInOrder ps gs (arguments_from ps gs 0 ps)
 in_order ps gs h =
@@ -284,39 +231,37 @@ in_order ps gs h =
       as_many = arguments_count ps gs 0 ps;
       given = λ i place g placed.
           let t = h.each i g placed.argument in
-          let same : t.place ≡ place = sym (goes_of ps gs i g t.place t.placed) ∙ goes_of ps gs i g place placed in
+          let same : t.place ≡ place = search goes_of in
           let zeroth : 0 + place ≡ place = omega arith in
           arguments_at ps gs 0 ps place t.parameter (ap (slice_get ps) (sym same) ∙ t.found) ∙ ap (λ n. Some (argument_at ps gs n)) zeroth ∙ ap Some (given_value ps gs h i place g placed _ refl);
-      omitted = λ place p found none.
-          let zeroth : 0 + place ≡ place = omega arith in
-          arguments_at ps gs 0 ps place p found ∙ ap (λ n. Some (argument_at ps gs n)) zeroth ∙ ap Some (omitted_value ps gs place p found none _ refl);
+      omitted = grind (arith, arguments_at, argument_of);
     }
 
 abbrev outcome : List Parameter → List NamedGiven → Bool → Bool → Bool → Bound
 outcome ps gs a b c = if a then (if b then (if c then bound (arguments_from ps gs 0 ps) else not_listed) else not_taken) else not_taken
 
 by_cases : (ps : List Parameter) (gs : List NamedGiven) (a b c : Bool) → fit ps 0 gs ≡ a → none_missing ps gs 0 ps ≡ b → are_listed ps 0 gs ≡ c → IsBinding ps gs (outcome ps gs a b c)
-by_cases ps gs true true true x y z = let h = taken_from ps gs x y in (h, listed_found ps gs z, in_order ps gs h)
-by_cases ps gs true true false x y z = (taken_from ps gs x y, λ h. let e : false ≡ true = sym z ∙ listed_of ps gs h in cc)
-by_cases ps gs true false c x y z = λ h. let e : false ≡ true = sym y ∙ none_missing_of ps gs h in cc
-by_cases ps gs false b c x y z = λ h. let e : false ≡ true = sym x ∙ fit_of ps gs h in cc
+by_cases _ _ true true true = search (taken_from, listed_found, in_order)
+by_cases _ _ true true false = grind (arith, taken_from, listed_from, listed_at)
+by_cases _ _ true false c = grind (arith, none_missing_of)
+by_cases _ _ false b c = grind (arith, fit_of)
 
 pub bound_by_rule : (ps : List Parameter) (gs : List NamedGiven) → IsBinding ps gs (bound_of ps gs)
-bound_by_rule ps gs = by_cases ps gs _ _ _ refl refl refl
+bound_by_rule = search by_cases
 
 -- what stands at each place
 
 given_taken : (ps : List Parameter) (gs : List NamedGiven) (place : ℕ) (p : Parameter) (a : Given) → fit ps 0 gs ≡ true → slice_get ps place ≡ Some p → given_at ps 0 gs place ≡ Some a → takes p a ≡ true
 given_taken ps gs place p a fitted is given =
     let h = given_goes ps 0 gs place a given in
-    sym (ap (λ n. taken_by (slice_get ps n) h.argument.value) h.goes ∙ ap (taken_by (slice_get ps place)) h.is ∙ ap (λ o. taken_by o a) is)
+    sym (search)
     ∙ fit_taken ps 0 gs fitted h.index h.argument h.is_at
 
 pub filled : (ps : List Parameter) (gs : List NamedGiven) → fit ps 0 gs ≡ true → none_missing ps gs 0 ps ≡ true → (place : ℕ) (p : Parameter) → slice_get ps place ≡ Some p → Fills p (argument_at ps gs place)
 filled ps gs fitted there place p is = go (given_at ps 0 gs place) refl
   where
     go : (o : Option Given) → given_at ps 0 gs place ≡ o → Fills p (or_stand_in o (slice_get ps place))
-    go (Some a) given = inl (given_taken ps gs place p a fitted is given)
+    go (Some a) given = grind (arith, given_taken)
     go None given =
         let here = there_at ps gs (0 + place) place p (omega arith) (missing_each ps gs 0 ps there place p is) in
-        inr (sym (ap (λ o. is_there (is_given o) p) given) ∙ here, ap stand_in is)
+        grind arith

@@ -1,35 +1,27 @@
 -- The scalars of a list are the same among any objects.
 use Rattle.{
-  std.proofs.Common.{◌≡◌, ◌∙◌, refl, ap, sym, ℕ, List, [], ◌∷◌, ◌++◌, Some, None},
+  std.proofs.Common.{arith, ◌≡◌, ◌∙◌, refl, ap, sym, ℕ, List, [], ◌∷◌, ◌++◌, Some},
   meaning.specs.Text.{Text},
-  table_meaning.specs.{Settled.{IsSettled}, Value.{Given, GivenList, cell, table, nothing, one, row, many, entries, more_given, scalar_in, list_in}},
+  table_meaning.specs.{Settled.{IsSettled}, Value.{Given, GivenList, more_given, scalar_in, list_in}},
   form_meaning.specs.Select.{cells_of},
   frame_store.specs.{declared.arguments.{Value.TheVariants.{Object, Scalar}, Item.{Item, One as OneItem, Row' as RowItem'}}, Objects.{Tables}, Arguments.{item_of, items_of, arguments_of}},
   signatures.{specs.{Bound.{Tells}, Scalars.{scalars, with_cell}, declared.bound.Bound.{Bound}}, proofs.ToldLaws.{told_settled, some_same}},
 }
 
 pub cells_of_more : (g : Given) (rest : GivenList) → cells_of (more_given g rest) ≡ with_cell (scalar_in g) (cells_of rest)
-cells_of_more (one (cell c)) rest = refl
-cells_of_more (one (table t)) rest = refl
-cells_of_more nothing rest = refl
-cells_of_more (row parts) rest = refl
-cells_of_more (many parts) rest = refl
-cells_of_more (entries pairs) rest = refl
+cells_of_more = grind arith
 
 scalar_same : (live other : Tables) (texts : List Text) (item : Item) → scalar_in (item_of live texts item) ≡ scalar_in (item_of other texts item)
-scalar_same live other texts (OneItem (Object id)) = refl
-scalar_same live other texts (OneItem (Scalar c)) = refl
-scalar_same live other texts (RowItem' shape parts) = refl
+scalar_same _ _ _ (OneItem (Object id)) = refl
+scalar_same _ _ _ (OneItem (Scalar c)) = refl
+scalar_same _ _ _ (RowItem' shape parts) = refl
 
 any_objects : (live other : Tables) (texts : List Text) (items : List Item) → cells_of (items_of live texts items) ≡ cells_of (items_of other texts items)
-any_objects live other texts [] = refl
-any_objects live other texts (item ∷ rest) =
-    cells_of_more (item_of live texts item) (items_of live texts rest)
-    ∙ (λ j. with_cell (scalar_same live other texts item j) (any_objects live other texts rest j))
-    ∙ sym (cells_of_more (item_of other texts item) (items_of other texts rest))
+any_objects _ _ _ [] = refl
+any_objects live other texts (item ∷ rest) = grind (arith, cells_of_more, scalar_same, any_objects live other texts rest)
 
 pub scalars_are : (live : Tables) (texts : List Text) (items : List Item) → cells_of (items_of live texts items) ≡ scalars texts items
-scalars_are live texts items = any_objects live (λ id. None) texts items
+scalars_are = search any_objects
 
 -- those of a list that was given
 pub items_settled : (b : Bound) (place : ℕ) (items : List Item) (live : Tables) (dict : List Text) → Tells b place list_in (λ live texts. Some (items_of live texts items))

@@ -1,18 +1,16 @@
 -- What is read of settled arguments is settled.
 use Rattle.{
-  std.{proofs.Common.{◌≡◌, ◌∙◌, ap, sym, ℕ, List, ◌++◌, Option, Some}, specs.Option.{option_map}},
+  std.{proofs.Common.{arith, ◌≡◌, ◌∙◌, ap, sym, ℕ, List, ◌++◌, Option, Some}, specs.Option.{option_map}},
   cell_core.specs.declared.cell.{Cell.{Cell}, Label.{Label}},
   meaning.specs.{Text.{Text}, Cell.{datum, IsGiven}, Operator.{cell_label}},
   table_meaning.specs.{Settled.{IsSettled}, Table.{heading_value}, Value.{Given, scalar_in}},
-  form_meaning.specs.Binding.{argument_at},
   frame_store.{specs.{Objects.{Tables}, Arguments.{arguments_of}}, proofs.Settling.{cell_given}},
   signatures.specs.{Bound.{Tells}, declared.bound.Bound.{Bound}},
 }
 
 pub told_settled : {A : Type 0} (b : Bound) (place : ℕ) (read : Given → Option A) (told : Tables → List Text → Option A) (live : Tables) (texts : List Text)
     → Tells b place read told → IsSettled (arguments_of live) texts b.args.now → (more : List Text) → told live (texts ++ more) ≡ told live texts
-told_settled b place read told live texts tells settled more =
-    tells live (texts ++ more) ∙ ap (λ gs. read (argument_at b.parameters.now gs place)) (settled more) ∙ sym (tells live texts)
+told_settled = grind arith
 
 pub some_same : {A : Type 0} (a b : A) → Some a ≡ Some b → a ≡ b
 some_same a b e = cc
@@ -23,7 +21,7 @@ scalar_given b place c live texts tells settled =
 
 pub name_given : (b : Bound) (place : ℕ) (o : Option Cell) (name : Option Label) (live : Tables) (texts : List Text) → Tells b place scalar_in (λ _ ts. option_map (datum ts) o)
     → ((ts : List Text) → heading_value ts name ≡ option_map cell_label (option_map (datum ts) o)) → IsSettled (arguments_of live) texts b.args.now → IsSettled heading_value texts name
-name_given b place o name live texts tells named settled = λ more.
+name_given b place o _ live texts tells named settled = λ more.
     named (texts ++ more)
     ∙ ap (option_map cell_label) (told_settled b place scalar_in (λ _ ts. option_map (datum ts) o) live texts tells settled more)
     ∙ sym (named texts)

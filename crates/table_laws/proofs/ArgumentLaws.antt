@@ -13,30 +13,30 @@ use Rattle.form_meaning.specs.declared.Form.TheVariants as form
 -- an argument that goes to a place
 given_valid : (ps : List Parameter) (k : ℕ) (gs : List NamedGiven) (place : ℕ) → AreValidArguments gs → IfSome (given_at ps k gs place) IsValidArgument
 given_valid ps k [] place h = tt
-given_valid ps k (g ∷ gs) place h = by (nat_eq (goes_to ps k g.name) place) (given_valid ps (counted k g.name) gs place (All-tail (λ g. IsValidArgument g.value) g gs h))
+given_valid ps k (g ∷ gs) place h = by _ (given_valid ps (counted k g.name) gs _ (All-tail (λ g. IsValidArgument g.value) g gs h))
   where
     by : (b : Bool) → IfSome (given_at ps (counted k g.name) gs place) IsValidArgument → IfSome (if b then Some g.value else given_at ps (counted k g.name) gs place) IsValidArgument
     by true later = All-head (λ g. IsValidArgument g.value) g gs h
     by false later = later
 
 or_valid : (o : Option Given) (p : Option Parameter) → IfSome o IsValidArgument → IsValidArgument (or_stand_in o p)
-or_valid x p h = grind arith
+or_valid = grind arith
 
 pub argument_valid : (ps : List Parameter) (gs : List NamedGiven) (place : ℕ) → AreValidArguments gs → IsValidArgument (argument_at ps gs place)
-argument_valid ps gs place h = search (or_valid, given_valid)
+argument_valid = search (or_valid, given_valid)
 
 -- where arguments are bound each was taken
 pub bound_taken : (ps : List Parameter) (gs : List NamedGiven) (go : List Given → Result Entry FaultValue) → (fit ps 0 gs ≡ true → IfOk (go (arguments_from ps gs 0 ps)) IsValidEntry) → IfOk (on_bound (bound_of ps gs) go) IsValidEntry
-bound_taken ps gs go h = grind arith
+bound_taken = grind arith
 
 if_both : (a b : Bool) → (if a then b else false) ≡ true → (a ≡ true) × (b ≡ true)
-if_both x b h = grind arith
+if_both = grind arith
 
 given_taken : (ps : List Parameter) (k : ℕ) (gs : List NamedGiven) (place : ℕ) (a : Given) → fit ps k gs ≡ true → given_at ps k gs place ≡ Some a → taken_by (slice_get ps place) a ≡ true
 given_taken ps k [] place a fitted is = Prim.cc
 given_taken ps k (g ∷ gs) place a fitted is =
-    let both = if_both _ (fit ps (counted k g.name) gs) fitted in
-    by (nat_eq (goes_to ps k g.name) place) refl is (if_both (taken_by (slice_get ps (goes_to ps k g.name)) g.value) _ both.0).0 (given_taken ps (counted k g.name) gs place a both.1)
+    let both = if_both _ _ fitted in
+    by _ refl is (if_both (taken_by (slice_get ps (goes_to ps k g.name)) g.value) _ both.0).0 (given_taken ps (counted k g.name) gs _ a both.1)
   where
     by : (b : Bool) → nat_eq (goes_to ps k g.name) place ≡ b → (if b then Some g.value else given_at ps (counted k g.name) gs place) ≡ Some a → taken_by (slice_get ps (goes_to ps k g.name)) g.value ≡ true
         → (given_at ps (counted k g.name) gs place ≡ Some a → taken_by (slice_get ps place) a ≡ true) → taken_by (slice_get ps place) a ≡ true
@@ -45,14 +45,14 @@ given_taken ps k (g ∷ gs) place a fitted is =
 
 -- a parameter for frames takes no Series
 frame_is : (s : Shape) → is_frame s ≡ true → s ≡ Frame
-frame_is x e = grind arith
+frame_is = grind arith
 
 frame_taken : (p : Parameter) (a : Given) → p.form ≡ form.Frame → takes p a ≡ true → IfSome (object_in a) (λ t. t.shape ≡ Frame)
-frame_taken p x is e = grind (arith, frame_is)
+frame_taken = grind (arith, frame_is)
 
 -- an object at the place of such a parameter is a frame
 pub frame_at : (ps : List Parameter) (gs : List NamedGiven) (place : ℕ) (p : Parameter) → slice_get ps place ≡ Some p → p.form ≡ form.Frame → fit ps 0 gs ≡ true → IfSome (object_in (argument_at ps gs place)) (λ t. t.shape ≡ Frame)
-frame_at ps gs place p there is fitted = by (given_at ps 0 gs place) refl
+frame_at ps gs place p there is fitted = by _ refl
   where
     by : (o : Option Given) → given_at ps 0 gs place ≡ o → IfSome (object_in (or_stand_in o (slice_get ps place))) (λ t. t.shape ≡ Frame)
     by (Some a) e = frame_taken p a is (cc (given_taken ps 0 gs place a fitted e))
@@ -60,8 +60,8 @@ frame_at ps gs place p there is fitted = by (given_at ps 0 gs place) refl
 
 -- the object that an argument is
 pub object_valid : (a : Given) → IsValidArgument a → IfSome (object_in a) IsValid
-object_valid x h = grind arith
+object_valid = grind arith
 
 -- a list with one part more
 pub more_valid : (a : Given) (rest : GivenList) → IsValidArgument a → All IsValid (tables_of rest) → All IsValid (tables_of (more_given a rest))
-more_valid a rest h k = grind (arith, object_valid)
+more_valid = grind (arith, object_valid)

@@ -2,13 +2,13 @@
 use Rattle.{
   std.{proofs.{Common.{◌≡◌, ◌≢◌, ◌∙◌, refl, sym, ap, ℕ, suc, ◌+◌, ◌<◌, List, [], ◌∷◌, length, map, filter, length-append, arith}, lemmas.{Bool.{eqb-true, false≢true, Decides.{nat_tests}}, List.{length-map, FromFn.{length-map-range_with_len}, Elements.{All-nil, All-cons, All-head, All-tail, All-filter, All-append, filter_passes}, Kept.{AllPairs-cons, AllPairs-filter}}}}, specs.{Prelude.{Bool, true, false, not, nat_lt, fold, slice_index_or, unwrap_or, if◌then◌else◌, Option, Some, None, IsSome, IfSome, Result, Ok, Err, IfOk, All, AllPairs}, Bool.{Decides}, List.{list_all, flat_map, range_with_len}, Cmp.Lexicographic.{pointwise, as_long}}},
   cell_core.specs.declared.{cell.Kind.{Kind}, grid.Shape.{Shape, TheVariants.{Series, Frame}}},
-  meaning.specs.{Cell.{CellValue, na_cell, LabelValue}, Column.{ColumnValue}, Fault.{FaultValue, bad_value, levels}, Reduce.{distinct}},
+  meaning.specs.{Cell.{CellValue, LabelValue}, Column.{ColumnValue}, Fault.{FaultValue, bad_value, levels}, Reduce.{distinct}},
   align_meaning.{specs.Targets.{rows_of_targets}, proofs.OrderLaws.{all_flat, all_distinct}},
-  join_meaning.specs.Concat.{same_kind, united, are_equal, repeated_on_any, labels_under},
+  join_meaning.specs.Concat.{same_kind, united, labels_under},
   table_meaning.{specs.{Table.{ColumnOf, Table, column_at}, Valid.{IsValid, AreHeadings}, Value.{Entry, Given, NamedGiven, list_in}}, proofs.KindLaws.{kind_is}},
-  form_meaning.specs.{Finish.{finished, same_heading, value_of_column, column_of_value, missing_column, try_all}, Infix.{same_tuple, common_name}, Make.{on}},
+  form_meaning.specs.{Finish.{finished, same_heading, value_of_column, column_of_value}, Infix.{same_tuple, common_name}, Make.{on}},
   method_meaning.specs.Concat.{Concatenation, tables_of, kept_names, level_names_of_all, columns_name_of_all, have_same_levels, labels_of_tables, RowAxis, rows_below, columns_below, column_under, column_or_missing, frame_column_below, is_series, table_below, finished_below, series_below, frames_below, are_series, are_frames, numbered_from, headings_beside, rows_met, columns_beside, table_beside, unless_label_twice, beside, with_keys, along, concatenated, concat_result, concat_call},
-  table_laws.{specs.Validity.{IsValidEntry, IsValidArgument, AreValidArguments}, proofs.{ListLaws.{both_true, all_pass, all_made, all_any, all_mapped, then_keeps, try_keeps, on_keeps, on_some_keeps, of_length_keeps}, CellLaws.{Held, na_held}, ColumnLaws.{IsColumn, spread_column}, TableLaws.{IsShaped, shaped, limited_keeps, column_of_table, series_heading, frame_headings, one_column}, HeadingLaws.{label_decides}, InfixLaws.{columns_on}, GroupLaws.{AreLabels, frame_keeps}, LevelLaws.{on_levels_keep}, SetLaws.{length_default, default_levels}, ArgumentLaws.{argument_valid}}},
+  table_laws.{specs.Validity.{IsValidEntry, IsValidArgument, AreValidArguments}, proofs.{ListLaws.{both_true, all_pass, all_made, all_mapped, then_keeps, try_keeps, on_keeps, on_some_keeps, of_length_keeps}, CellLaws.{Held, na_held}, ColumnLaws.{IsColumn, spread_column}, TableLaws.{IsShaped, shaped, limited_keeps, column_of_table, series_heading, frame_headings, one_column}, HeadingLaws.{label_decides}, InfixLaws.{columns_on}, GroupLaws.{AreLabels, frame_keeps}, LevelLaws.{on_levels_keep}, SetLaws.{length_default, default_levels}, ArgumentLaws.{argument_valid}}},
 }
 
 abbrev Has : ℕ → List LabelValue → Type 0
@@ -44,19 +44,19 @@ module _ (f : Table → ColumnOf CellValue) where
   cells_held : (kind : Kind) (ts : List Table) → AreColumns f ts → list_all (λ (other : ColumnValue). same_kind kind other.kind) (parts ts) ≡ true → All (Held kind) (cells ts)
   cells_held kind [] h alike = All-nil (Held kind)
   cells_held kind (t ∷ ts) h alike =
-      let both = both_true (same_kind kind (f t).kind) (list_all (λ other. same_kind kind other.kind) (parts ts)) alike in
+      let both = both_true _ _ alike in
       All-append (Held kind) (f t).cells (cells ts)
-      (rw (kind_is kind (f t).kind both.0) (All-head Fits t ts h).held) (cells_held kind ts (All-tail Fits t ts h) both.1)
+      (rw (kind_is kind (f t).kind both.0) (All-head Fits t ts h).held) (cells_held _ ts (All-tail Fits t ts h) both.1)
 
   below_held : (ts : List Table) → AreColumns f ts → IfOk (columns_below (map f ts)) (IsColumn (length (all_labels ts)))
   below_held [] h = grind arith
-  below_held (t ∷ ts) h = by (list_all (λ other. same_kind (f t).kind other.kind) (parts ts)) refl
+  below_held (t ∷ ts) h = by _ refl
     where
       by : (b : Bool) → list_all (λ other. same_kind (f t).kind other.kind) (parts ts) ≡ b
           → IfOk (on (if b then Some record { kind = (f t).kind; cells = cells (t ∷ ts) } else None) (λ c. Ok (column_of_value c))) (IsColumn (length (all_labels (t ∷ ts))))
       by true e = record {
         filled = cells_count (t ∷ ts) h;
-        held = All-append (Held (f t).kind) (f t).cells (cells ts) (All-head Fits t ts h).held (cells_held (f t).kind ts (All-tail Fits t ts h) e);
+        held = All-append (Held (f t).kind) (f t).cells (cells ts) (All-head Fits t ts h).held (cells_held _ ts (All-tail Fits t ts h) e);
       }
       by false e = tt
 
@@ -64,13 +64,13 @@ below_is : (a b : ℕ) → nat_lt a b ≡ true → a < b
 below_is a b e = Prim.grind (arith, nat_tests)
 
 or_else : {X : Type 0} (P : X → Type 0) (o : Option X) (x : X) → IfSome o P → P x → P (unwrap_or o x)
-or_else x1 x2 x h k = grind arith
+or_else P = grind arith
 
 column_held : (h : Option LabelValue) (kind : Kind) (t : Table) → IsShaped t → IsColumn (length t.labels) (column_or_missing h kind t)
-column_held h kind t s = or_else (IsColumn (length t.labels)) (column_under h t) (missing_column kind (length t.labels)) (grind (arith, below_is, column_of_table)) (spread_column kind (length t.labels) na_cell (na_held kind))
+column_held h kind t s = or_else (IsColumn (length t.labels)) (column_under h t) _ (grind (arith, below_is, column_of_table)) (spread_column _ _ _ (na_held kind))
 
 frame_column_held : (ts : List Table) (h : Option LabelValue) → AreShaped ts → IfOk (frame_column_below ts h) (IsColumn (length (all_labels ts)))
-frame_column_held ts h s = search (below_held, column_held)
+frame_column_held = search (below_held, column_held)
 
 -- the names of levels
 
@@ -81,10 +81,10 @@ kept_count (a ∷ as') (b ∷ bs) = ap suc (kept_count as' bs)
 
 fold_count : (names : List (Option LabelValue)) (more : List (List (Option LabelValue))) → length (fold kept_names names more) ≡ length names
 fold_count names [] = refl
-fold_count names (m ∷ more) = fold_count (kept_names names m) more ∙ kept_count names m
+fold_count names (m ∷ more) = fold_count (kept_names names m) more ∙ kept_count _ m
 
 names_count : (t : Table) (ts : List Table) → length (level_names_of_all (t ∷ ts)) ≡ length t.level_names
-names_count t ts = search fold_count
+names_count = search fold_count
 
 -- Series have no name of columns
 no_common : (names : List (Option LabelValue)) → fold common_name None names ≡ None
@@ -100,7 +100,7 @@ labels_have : (n : ℕ) (ts : List Table) → HaveLevels n ts → All (All (Has 
 labels_have n ts h = all_made (λ t. All (Has n) t.labels) (All (Has n)) (λ t. t.labels) (λ t k. k) ts h
 
 all_have : (n : ℕ) (ts : List Table) → HaveLevels n ts → All (Has n) (all_labels ts)
-all_have n ts h = all_flat (Has n) (All (Has n)) (λ labels. labels) (λ labels k. k) (labels_of_tables ts) (labels_have n ts h)
+all_have n ts h = all_flat (Has n) _ (λ labels. labels) (λ labels k. k) (labels_of_tables ts) (labels_have n ts h)
 
 -- the labels of the parts
 
@@ -115,7 +115,7 @@ under_have n [] ts h = All-nil (Has (suc n))
 under_have n (key ∷ keys) [] h = All-nil (Has (suc n))
 under_have n (key ∷ keys) (t ∷ ts) h =
     All-append (Has (suc n)) (map (λ tuple. key ∷ tuple) t.labels) (labels_under keys (labels_of_tables ts))
-    (all_made (Has n) (Has (suc n)) (λ tuple. key ∷ tuple) (λ tuple k. ap suc k) t.labels (All-head (λ t. All (Has n) t.labels) t ts h))
+    (all_made _ (Has (suc n)) (λ tuple. key ∷ tuple) (λ tuple k. ap suc k) t.labels (All-head (λ t. All (Has n) t.labels) t ts h))
     (under_have n keys ts (All-tail (λ t. All (Has n) t.labels) t ts h))
 
 -- a label for each part
@@ -128,47 +128,47 @@ record IsAxis (rows : ℕ) (a : RowAxis) : Type 0 where
 
 axis_is : (t : Table) (ts : List Table) (renumbered : Bool) (keys : Option (List LabelValue)) → HaveLevels (length t.level_names) (t ∷ ts) → AreKeys (length (t ∷ ts)) renumbered keys
     → IsAxis (length (all_labels (t ∷ ts))) (rows_below renumbered keys (t ∷ ts))
-axis_is t ts true keys h fit = search (length_default, default_levels)
-axis_is t ts false None h fit = search (names_count, all_have)
-axis_is t ts false (Some keys) h fit = search (under_count, names_count, under_have)
+axis_is t ts true keys = search (length_default, default_levels)
+axis_is t ts false None = search (names_count, all_have)
+axis_is t ts false (Some keys) = search (under_count, names_count, under_have)
 
 -- one below the other
 
 series_is : (s : Shape) → is_series s ≡ true → s ≡ Series
-series_is x e = grind arith
+series_is = grind arith
 
 frame_is : (s : Shape) → not (is_series s) ≡ true → s ≡ Frame
-frame_is x e = grind arith
+frame_is = grind arith
 
 abbrev AreOf : Shape → List Table → Type 0
 AreOf shape ts = All (λ t. t.shape ≡ shape) ts
 
 all_series : (ts : List Table) → are_series ts ≡ true → AreOf Series ts
-all_series ts e = grind (arith, series_is, all_pass)
+all_series = grind (arith, series_is, all_pass)
 
 all_frames : (ts : List Table) → are_frames ts ≡ true → AreOf Frame ts
-all_frames ts e = grind (arith, frame_is, all_pass)
+all_frames = grind (arith, frame_is, all_pass)
 
 -- labels of columns that differ
 
 heading_decides : (a b : Option LabelValue) → Decides (same_heading a b) (a ≡ b)
-heading_decides x x1 = grind (arith, label_decides)
+heading_decides = grind (arith, label_decides)
 
 module _ {K : Type 0} (same : K → K → Bool) where
   distinct_apart : ((a b : K) → Decides (same a b) (a ≡ b)) → (xs : List K) → AllPairs (λ a b. a ≢ b) (distinct same xs)
   distinct_apart decides [] = grind arith
   distinct_apart decides (x ∷ xs) =
       let others = filter (λ q. not (same q x)) (distinct same xs) in
-      AllPairs-cons (λ a b. a ≢ b) x others
+      AllPairs-cons (λ a b. a ≢ b) x _
       (grind (arith, false≢true, filter_passes))
-      (AllPairs-filter (λ a b. a ≢ b) (λ q. not (same q x)) (distinct same xs) (distinct_apart decides xs))
+      (AllPairs-filter (λ a b. a ≢ b) (λ q. not (same q x)) _ (distinct_apart decides xs))
 
   united_all : (P : K → Type 0) (inner : Bool) (first : List K) (others : List (List K)) → All (All P) (first ∷ others) → All P (united same inner (first ∷ others))
-  united_all P true first others h = All-filter _ P first (All-head (All P) first others h)
+  united_all P true first others h = All-filter _ P _ (All-head (All P) first others h)
   united_all P false first others h = search (all_distinct, all_flat)
 
   united_apart : ((a b : K) → Decides (same a b) (a ≡ b)) → (inner : Bool) (first : List K) (others : List (List K)) → AllPairs (λ a b. a ≢ b) first → AllPairs (λ a b. a ≢ b) (united same inner (first ∷ others))
-  united_apart decides true first others h = AllPairs-filter (λ a b. a ≢ b) _ first h
+  united_apart decides true first others h = AllPairs-filter (λ a b. a ≢ b) _ _ h
   united_apart decides false first others h = search distinct_apart
 
 module _ (t : Table) (ts : List Table) (s : AreShaped (t ∷ ts)) (c : Concatenation) where
@@ -184,24 +184,24 @@ module _ (t : Table) (ts : List Table) (s : AreShaped (t ∷ ts)) (c : Concatena
   module _ (levels : HaveLevels (length t.level_names) all) (keys : AreKeys (length all) c.renumbered c.keys) where
     below_keeps : (shape : Shape) (headings : List (Option LabelValue)) (columns : List (ColumnOf CellValue)) → AreHeadings shape (columns_name_of_all all) headings → length headings ≡ length columns → All (IsColumn rows) columns
         → IfOk (finished_below (table_below shape all c headings columns)) IsValidEntry
-    below_keeps shape headings columns are headed held = grind (arith, axis_is, on_levels_keep, limited_keeps)
+    below_keeps = grind (arith, axis_is, on_levels_keep, limited_keeps)
 
     series_keep : AreOf Series all → IfOk (series_below all c) IsValidEntry
     series_keep are =
         let nameless : columns_name_of_all all ≡ None = grind (arith, no_common) in
-        then_keeps (IsColumn rows) IsValidEntry (columns_below (map (λ u. column_at u.columns 0) all)) _
+        then_keeps _ _ _ _
         (below_held (λ u. column_at u.columns 0) all (λ k d lt. let u = slice_index_or all k d in column_of_table u (s k d lt) 0 (Prim.omega (arith, one_column u (s k d lt) (are k d lt)))))
-        (λ column held. below_keeps Series _ (column ∷ []) (series_heading Series (columns_name_of_all all) _ refl nameless) refl (All-cons (IsColumn rows) column [] held (All-nil (IsColumn rows))))
+        (λ column held. below_keeps _ _ (column ∷ []) (series_heading _ _ _ refl nameless) refl (All-cons (IsColumn rows) column [] held (All-nil (IsColumn rows))))
 
     frames_keep : AreOf Frame all → IfOk (frames_below all c (united same_heading c.inner (map (λ u. u.headings) all))) IsValidEntry
     frames_keep are =
         let hs = united same_heading c.inner (map (λ u. u.headings) all) in
-        let labelled = all_made (λ u. IsShaped u × (u.shape ≡ Frame)) (All IsSome) (λ u. u.headings) (λ u both. both.0.headings.labelled both.1) all (λ k d lt. (s k d lt, are k d lt)) in
+        let labelled = all_made (λ u. IsShaped u × (u.shape ≡ Frame)) _ (λ u. u.headings) (λ u both. both.0.headings.labelled both.1) all (λ k d lt. (s k d lt, are k d lt)) in
         let some : All IsSome hs = search united_all in
-        let apart = united_apart same_heading heading_decides c.inner t.headings (map (λ u. u.headings) ts) (grind arith) in
-        then_keeps (λ columns. (length columns ≡ length hs) × All (IsColumn rows) columns) IsValidEntry (try_all (frame_column_below all) hs) _
-        (try_keeps (λ h. Unit {0}) (IsColumn rows) (frame_column_below all) (λ h _. frame_column_held all h s) hs (all_any (λ h. Unit {0}) (λ h. tt) hs))
-        (λ columns made. below_keeps Frame hs columns (frame_headings Frame (columns_name_of_all all) hs refl some apart) (sym made.0) made.1)
+        let apart = united_apart _ heading_decides c.inner _ _ (grind arith) in
+        then_keeps (λ columns. (length columns ≡ length hs) × All (IsColumn rows) columns) _ _ _
+        (try_keeps (λ h. Unit {0}) _ _ (λ h _. frame_column_held all h s) hs _)
+        (λ columns made. below_keeps _ hs _ (frame_headings _ _ hs refl some apart) (sym made.0) made.1)
 
 -- side by side
 
@@ -216,17 +216,17 @@ numbered_some n (None ∷ hs) = grind (arith, numbered_some (n + 1) hs)
 numbered_some n (Some l ∷ hs) = grind (arith, numbered_some n hs)
 
 headings_count : (renumbered : Bool) (hs : List (Option LabelValue)) → length (headings_beside renumbered hs) ≡ length hs
-headings_count x hs = grind (arith, length-map-range_with_len, numbered_count)
+headings_count = grind (arith, length-map-range_with_len, numbered_count)
 
 headings_some : (renumbered : Bool) (hs : List (Option LabelValue)) → AreLabels (headings_beside renumbered hs)
 headings_some true hs = search all_mapped
 headings_some false hs = numbered_some 0 hs
 
 met_count : (own labels : List (List LabelValue)) → length (rows_met own labels) ≡ length labels
-met_count own labels = by (pointwise same_tuple own labels) refl
+met_count own labels = by _ refl
   where
     by : (b : Bool) → pointwise same_tuple own labels ≡ b → length (if b then map Some (range_with_len 0 (length own)) else rows_of_targets same_tuple own labels) ≡ length labels
-    by true e = length-map-range_with_len Some 0 (length own) ∙ as_long same_tuple own labels e
+    by true e = length-map-range_with_len _ 0 _ ∙ as_long same_tuple own labels e
     by false e = length-map labels _
 
 beside_held : (labels : List (List LabelValue)) (t : Table) → IsShaped t → All (IsColumn (length labels)) (columns_beside labels t)
@@ -245,19 +245,19 @@ module _ (t : Table) (ts : List Table) (s : AreShaped (t ∷ ts)) (renumbered : 
       search (names_count, frame_keeps, headings_count, beside_count, all_flat, beside_held, headings_some)
 
 beside_all_keeps : (t : Table) (ts : List Table) (c : Concatenation) → AreShaped (t ∷ ts) → IfOk (beside (t ∷ ts) c) IsValidEntry
-beside_all_keeps t ts c s = by (are_equal same_tuple (labels_of_tables all)) (have_same_levels all) (repeated_on_any same_tuple (labels_of_tables all)) refl
+beside_all_keeps t ts c s = by _ _ _ refl
   where
     all : List Table
     all = t ∷ ts
 
     by : (a e : Bool) (o : Option (List LabelValue)) → have_same_levels all ≡ e
         → IfOk (if a then finished (table_beside all c.renumbered t.labels) else (if e then unless_label_twice o (finished (table_beside all c.renumbered (united same_tuple c.inner (labels_of_tables all)))) else Err (bad_value levels))) IsValidEntry
-    by true e o is = beside_keeps t ts s c.renumbered t.labels (All-head IsShaped t ts s).levels
+    by true e o is = beside_keeps t ts s _ t.labels (All-head IsShaped t ts s).levels
     by false false o is = tt
     by false true (Some label) is = tt
     by false true None is =
-        let n = length t.level_names in
-        beside_keeps t ts s c.renumbered (united same_tuple c.inner (labels_of_tables all)) (united_all same_tuple (Has n) c.inner t.labels (labels_of_tables ts) (labels_have n all (grind (arith, all_pass, eqb-true))))
+        let n = length _ in
+        beside_keeps t ts s _ (united same_tuple c.inner (labels_of_tables all)) (united_all _ (Has n) _ _ _ (labels_have n all (grind (arith, all_pass, eqb-true))))
 
 -- along either axis
 
@@ -266,14 +266,14 @@ along_keeps true t ts c s keys = beside_all_keeps t ts c s
 along_keeps false t ts c s keys = grind (arith, series_keep, all_pass, eqb-true, all_series, frames_keep, all_frames)
 
 with_keys_keep : (count : ℕ) (across renumbered : Bool) (keys : Option (List LabelValue)) (rest : Result Entry FaultValue) → (AreKeys count renumbered keys → IfOk rest IsValidEntry) → IfOk (with_keys count across renumbered keys rest) IsValidEntry
-with_keys_keep count across renumbered x rest h = grind (arith, of_length_keeps)
+with_keys_keep = grind (arith, of_length_keeps)
 
 concatenated_keeps : (across : Bool) (ts : List Table) (c : Concatenation) → AreShaped ts → IfOk (concatenated across ts c) IsValidEntry
 concatenated_keeps across [] c s = tt
 concatenated_keeps across (t ∷ ts) c s = search (with_keys_keep, along_keeps)
 
 list_valid : (a : Given) → IsValidArgument a → IfSome (list_in a) (λ parts. All IsValid (tables_of parts))
-list_valid x h = grind arith
+list_valid = grind arith
 
 pub concat_result_keeps : (objects axis join renumbered keys : Given) → IsValidArgument objects → IfOk (concat_result (objects ∷ axis ∷ join ∷ renumbered ∷ keys ∷ [])) IsValidEntry
 concat_result_keeps objects axis join renumbered keys h = search (on_some_keeps, list_valid, on_keeps, concatenated_keeps, shaped)

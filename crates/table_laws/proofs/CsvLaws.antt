@@ -6,7 +6,7 @@ use Rattle.{
   meaning.specs.{Text.{Text, same_text}, Cell.{CellValue, na_cell, text_cell, LabelValue, text, Kind}, Cast.{cast_cell}},
   table_meaning.specs.Value.{Given, NamedGiven},
   form_meaning.specs.{Signature.{function_named}, Functions.{make_result}},
-  csv_meaning.{specs.CsvRead.{CsvValue, CsvRefusal, is_missing, field_cell, cell_of_field, column_of_fields, columns_from, next_label, labels_after, labels_of, labelled_columns, columns_of_rows, columns_of_records, columns_of_file}, proofs.DifferentLaws.{labels_differ}},
+  csv_meaning.{specs.CsvRead.{CsvValue, CsvRefusal, is_missing, cell_of_field, column_of_fields, columns_from, labels_after, labels_of, labelled_columns, columns_of_rows, columns_of_records, columns_of_file}, proofs.DifferentLaws.{labels_differ}},
   method_meaning.specs.Readers.{frame_of_columns, frame_or_fault, csv_result, reads_file, read_result, make_with},
   table_laws.{specs.Validity.{IsValidEntry}, proofs.{ListLaws.{both_true, both_ways, all_mapped}, CellLaws.{Held, cast_held}, ColumnLaws.{IsColumn}, TableLaws.{IsShaped, valid, frame_headings}, SetLaws.{length_default, default_levels}, MethodLaws.{on_bound_keeps}, MakeLaws.{make_result_keeps}}},
 }
@@ -14,17 +14,17 @@ use Rattle.{
 -- fields
 
 or_missing : (kind : Kind) (o : Option CellValue) → IfSome o (Held kind) → Held kind (unwrap_or o na_cell)
-or_missing kind x h = grind arith
+or_missing = grind arith
 
 field_held : (kind : Kind) (field : Text) → Held kind (cell_of_field kind field)
-field_held kind field = or_missing kind (field_cell kind field) (by (is_missing field))
+field_held kind field = or_missing _ _ (by (is_missing field))
   where
     by : (b : Bool) → IfSome (if b then Some na_cell else cast_cell kind (text_cell field)) (Held kind)
     by true = refl
     by false = search cast_held
 
 fields_column : (named : Option Kind) (fields : List Text) → IsColumn (length fields) (column_of_fields named fields)
-fields_column named fields = search (length-map, all_mapped, field_held)
+fields_column = search (length-map, all_mapped, field_held)
 
 columns_are : (place : ℕ) (kinds : List (Option Kind)) (rows : List (List Text)) → All (IsColumn (length rows)) (columns_from place kinds rows)
 columns_are place [] rows = grind arith
@@ -32,13 +32,13 @@ columns_are place (named ∷ more) rows = grind (arith, length-map, fields_colum
 
 length_columns : (place : ℕ) (kinds : List (Option Kind)) (rows : List (List Text)) → length (columns_from place kinds rows) ≡ length kinds
 length_columns place [] rows = refl
-length_columns place (named ∷ more) rows = ap suc (length_columns (suc place) more rows)
+length_columns place (named ∷ more) rows = ap suc (length_columns _ more _)
 
 -- labels
 
 length_after : (columns : ℕ) (before taken labels : List Text) → length (labels_after columns before taken labels) ≡ length labels
 length_after columns before taken [] = refl
-length_after columns before taken (label ∷ labels) = ap suc (length_after columns (with_text before label) (with_text taken (next_label columns before taken label)) labels)
+length_after columns before taken (label ∷ labels) = ap suc (length_after _ (with_text before label) _ labels)
 
 abbrev heading_of : List LabelValue → Option LabelValue
 heading_of label = slice_get label 0
@@ -61,34 +61,34 @@ others_differ l (m ∷ ms) h = grind (arith, both_ways, bytes_eq-Decides, text_i
 headings_differ : (labels : List Text) → IsDistinct same_text labels → AllPairs (λ a b. a ≢ b) (headings_of labels)
 headings_differ [] h = grind arith
 headings_differ (l ∷ ls) h =
-    AllPairs-cons (λ a b. a ≢ b) (Some (text l)) (headings_of ls) (others_differ l ls (IsDistinct-head same_text l ls h)) (headings_differ ls (IsDistinct-tail same_text l ls h))
+    AllPairs-cons (λ a b. a ≢ b) (Some (text l)) _ (others_differ l ls (IsDistinct-head _ l ls h)) (headings_differ ls (IsDistinct-tail _ l ls h))
 
 headings_some : (labels : List Text) → All IsSome (headings_of labels)
 headings_some [] = All-nil IsSome
 headings_some (l ∷ ls) = grind (arith, headings_some ls)
 
 frame_shaped : (labels : List Text) (kinds : List (Option Kind)) (rows : List (List Text)) → length kinds ≡ length labels → IsDistinct same_text labels → IsShaped (frame_of_columns (labelled_columns labels kinds rows))
-frame_shaped labels kinds rows size distinct = grind (arith, default_levels, length-map, length_columns, length_default, columns_are, frame_headings, headings_some, headings_differ)
+frame_shaped = grind (arith, default_levels, length-map, length_columns, length_default, columns_are, frame_headings, headings_some, headings_differ)
 
 -- the tables that are read
 abbrev IsRead : Result CsvValue CsvRefusal → Type 0
 IsRead r = IfOk (frame_or_fault r) IsValidEntry
 
 rows_read : (header : List Text) (kinds : List (Option Kind)) (rows : List (List Text)) → length kinds ≡ length (labels_of header) → IsRead (columns_of_rows (labels_of header) kinds rows)
-rows_read header kinds rows size = grind (arith, length_after, both_true, nat_tests, labels_differ, valid, frame_shaped, length_default, length_columns)
+rows_read = grind (arith, length_after, both_true, nat_tests, labels_differ, valid, frame_shaped, length_default, length_columns)
 
 records_read : (kinds : List (Text × Kind)) (records : List (List Text)) → IsRead (columns_of_records kinds records)
-records_read kinds x = grind (arith, rows_read, length-map)
+records_read = grind (arith, rows_read, length-map)
 
 file_read : (bytes : List ℕ) (kinds : List (Text × Kind)) → IsRead (columns_of_file bytes kinds)
-file_read bytes kinds = grind (arith, records_read)
+file_read = grind (arith, records_read)
 
 csv_result_keeps : (bytes : List ℕ) (gs : List Given) → IfOk (csv_result bytes gs) IsValidEntry
-csv_result_keeps bytes gs = grind (arith, file_read)
+csv_result_keeps = grind (arith, file_read)
 
 -- a file that is read
 pub read_result_keeps : (bytes : List ℕ) (gs : List NamedGiven) → IfOk (read_result bytes gs) IsValidEntry
-read_result_keeps bytes gs = search (on_bound_keeps, csv_result_keeps)
+read_result_keeps = search (on_bound_keeps, csv_result_keeps)
 
 -- a function of `pd`, with the file that it reads
 pub make_with_keeps : (file : Option (List ℕ)) (name : Text) (gs : List NamedGiven) → IfOk (make_with file name gs) IsValidEntry

@@ -11,7 +11,7 @@ abbrev Heading : Type 0
 Heading = Option LabelValue
 
 bool_same : (a b : Bool) → bool_cmp a b ≡ Equal → a ≡ b
-bool_same x x1 e = grind arith
+bool_same = grind arith
 
 -- labels that compare as equal are the same
 value_same : (a b : LabelValue) → label_cmp a b ≡ Equal → a ≡ b
@@ -22,32 +22,32 @@ value_same na na e = refl
 value_same a b e = Prim.cc
 
 is_equal : (o : Ordering) → is_eq o ≡ true → o ≡ Equal
-is_equal x e = grind arith
+is_equal = grind arith
 
 pub label_decides : (a b : LabelValue) → Decides (same_label a b) (a ≡ b)
-label_decides a b = grind (arith, value_same, is_equal, tied_itself, label_total)
+label_decides = grind (arith, value_same, is_equal, tied_itself, label_total)
 
 -- the label of a heading
 met : (l : LabelValue) (h : Heading) → same_heading (Some l) h ≡ true → h ≡ Some l
-met l x e = grind (arith, label_decides)
+met = grind (arith, label_decides)
 
 -- another heading
 other : (h g : Heading) → same_heading h g ≡ false → h ≢ g
-other x x1 e is = grind (arith, both_ways, label_decides)
+other = grind (arith, both_ways, label_decides)
 
 neither : (b c : Bool) → b || c ≡ false → (b ≡ false) × (c ≡ false)
-neither x c e = grind arith
+neither = grind arith
 
 none_such : (h : Heading) (hs : List Heading) → list_any (same_heading h) hs ≡ false → All (λ g. h ≢ g) hs
 none_such h [] e = All-nil (λ g. h ≢ g)
 none_such h (g ∷ gs) e =
-    let both = neither (same_heading h g) (list_any (same_heading h) gs) e in
+    let both = neither _ _ e in
     grind (arith, other, none_such h gs both.1)
 
 -- headings of which none stands again
 pub different : (hs : List Heading) → All IsSome hs → first_repeated hs ≡ None → AllPairs (λ a b. a ≢ b) hs
 different [] some e = grind arith
-different (h ∷ hs) some e = by (list_any (same_heading h) hs) refl e (different hs (All-tail IsSome h hs some))
+different (h ∷ hs) some e = by _ refl e (different hs (All-tail IsSome h hs some))
   where
     no_heading : (g : Heading) → IsSome g → g ≡ None → ⊥
     no_heading None s e = Prim.cc
@@ -59,7 +59,7 @@ different (h ∷ hs) some e = by (list_any (same_heading h) hs) refl e (differen
 
 -- a table that is finished
 pub finished_keeps : (t : Table) → (first_repeated t.headings ≡ None → IsShaped t) → IfOk (finished t) IsValidEntry
-finished_keeps t h = grind arith
+finished_keeps = grind arith
 
 -- where a label stands
 pub record IsPlace (hs : List Heading) (l : LabelValue) (place : ℕ) : Type 0 where
@@ -67,7 +67,7 @@ pub record IsPlace (hs : List Heading) (l : LabelValue) (place : ℕ) : Type 0 w
   pub here : slice_index_or hs place None ≡ Some l
 
 later : (h : Heading) (hs : List Heading) (l : LabelValue) (o : Option ℕ) → IfSome o (IsPlace hs l) → IfSome (option_map suc o) (IsPlace (h ∷ hs) l)
-later h hs l x p = grind arith
+later = grind arith
 
 pub place_found : (hs : List Heading) (l : LabelValue) → IfSome (place_of_label hs l) (IsPlace hs l)
 place_found [] l = tt
@@ -75,14 +75,14 @@ place_found (h ∷ hs) l = grind (arith, met, later, place_found hs l)
 
 pub place_absent : (hs : List Heading) (l : LabelValue) → place_of_label hs l ≡ None → All (λ h. h ≢ Some l) hs
 place_absent [] l e = grind arith
-place_absent (h ∷ hs) l e = by (same_heading (Some l) h) refl e (place_absent hs l)
+place_absent (h ∷ hs) l e = by _ refl e (place_absent hs l)
   where
     by : (b : Bool) → same_heading (Some l) h ≡ b → (if b then Some 0 else option_map suc (place_of_label hs l)) ≡ None → (place_of_label hs l ≡ None → All (λ h. h ≢ Some l) hs) → All (λ h. h ≢ Some l) (h ∷ hs)
     by true is none rest = Prim.cc
-    by false is none rest = All-cons (λ h. h ≢ Some l) h hs (λ e. other (Some l) h is (sym e)) (rest (grind arith))
+    by false is none rest = All-cons (λ h. h ≢ Some l) h hs (λ e. other _ h is (sym e)) (rest (grind arith))
 
 pub found_within : (hs : List Heading) (l : LabelValue) → IfOk (found l (place_of_label hs l)) (λ place. place < length hs)
-found_within hs l = by (place_of_label hs l) (place_found hs l)
+found_within hs l = by _ (place_found hs l)
   where
     by : (o : Option ℕ) → IfSome o (IsPlace hs l) → IfOk (found l o) (λ place. place < length hs)
     by None h = tt
@@ -101,7 +101,7 @@ not_below n = Prim.grind (arith, nat_tests)
 
 -- the headings with a label in its own place, or last
 pub put_heading : (hs : List Heading) (l : LabelValue) → AllPairs (λ a b. a ≢ b) hs → AllPairs (λ a b. a ≢ b) (put_at hs (unwrap_or (place_of_label hs l) (length hs)) (Some l))
-put_heading hs l apart = by (place_of_label hs l) refl (place_found hs l)
+put_heading hs l apart = by _ refl (place_found hs l)
   where
     by : (o : Option ℕ) → place_of_label hs l ≡ o → IfSome o (IsPlace hs l) → AllPairs (λ a b. a ≢ b) (put_at hs (unwrap_or o (length hs)) (Some l))
     by (Some p) e at = grind (arith, nat_tests, set_same)

@@ -5,9 +5,9 @@ use Rattle.{
   meaning.specs.{Cell.{CellValue, LabelValue, na_cell}, Operator.{cell_label}, Fault.{FaultValue, levels}},
   pick_meaning.proofs.PositionLaws.{at_inside},
   table_meaning.specs.{Table.{ColumnOf, RowOf, Table, rows_of}, Value.{Entry, Given}},
-  form_meaning.specs.{Finish.{first_repeated, limited}, Select.{heading_at, columns_frame}, Set.{list_column}},
-  method_meaning.specs.{Rows.{cells_by_row, all_places, places_besides}, Levels.{rename_axis_result, on_levels, indexed_by, index_set, set_index_result, renumbered, level_cells, level_columns, level_labels, with_levels, levels_reset, level_of, of_several, level_dropped, droplevel_result, levels_swapped, swaplevel_result}},
-  table_laws.{specs.Validity.{IsValidEntry}, proofs.{ListLaws.{both_true, all_made, all_any, all_mapped, all_tabulated, then_keeps, try_keeps, of_length_keeps}, ColumnLaws.{IsColumn, list_keeps}, TableLaws.{IsShaped, limited_keeps, frame_headings}, HeadingLaws.{different, finished_keeps, found_within}, ReachLaws.{below_all, found_is}, RowLaws.{kept_shaped, rows_counted, anything}, SetLaws.{length_default, default_levels}}},
+  form_meaning.specs.{Finish.{first_repeated, limited}, Select.{columns_frame}, Set.{list_column}},
+  method_meaning.specs.{Rows.{cells_by_row}, Levels.{rename_axis_result, on_levels, indexed_by, index_set, set_index_result, renumbered, level_cells, level_labels, with_levels, levels_reset, level_of, of_several, level_dropped, droplevel_result, levels_swapped, swaplevel_result}},
+  table_laws.{specs.Validity.{IsValidEntry}, proofs.{ListLaws.{both_true, all_made, all_mapped, all_tabulated, then_keeps, try_keeps, of_length_keeps}, ColumnLaws.{IsColumn, list_keeps}, TableLaws.{IsShaped, limited_keeps, frame_headings}, HeadingLaws.{different, finished_keeps, found_within}, ReachLaws.{below_all, found_is}, RowLaws.{kept_shaped, rows_counted, anything}, SetLaws.{length_default, default_levels}}},
 }
 
 abbrev Has : ℕ → List LabelValue → Type 0
@@ -15,57 +15,50 @@ Has n tuple = length tuple ≡ n
 
 -- names of levels
 pub rename_axis_keeps : (t : Table) (names : Given) → IsShaped t → IfOk (rename_axis_result t names) IsValidEntry
-rename_axis_keeps t names s = grind (arith, of_length_keeps, limited_keeps)
+rename_axis_keeps = grind (arith, of_length_keeps, limited_keeps)
 
 -- columns as labels
 pub on_levels_keep : (count : ℕ) (rest : Result Entry FaultValue) → (1 ≤ count → count ≤ 4 → IfOk rest IsValidEntry) → IfOk (on_levels count rest) IsValidEntry
-on_levels_keep count rest h = grind (arith, nat_tests, both_true)
+on_levels_keep = grind (arith, nat_tests, both_true)
 
 pub row_has : (t : Table) (places : List ℕ) → All (λ (r : RowOf LabelValue CellValue). length r.cells ≡ length places) (rows_of na_cell (columns_frame t places))
-row_has t places = search (all_tabulated, length-map)
+row_has = search (all_tabulated, length-map)
 
 tuples_have : (t : Table) (places : List ℕ) → All (Has (length (indexed_by t places).level_names)) (indexed_by t places).labels
 tuples_have t places =
-    all_made (λ cells. length cells ≡ length places) (Has (length (indexed_by t places).level_names)) (map cell_label) (λ cells h. length-map cells cell_label ∙ h ∙ sym (length-map places (heading_at t))) (cells_by_row t places)
-    (all_made (λ r. length r.cells ≡ length places) (λ cells. length cells ≡ length places) (λ r. r.cells) (λ r h. h) (rows_of na_cell (columns_frame t places)) (row_has t places))
+    all_made (λ cells. length cells ≡ length places) (Has (length (indexed_by t places).level_names)) _ (λ cells h. length-map cells _ ∙ h ∙ sym (length-map places _)) (cells_by_row t places)
+    (all_made (λ r. length r.cells ≡ length places) (λ cells. length cells ≡ length places) (λ r. r.cells) (λ r h. h) (rows_of na_cell (columns_frame t places)) (row_has t _))
 
 indexed_shaped : (t : Table) (places : List ℕ) → IsShaped t → t.shape ≡ Frame → 1 ≤ length places → length places ≤ 4 → first_repeated (indexed_by t places).headings ≡ None → IsShaped (indexed_by t places)
 indexed_shaped t places s is some few none =
-    let k = kept_shaped t (places_besides t places) s is (All-filter _ (λ place. place < length t.columns) (all_places t) (below_all (length t.columns))) none in
+    let k = kept_shaped t _ s is (All-filter _ (λ place. place < length t.columns) _ (below_all _)) none in
     let names : length places ≡ length (indexed_by t places).level_names = search length-map in
-    let rows = sym (length-map (cells_by_row t places) (map cell_label) ∙ rows_counted t places) in
+    let rows = sym (length-map (cells_by_row t places) (map cell_label) ∙ rows_counted t _) in
     record {
       some = grind arith;
       few = grind arith;
-      levels = tuples_have t places;
+      levels = tuples_have t _;
       headed = k.headed;
       columns = grind arith;
       headings = k.headings;
     }
 
 index_set_keeps : (t : Table) (places : List ℕ) → IsShaped t → t.shape ≡ Frame → IfOk (index_set t places) IsValidEntry
-index_set_keeps t places s is = grind (arith, on_levels_keep, limited_keeps, indexed_shaped)
+index_set_keeps = grind (arith, on_levels_keep, limited_keeps, indexed_shaped)
 
 pub set_index_keeps : (t : Table) (keys : Given) → IsShaped t → t.shape ≡ Frame → IfOk (set_index_result t keys) IsValidEntry
-set_index_keeps t keys s is = grind (arith, then_keeps, anything, index_set_keeps)
+set_index_keeps = grind (arith, then_keeps, anything, index_set_keeps)
 
 -- the labels 0, 1 and so on
 renumbered_shaped : (t : Table) → IsShaped t → IsShaped (renumbered t)
-renumbered_shaped t s = record {
-  some = Prim.omega arith;
-  few = Prim.omega arith;
-  levels = default_levels (length t.labels);
-  headed = s.headed;
-  columns = rw (length_default (length t.labels)) s.columns;
-  headings = s.headings;
-}
+renumbered_shaped = grind (arith, default_levels, length_default)
 
 pub renumbered_keeps : (t : Table) → IsShaped t → IfOk (limited (renumbered t)) IsValidEntry
-renumbered_keeps t s = limited_keeps (renumbered t) (renumbered_shaped t s)
+renumbered_keeps t s = limited_keeps _ (renumbered_shaped t s)
 
 -- levels as columns
 level_keeps : (t : Table) (level : ℕ) → IfOk (list_column (level_cells t level)) (IsColumn (length t.labels))
-level_keeps t level = grind (arith, length-map, list_keeps)
+level_keeps = grind (arith, length-map, list_keeps)
 
 with_levels_shaped : (t : Table) (columns : List (ColumnOf CellValue)) → IsShaped t → t.shape ≡ Frame → length columns ≡ length t.level_names → All (IsColumn (length t.labels)) columns → first_repeated (with_levels t columns).headings ≡ None
     → IsShaped (with_levels t columns)
@@ -85,24 +78,24 @@ with_levels_shaped t columns s is size h none =
 
 pub levels_reset_keeps : (t : Table) → IsShaped t → t.shape ≡ Frame → IfOk (levels_reset t) IsValidEntry
 levels_reset_keeps t s is =
-    let levels = range_with_len 0 (length t.level_names) in
-    then_keeps (λ columns. (length columns ≡ length levels) × All (IsColumn (length t.labels)) columns) IsValidEntry (level_columns t) _
-    (try_keeps (λ level. Unit {0}) (IsColumn (length t.labels)) (λ level. list_column (level_cells t level)) (λ level h. level_keeps t level) levels (all_any (λ level. Unit {0}) (λ level. tt) levels))
-    (λ columns made. finished_keeps (with_levels t columns) (with_levels_shaped t columns s is (made.0 ∙ length-range_with_len 0 (length t.level_names)) made.1))
+    let levels = range_with_len 0 (length _) in
+    then_keeps (λ columns. (length columns ≡ length levels) × All (IsColumn (length t.labels)) columns) _ _ _
+    (try_keeps (λ level. Unit {0}) _ (λ level. list_column (level_cells t level)) (λ level h. level_keeps t _) levels _)
+    (λ columns made. finished_keeps _ (with_levels_shaped t _ s is (made.0 ∙ length-range_with_len 0 _) made.1))
 
 -- a level that is named stands there
 abbrev pub IsLevel : Table → ℕ → Type 0
 IsLevel t level = level < length t.level_names
 
 pub level_of_keeps : (t : Table) (level : Option CellValue) → IfOk (level_of t level) (IsLevel t)
-level_of_keeps t level = grind (arith, found_is, at_inside, found_within)
+level_of_keeps = grind (arith, found_is, at_inside, found_within)
 
 -- where a level goes, another one stays
 pub of_several_keeps : {A : Type 0} (P : A → Type 0) (t : Table) (rest : Result A FaultValue) → (2 ≤ length t.level_names → IfOk rest P) → IfOk (of_several t rest) P
-of_several_keeps P t rest h = grind (arith, nat_tests)
+of_several_keeps P = grind (arith, nat_tests)
 
 dropped_has : (t : Table) (level : ℕ) → IsLevel t level → (tuple : List LabelValue) → length tuple ≡ length t.level_names → Has (length (remove t.level_names level)) (remove tuple level)
-dropped_has t level lt tuple has = grind (arith, length-remove)
+dropped_has = grind (arith, length-remove)
 
 pub dropped_shaped : (t : Table) (level : ℕ) → IsShaped t → IsLevel t level → 2 ≤ length t.level_names → IsShaped (level_dropped t level)
 dropped_shaped t level s lt several =
@@ -118,8 +111,8 @@ dropped_shaped t level s lt several =
 
 pub droplevel_keeps : (t : Table) (level : Option CellValue) → IsShaped t → IfOk (droplevel_result t level) IsValidEntry
 droplevel_keeps t level s =
-    then_keeps (IsLevel t) IsValidEntry (level_of t level) _ (level_of_keeps t level)
-    (λ k lt. of_several_keeps IsValidEntry t (limited (level_dropped t k)) (λ several. limited_keeps (level_dropped t k) (dropped_shaped t k s lt several)))
+    then_keeps _ _ _ _ (level_of_keeps t level)
+    (λ k lt. of_several_keeps _ t _ (λ several. limited_keeps (level_dropped t k) (dropped_shaped t k s lt several)))
 
 -- two levels exchanged
 swapped_shaped : (t : Table) (i j : ℕ) → IsShaped t → IsShaped (levels_swapped t i j)
@@ -136,5 +129,5 @@ swapped_shaped t i j s =
 
 pub swaplevel_keeps : (t : Table) (first second : Option CellValue) → IsShaped t → IfOk (swaplevel_result t first second) IsValidEntry
 swaplevel_keeps t first second s =
-    then_keeps (IsLevel t) IsValidEntry (level_of t first) _ (level_of_keeps t first)
-    (λ i here. then_keeps (IsLevel t) IsValidEntry (level_of t second) _ (level_of_keeps t second) (λ j there. limited_keeps (levels_swapped t i j) (swapped_shaped t i j s)))
+    then_keeps (IsLevel t) _ _ _ (level_of_keeps t first)
+    (λ i here. then_keeps (IsLevel t) IsValidEntry _ _ (level_of_keeps t second) (λ j there. limited_keeps _ (swapped_shaped t i j s)))

@@ -1,16 +1,16 @@
 -- Laws of lists, and of what is made of them one by one.
 use Rattle.{
-  std.{proofs.{Common.{◌≡◌, refl, ap, ℕ, zero, suc, List, [], ◌∷◌, ◌++◌, length, map, arith, take, drop}, lemmas.{Bool.{eqb-true}, List.{length-set, length-append, FromFn.{length-map-range_with_len}, Elements.{All-nil, All-cons, All-head, All-tail, All-set, All-push, All-append, All-take, All-drop}}}}, specs.{Prelude.{Bool, true, false, ◌&&◌, if◌then◌else◌, nat_lt, remove, slice_set, slice_index_or, Option, Result, IfOk, IfSome, All}, List.{list_all}}},
+  std.{proofs.{Common.{◌≡◌, refl, ap, ℕ, zero, suc, List, [], ◌∷◌, ◌++◌, length, map, arith, take, drop}, lemmas.{Bool.{eqb-true}, List.{length-set, length-append, FromFn.{length-map-range_with_len}, Elements.{All-nil, All-cons, All-head, All-tail, All-set, All-push, All-append, All-take, All-drop}}}}, specs.{Prelude.{Bool, true, false, ◌&&◌, if◌then◌else◌, remove, slice_set, slice_index_or, Option, Result, IfOk, IfSome, All}, List.{list_all}}},
   meaning.specs.{Fault.{FaultValue, then_value}, Column.{tabulate, then_rows, try_each, try_pairs}},
   table_meaning.specs.Change.{put_at},
   form_meaning.specs.{Finish.{try_all}, Set.{of_length}, Make.{on}},
 }
 
 pub both_true : (a b : Bool) → a && b ≡ true → (a ≡ true) × (b ≡ true)
-both_true x b e = grind arith
+both_true = grind arith
 
 pub both_ways : {P : Type 0} (b : Bool) → b ≡ true → b ≡ false → P
-both_ways x e f = grind arith
+both_ways = grind arith
 
 -- a test that passes at each
 pub all_pass : {X : Type 0} (p : X → Bool) (xs : List X) → list_all p xs ≡ true → All (λ x. p x ≡ true) xs
@@ -23,7 +23,7 @@ all_made P Q f so [] h = All-nil Q
 all_made P Q f so (x ∷ xs) h = All-cons Q (f x) (map f xs) (so x (All-head P x xs h)) (all_made P Q f so xs (All-tail P x xs h))
 
 pub all_any : {X : Type 0} (P : X → Type 0) → ((x : X) → P x) → (xs : List X) → All P xs
-all_any P h xs k d lt = search
+all_any P = search
 
 -- what a function makes of any
 pub all_mapped : {X Y : Type 0} (Q : Y → Type 0) (f : X → Y) → ((x : X) → Q (f x)) → (xs : List X) → All Q (map f xs)
@@ -33,7 +33,7 @@ pub all_tabulated : {X : Type 0} (Q : X → Type 0) (f : ℕ → X) → ((k : �
 all_tabulated Q f so count = all_mapped Q f so _
 
 pub length_tabulate : {X : Type 0} (count : ℕ) (f : ℕ → X) → length (tabulate count f) ≡ count
-length_tabulate count f = length-map-range_with_len f 0 count
+length_tabulate count f = length-map-range_with_len f 0 _
 
 -- an element, or what stands for one that is missing
 pub at_or : {X : Type 0} (P : X → Type 0) (xs : List X) (k : ℕ) (d : X) → P d → All P xs → P (slice_index_or xs k d)
@@ -43,33 +43,33 @@ at_or P (x ∷ xs) (suc k) d none h = at_or P xs k d none (All-tail P x xs h)
 
 -- the value goes on
 pub then_keeps : {A B : Type 0} (P : A → Type 0) (Q : B → Type 0) (r : Result A FaultValue) (go : A → Result B FaultValue) → IfOk r P → ((a : A) → P a → IfOk (go a) Q) → IfOk (then_value r go) Q
-then_keeps x x1 x2 go h so = grind arith
+then_keeps P Q = grind arith
 
 -- what follows where something is given
 pub on_some_keeps : {A B : Type 0} (P : A → Type 0) (Q : B → Type 0) (o : Option A) (go : A → Result B FaultValue) → IfSome o P → ((a : A) → P a → IfOk (go a) Q) → IfOk (on o go) Q
-on_some_keeps x x1 x2 go h so = grind arith
+on_some_keeps P Q = grind arith
 
 pub on_keeps : {A B : Type 0} (P : B → Type 0) (o : Option A) (go : A → Result B FaultValue) → ((a : A) → IfOk (go a) P) → IfOk (on o go) P
-on_keeps x x1 go h = grind arith
+on_keeps P = grind arith
 
 -- what is made of each of them, where all are
 pub try_keeps : {A B : Type 0} (P : A → Type 0) (Q : B → Type 0) (f : A → Result B FaultValue) → ((a : A) → P a → IfOk (f a) Q) → (xs : List A) → All P xs
     → IfOk (try_all f xs) (λ ys. (length ys ≡ length xs) × All Q ys)
 try_keeps P Q f so [] h = (refl, All-nil Q)
 try_keeps P Q f so (x ∷ xs) h =
-    then_keeps Q (λ ys. (length ys ≡ suc (length xs)) × All Q ys) (f x) _ (so x (All-head P x xs h))
-    (λ y first. then_keeps (λ ys. (length ys ≡ length xs) × All Q ys) (λ ys. (length ys ≡ suc (length xs)) × All Q ys) (try_all f xs) _ (try_keeps P Q f so xs (All-tail P x xs h))
+    then_keeps Q (λ ys. (length ys ≡ suc (length xs)) × All Q ys) _ _ (so x (All-head P x xs h))
+    (λ y first. then_keeps (λ ys. (length ys ≡ length xs) × All Q ys) (λ ys. (length ys ≡ suc (length xs)) × All Q ys) _ _ (try_keeps P Q f so xs (All-tail P x xs h))
     (λ ys rest. (ap suc rest.0, grind arith)))
 
 rows_keep : {C : Type 0} (Q : C → Type 0) (n : ℕ) (o : Option C) (row : ℕ) (rest : Result (List C) ℕ) → IfSome o Q → IfOk rest (λ cs. (length cs ≡ n) × All Q cs)
     → IfOk (then_rows o row rest) (λ cs. (length cs ≡ suc n) × All Q cs)
-rows_keep x n x1 row rest first more = grind arith
+rows_keep Q = grind arith
 
 -- rows that are made of rows
 pub each_keeps : {A C : Type 0} (P : A → Type 0) (Q : C → Type 0) (f : A → Option C) → ((a : A) → P a → IfSome (f a) Q) → (row : ℕ) (xs : List A) → All P xs
     → IfOk (try_each f row xs) (λ cs. (length cs ≡ length xs) × All Q cs)
 each_keeps P Q f so row [] h = (refl, All-nil Q)
-each_keeps P Q f so row (x ∷ xs) h = rows_keep Q (length xs) (f x) row (try_each f (suc row) xs) (so x (All-head P x xs h)) (each_keeps P Q f so (suc row) xs (All-tail P x xs h))
+each_keeps P Q f so row (x ∷ xs) h = rows_keep Q _ _ _ _ (so x (All-head P x xs h)) (each_keeps P Q f so (suc row) xs (All-tail P x xs h))
 
 -- rows that are made of two rows side by side, of which there are as many
 pub pairs_keep : {A B C : Type 0} (P : A → Type 0) (R : B → Type 0) (Q : C → Type 0) (f : A → B → Option C) → ((a : A) (b : B) → P a → R b → IfSome (f a b) Q)
@@ -77,7 +77,7 @@ pub pairs_keep : {A B C : Type 0} (P : A → Type 0) (R : B → Type 0) (Q : C �
     → IfOk (try_pairs f row xs ys) (λ cs. (length cs ≡ n) × All Q cs)
 pairs_keep P R Q f so row zero [] [] e g h k = (refl, All-nil Q)
 pairs_keep P R Q f so row (suc n) (x ∷ xs) (y ∷ ys) e g h k =
-    rows_keep Q n (f x y) row (try_pairs f (suc row) xs ys) (so x y (All-head P x xs h) (All-head R y ys k))
+    rows_keep Q n _ _ _ (so x y (All-head P x xs h) (All-head R y ys k))
     (pairs_keep P R Q f so (suc row) n xs ys (Prim.omega arith) (Prim.omega arith) (All-tail P x xs h) (All-tail R y ys k))
 pairs_keep P R Q f so row zero [] (y ∷ ys) e g h k = grind arith
 pairs_keep P R Q f so row zero (x ∷ xs) ys e g h k = grind arith
@@ -86,18 +86,18 @@ pairs_keep P R Q f so row (suc n) (x ∷ xs) [] e g h k = grind arith
 
 -- an item that is put at a place, or last
 pub All-put_at : {X : Type 0} (P : X → Type 0) (xs : List X) (place : ℕ) (x : X) → All P xs → P x → All P (put_at xs place x)
-All-put_at P xs place x all here = go (nat_lt place (length xs))
+All-put_at P xs place x all here = go _
   where
     go : (b : Bool) → All P (if b then slice_set xs place x else xs ++ x ∷ [])
-    go true = All-set P xs place x here all
+    go true = All-set P xs _ x here all
     go false = All-push P xs x all here
 
 pub length-put_at : {X Y : Type 0} (xs : List X) (ys : List Y) (place : ℕ) (x : X) (y : Y) → length xs ≡ length ys → length (put_at xs place x) ≡ length (put_at ys place y)
-length-put_at xs ys place x y same = grind (arith, length-set, length-append)
+length-put_at = grind (arith, length-set, length-append)
 
 pub All-remove : {X : Type 0} (P : X → Type 0) (xs : List X) (i : ℕ) → All P xs → All P (remove xs i)
 All-remove P xs i all = All-append P (take i xs) (drop (suc i) xs) (All-take P i xs all) (All-drop P (suc i) xs all)
 
 -- as many as are expected
 pub of_length_keeps : {A : Type 0} (P : A → Type 0) (expected got : ℕ) (rest : Result A FaultValue) → (expected ≡ got → IfOk rest P) → IfOk (of_length expected got rest) P
-of_length_keeps P expected got rest h = grind (arith, eqb-true)
+of_length_keeps P = grind (arith, eqb-true)

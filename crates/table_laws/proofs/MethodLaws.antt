@@ -1,11 +1,11 @@
 -- Methods make valid tables of valid ones.
 use Rattle.{
-  std.{proofs.{Common.{◌≡◌, ◌∙◌, refl, sym, ℕ, pos, List, [], ◌∷◌, length, map, arith}, lemmas.List.{length-map, Elements.{All-head, All-tail}}}, specs.{Prelude.{Bool, true, false, if◌then◌else◌, unwrap_or, Option, Some, None, IsSome, Result, Err, IfOk, All}, List.{list_all}}},
+  std.{proofs.{Common.{◌≡◌, ◌∙◌, refl, sym, ℕ, pos, List, [], ◌∷◌, length, map, arith}, lemmas.List.{length-map, Elements.{All-head, All-tail}}}, specs.Prelude.{Bool, true, false, if◌then◌else◌, unwrap_or, Option, Some, None, IsSome, Result, Err, IfOk, All}},
   cell_core.specs.declared.grid.Shape.{Shape, TheVariants.{Series, Frame}},
   meaning.specs.{Text.{Text}, Cell.{CellValue, LabelValue, int, Kind}, Fault.{FaultValue, wrong_kind}},
   table_meaning.{specs.{Table.{ColumnOf, Table, column_at}, Value.{Entry, Given, NamedGiven}}, proofs.KindLaws.{kind_is}},
-  form_meaning.{specs.{declared.Method.{Method}, Signature.{method_names, fits_shape}, Binding.{Bound, on_bound}, Finish.{first_repeated, limited, finished, try_all, with_columns, across_columns}}, proofs.ShapeLaws.{named_fits, of_series, of_frame}},
-  method_meaning.specs.{Methods.{each_column, Summary, summary_cell, summary_kind, kind_for, summary_as, summary_of, summary, renamed_series, is_scalar_pair, renamed_heading, renamed_frame, as_frame, reset_index_result, csv_answer, answer_for}, Calls.{method_result, ChainValue, chain_result}},
+  form_meaning.{specs.{declared.Method.{Method}, Signature.{method_names, fits_shape}, Binding.{Bound, on_bound}, Finish.{first_repeated, limited, finished, across_columns}}, proofs.ShapeLaws.{named_fits, of_series, of_frame}},
+  method_meaning.specs.{Methods.{each_column, Summary, summary_cell, summary_kind, kind_for, summary_as, summary_of, summary, renamed_series, renamed_heading, renamed_frame, as_frame, reset_index_result, csv_answer, answer_for}, Calls.{method_result, ChainValue, chain_result}},
   table_laws.{specs.Validity.{IsValidObject, IsValidEntry}, proofs.{ListLaws.{all_made, all_mapped, then_keeps, try_keeps, on_keeps}, CellLaws.{Held, held_cell, wrap_fits, reduction_held}, ColumnLaws.{IsColumn, column_answers}, TableLaws.{IsShaped, shaped, limited_keeps, with_columns_shaped, column_of_table, series_heading, frame_headings, one_column}, HeadingLaws.{different, finished_keeps}, RowLaws.{head_keeps, tail_keeps, dropna_keeps, duplicated_keeps, sort_values_keeps, sort_by_keeps, sorted_keeps, drop_keeps}, GroupLaws.{grouped_result_keeps}, LevelLaws.{rename_axis_keeps, set_index_keeps, renumbered_keeps, levels_reset_keeps, droplevel_keeps, swaplevel_keeps}, ReindexLaws.{reindex_keeps}, SectionLaws.{xs_keeps}}},
 }
 use Rattle.form_meaning.specs.declared.Method.TheVariants as method
@@ -18,9 +18,9 @@ use Rattle.form_meaning.specs.declared.TableMethod.TheVariants as table_method
 -- each column by itself
 each_keeps : (f : ColumnOf CellValue → Result (ColumnOf CellValue) FaultValue) (t : Table) → IsShaped t → ((rows : ℕ) (c : ColumnOf CellValue) → IsColumn rows c → IfOk (f c) (IsColumn rows)) → IfOk (each_column f t) IsValidEntry
 each_keeps f t s so =
-    then_keeps (λ columns. (length columns ≡ length t.columns) × All (IsColumn (length t.labels)) columns) IsValidEntry (try_all f t.columns) _
-    (try_keeps (IsColumn (length t.labels)) (IsColumn (length t.labels)) f (so (length t.labels)) t.columns s.columns)
-    (λ columns made. limited_keeps (with_columns t columns) (with_columns_shaped t s columns made.0 made.1))
+    then_keeps (λ columns. (length columns ≡ length _) × All (IsColumn (length t.labels)) columns) _ _ _
+    (try_keeps _ _ f (so (length t.labels)) t.columns s.columns)
+    (λ columns made. limited_keeps _ (with_columns_shaped t s columns made.0 made.1))
 
 -- summaries
 
@@ -41,26 +41,26 @@ summary_of_keeps Series op t s is =
     (λ x h. held_cell (summary_kind op c.kind) x h)
 summary_of_keeps Frame op t s is =
     let kind = kind_for op t.columns in
-    then_keeps (λ cells. (length cells ≡ length t.columns) × All (Held kind) cells) IsValidEntry (try_all (summary_as op kind) t.columns) _
+    then_keeps (λ cells. (length cells ≡ length t.columns) × All (Held kind) cells) _ _ _
     (try_keeps (λ c. All (Held c.kind) c.cells) (Held kind) (summary_as op kind) (grind (arith, kind_is, reduction_held, wrap_fits)) t.columns (grind arith))
-    (λ cells made. limited_keeps (across_columns t None kind cells) (series_shaped t kind cells (made.0 ∙ sym s.headed) made.1))
+    (λ cells made. limited_keeps _ (series_shaped t kind cells (made.0 ∙ sym s.headed) made.1))
 
 summary_keeps : (op : Summary) (t : Table) → IsShaped t → IfOk (summary op t) IsValidEntry
-summary_keeps op t s = search summary_of_keeps
+summary_keeps = search summary_of_keeps
 
 -- names
 
 renamed_series_keeps : (t : Table) (name : Option LabelValue) → IsShaped t → t.shape ≡ Series → IfOk (limited (renamed_series t name)) IsValidEntry
-renamed_series_keeps t name s is = grind (arith, limited_keeps, one_column, series_heading)
+renamed_series_keeps = grind (arith, limited_keeps, one_column, series_heading)
 
 renamed_frame_keeps : (t : Table) (pairs : List (LabelValue × Given)) → IsShaped t → t.shape ≡ Frame → IfOk (renamed_frame t pairs) IsValidEntry
-renamed_frame_keeps t pairs s is = by (list_all is_scalar_pair pairs)
+renamed_frame_keeps t pairs s is = by _
   where
     u : Table
     u = record t { headings = map (renamed_heading pairs) t.headings }
 
     some : All IsSome u.headings
-    some = all_made IsSome IsSome (renamed_heading pairs) (grind arith) t.headings (s.headings.labelled is)
+    some = all_made IsSome IsSome _ (grind arith) t.headings (s.headings.labelled is)
 
     fits : first_repeated u.headings ≡ None → IsShaped u
     fits none = search (some, length-map, frame_headings, different)
@@ -70,7 +70,7 @@ renamed_frame_keeps t pairs s is = by (list_all is_scalar_pair pairs)
     by false = tt
 
 heading_kept : (h : Option LabelValue) → IsSome h → Some (unwrap_or h (int (pos 0))) ≡ h
-heading_kept x s = grind arith
+heading_kept = grind arith
 
 headings_kept : (hs : List (Option LabelValue)) → All IsSome hs → map (λ h. Some (unwrap_or h (int (pos 0)))) hs ≡ hs
 headings_kept [] some = refl
@@ -85,19 +85,19 @@ as_frame_shaped Series t s is =
       levels = s.levels;
       headed = search length-map;
       columns = s.columns;
-      headings = frame_headings Frame t.columns_name (as_frame t).headings refl (search all_mapped) (λ i j d lt within. absurd (Prim.omega (arith, lt, within, size)));
+      headings = frame_headings _ _ _ refl (search all_mapped) (λ i j d lt within. absurd (Prim.omega (arith, lt, within, size)));
     }
 as_frame_shaped Frame t s is = grind (arith, length-map, headings_kept)
 
 as_frame_keeps : (t : Table) → IsShaped t → IfOk (limited (as_frame t)) IsValidEntry
-as_frame_keeps t s = grind (arith, limited_keeps, as_frame_shaped)
+as_frame_keeps = grind (arith, limited_keeps, as_frame_shaped)
 
 reset_index_keeps : (t : Table) (drop : Bool) → IsShaped t → IfOk (reset_index_result t drop) IsValidEntry
 reset_index_keeps t true s = renumbered_keeps t s
-reset_index_keeps t false s = levels_reset_keeps (as_frame t) (as_frame_shaped t.shape t s refl) refl
+reset_index_keeps t false s = levels_reset_keeps _ (as_frame_shaped _ t s refl) refl
 
 csv_keeps : (index : Bool) (t : Table) → IfOk (csv_answer index t) IsValidEntry
-csv_keeps index t = grind arith
+csv_keeps = grind arith
 
 ruleset answers = (
   on_keeps,
@@ -137,11 +137,11 @@ answer_keeps m (a ∷ b ∷ []) t s fit = search answers depth 9
 answer_keeps m gs t s fit = search answers
 
 pub on_bound_keeps : (b : Bound) (go : List Given → Result Entry FaultValue) → ((gs : List Given) → IfOk (go gs) IsValidEntry) → IfOk (on_bound b go) IsValidEntry
-on_bound_keeps x go h = grind arith
+on_bound_keeps = grind arith
 
 pub method_result_keeps : (v : Entry) (name : Text) (gs : List NamedGiven) → IsValidObject v → IfOk (method_result v name gs) IsValidEntry
-method_result_keeps x name gs h = grind (arith, on_bound_keeps, answer_keeps, shaped, named_fits)
+method_result_keeps = grind (arith, on_bound_keeps, answer_keeps, shaped, named_fits)
 
 -- a method of a value
 pub chain_result_keeps : (v : Entry) (chain : ChainValue) (gs : List NamedGiven) → IsValidObject v → IfOk (chain_result v chain gs) IsValidEntry
-chain_result_keeps v x gs h = grind (arith, method_result_keeps, grouped_result_keeps)
+chain_result_keeps v chain gs h = grind (arith, method_result_keeps, grouped_result_keeps)

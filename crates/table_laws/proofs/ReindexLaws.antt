@@ -1,12 +1,12 @@
 -- `reindex` makes valid tables of valid ones.
 use Rattle.{
-  std.{proofs.{Common.{◌≡◌, refl, ℕ, ◌<◌, List, length, map, arith}, lemmas.{Bool.{eqb-true}, List.{length-map, Elements.{All-nil, All-cons}}}}, specs.Prelude.{true, Option, Some, None, IsSome, IfSome, Result, IfOk, All}},
+  std.{proofs.{Common.{◌≡◌, refl, ℕ, ◌<◌, List, length, map, arith}, lemmas.{Bool.{eqb-true}, List.{length-map, Elements.{All-nil}}}}, specs.Prelude.{true, Option, Some, None, IsSome, IfSome, Result, IfOk, All}},
   cell_core.specs.declared.grid.Shape.TheVariants.{Frame},
   meaning.specs.Cell.{na_cell, LabelValue},
-  align_meaning.{specs.{Faults.{AlignRefusal, met_rows}, Targets.{reindexed}}, proofs.FoundLaws.{reindexed_count, reindexed_below}},
+  align_meaning.{specs.{Faults.{AlignRefusal}, Targets.{reindexed}}, proofs.FoundLaws.{reindexed_count, reindexed_below}},
   table_meaning.specs.{Table.{Table}, Value.{GivenList, cell, table, nothing, one, row, many, entries, no_given, more_given}},
   form_meaning.specs.{Binding.{each, is_scalar, count_of}, Finish.{first_repeated, column_labels}, Infix.{same_tuple}, Select.{labels_of}},
-  select_meaning.specs.{Keys.{whole_item, whole_items}, Select.{row_name}},
+  select_meaning.specs.{Keys.{whole_items}, Select.{row_name}},
   method_meaning.specs.Reindex.{rows_at, rows_reindexed, column_or_missing, columns_at, columns_reindexed, reindex_result},
   table_laws.{specs.Validity.{IsValidEntry}, proofs.{ListLaws.{both_true, all_made, then_keeps}, CellLaws.{na_held}, ColumnLaws.{IsColumn, spread_column}, TableLaws.{IsShaped, limited_keeps, column_of_table, frame_headings}, HeadingLaws.{different, finished_keeps}, InfixLaws.{columns_on}, SetLaws.{met_keeps}}},
 }
@@ -26,14 +26,12 @@ labels_count (more_given (entries pairs) rest) h = Prim.cc
 
 items_have : (n : ℕ) (items : GivenList) → IfOk (whole_items n items) (All (Has n))
 items_have n no_given = All-nil (Has n)
-items_have n (more_given g rest) =
-    then_keeps (Has n) (All (Has n)) (whole_item n g) _ (grind (arith, eqb-true, both_true, labels_count))
-    (λ key first. then_keeps (All (Has n)) (All (Has n)) (whole_items n rest) _ (items_have n rest) (λ keys others. All-cons (Has n) key keys first others))
+items_have n (more_given g rest) = grind (arith, then_keeps, eqb-true, both_true, labels_count, items_have n rest)
 
 rows_reindexed_keeps : (t : Table) (labels : List (List LabelValue)) → IsShaped t → All (Has (length t.level_names)) labels → IfOk (rows_reindexed t labels) IsValidEntry
 rows_reindexed_keeps t labels s has =
-    then_keeps (λ rows. length rows ≡ length labels) IsValidEntry (met_rows (reindexed same_tuple t.labels labels)) _
-    (met_keeps (λ rows. length rows ≡ length labels) (reindexed same_tuple t.labels labels) (reindexed_count same_tuple t.labels labels))
+    then_keeps (λ rows. length rows ≡ length labels) IsValidEntry _ _
+    (search (met_keeps, reindexed_count))
     (λ rows count. limited_keeps (rows_at na_cell t labels rows) (search (length-map, columns_on)))
 
 -- columns
@@ -42,7 +40,7 @@ column_or_missing_keeps t None s inside = search (spread_column, na_held)
 column_or_missing_keeps t (Some place) s inside = column_of_table t s place inside
 
 name_there : (tuple : List LabelValue) → Has 1 tuple → IsSome (row_name tuple)
-name_there x one_label = grind arith
+name_there = grind arith
 
 abbrev ArePlaces : Table → List (List LabelValue) → List (Option ℕ) → Type 0
 ArePlaces t labels places = (length places ≡ length labels) × All (λ place. IfSome place (λ k. k < length t.columns)) places
@@ -61,26 +59,26 @@ columns_at_shaped t labels places s is has found none =
     }
 
 both_hold : {A : Type 0} (P Q : A → Type 0) (r : Result A (AlignRefusal (List LabelValue))) → IfOk r P → IfOk r Q → IfOk r (λ a. P a × Q a)
-both_hold x x1 x2 p q = grind arith
+both_hold P Q = grind arith
 
 places_found : (t : Table) (labels : List (List LabelValue)) → IsShaped t → IfOk (reindexed same_tuple (column_labels t) labels) (ArePlaces t labels)
 places_found t labels s =
     let count : length (column_labels t) ≡ length t.columns = search length-map in
-    both_hold (λ places. length places ≡ length labels) (All (λ place. IfSome place (λ k. k < length t.columns))) (reindexed same_tuple (column_labels t) labels)
-    (reindexed_count same_tuple (column_labels t) labels)
+    both_hold (λ places. length places ≡ length labels) _ _
+    (reindexed_count same_tuple _ labels)
     (grind (arith, reindexed_below same_tuple (column_labels t) labels))
 
 columns_reindexed_keeps : (t : Table) (labels : List (List LabelValue)) → IsShaped t → t.shape ≡ Frame → All (Has 1) labels → IfOk (columns_reindexed t labels) IsValidEntry
 columns_reindexed_keeps t labels s is has =
-    then_keeps (ArePlaces t labels) IsValidEntry (met_rows (reindexed same_tuple (column_labels t) labels)) _
-    (met_keeps (ArePlaces t labels) (reindexed same_tuple (column_labels t) labels) (places_found t labels s))
-    (λ places found. finished_keeps (columns_at na_cell t (map row_name labels) places) (columns_at_shaped t labels places s is has found))
+    then_keeps (ArePlaces t labels) IsValidEntry _ _
+    (search (met_keeps, places_found))
+    (λ places found. finished_keeps _ (columns_at_shaped t labels places s is has found))
 
 -- of a list of labels
 pub reindex_keeps : (t : Table) (rows columns : Option GivenList) → IsShaped t → (IsSome columns → t.shape ≡ Frame) → IfOk (reindex_result t rows columns) IsValidEntry
 reindex_keeps t (Some items) None s is =
-    then_keeps (All (Has (length t.level_names))) IsValidEntry (whole_items (length t.level_names) items) _ (items_have (length t.level_names) items) (λ labels has. rows_reindexed_keeps t labels s has)
+    then_keeps _ _ _ _ (items_have _ items) (λ labels has. rows_reindexed_keeps t labels s has)
 reindex_keeps t None (Some items) s is =
-    then_keeps (All (Has 1)) IsValidEntry (whole_items 1 items) _ (items_have 1 items) (λ labels has. columns_reindexed_keeps t labels s (is refl) has)
+    then_keeps _ _ _ _ (items_have 1 items) (λ labels has. columns_reindexed_keeps t labels s (is refl) has)
 reindex_keeps t None None s is = tt
 reindex_keeps t (Some items) (Some others) s is = tt

@@ -1,11 +1,11 @@
 -- Selections give valid tables of valid ones, and cells that columns can hold.
 use Rattle.{
-  std.{proofs.{Common.{◌≡◌, ◌∙◌, refl, ap, sym, subst, ℕ, ◌<◌, ◌-◌, drop, List, [], ◌∷◌, length, map, arith}, lemmas.List.{length-map, length-drop}}, specs.{Prelude.{Bool, true, false, if◌then◌else◌, slice_index_or, Option, None, IsSome, Ok, Err, IfOk, All}, List.{list_all}}},
+  std.{proofs.{Common.{◌≡◌, ◌∙◌, refl, ap, sym, ℕ, ◌<◌, ◌-◌, drop, List, [], ◌∷◌, length, map, arith}, lemmas.List.{length-map, length-drop}}, specs.{Prelude.{Bool, true, false, if◌then◌else◌, slice_index_or, Option, None, IsSome, Ok, Err, IfOk, All}, List.{list_all}}},
   cell_core.specs.declared.{cell.Kind.{Kind}, grid.Shape.{Shape, TheVariants.{Series, Frame}}},
   meaning.specs.{Cell.{CellValue, na_cell, LabelValue}, Fault.{wrong_kind, then_value}},
   table_meaning.{specs.{Table.{ColumnOf, Table, column_at}, Valid.{AreHeadings}, Value.{Entry}}, proofs.KindLaws.{kind_is}},
   form_meaning.specs.{Finish.{limited, same_kind}, Select.{heading_at, length_result}},
-  select_meaning.specs.{Keys.{Reach}, Select.{column_rows, rows_taken, without_leading, cut, as_series, first_cell, kind_across, row_series, row_result, shown_as, picked_result}},
+  select_meaning.specs.{Keys.{Reach}, Select.{rows_taken, without_leading, cut, as_series, first_cell, kind_across, row_series, row_result, shown_as, picked_result}},
   table_laws.{specs.Validity.{IsHeldCell, IsValidEntry}, proofs.{ListLaws.{all_made, all_mapped, all_pass, at_or}, CellLaws.{Held, na_held, held_cell, wrap_fits}, ColumnLaws.{IsColumn}, TableLaws.{IsShaped, limited_keeps, column_of_table, series_heading, frame_headings}, HeadingLaws.{different, finished_keeps}}},
 }
 
@@ -20,7 +20,7 @@ pub record IsReach (t : Table) (reach : Reach) : Type 0 where
 
 -- a cell of a column
 pub cell_of_column : (rows : ℕ) (c : ColumnOf CellValue) (k : ℕ) → IsColumn rows c → Held c.kind (slice_index_or c.cells k na_cell)
-cell_of_column rows c k h = at_or (Held c.kind) c.cells k na_cell (na_held c.kind) h.held
+cell_of_column rows c k h = at_or (Held c.kind) _ k _ (na_held c.kind) h.held
 
 -- some rows of a table
 pub rows_shaped : (t : Table) (rows : List ℕ) → IsShaped t → All (λ row. row < length t.labels) rows → IsShaped (rows_taken t rows)
@@ -40,16 +40,14 @@ leading_shaped t count s left =
     record {
       some = omega (arith, levels, left);
       few = omega (arith, levels, s.few);
-      levels = all_made (λ tuple. length tuple ≡ length t.level_names) (λ tuple. length tuple ≡ length (drop count t.level_names)) (drop count) (λ tuple same. length-drop count tuple ∙ ap (λ n. n - count) same ∙ sym levels) t.labels s.levels;
+      levels = all_made (λ tuple. length tuple ≡ length _) (λ tuple. length tuple ≡ length (drop count t.level_names)) _ (λ tuple same. length-drop count _ ∙ ap (λ n. n - count) same ∙ sym levels) t.labels s.levels;
       headed = s.headed;
       columns = grind (arith, length-map);
       headings = s.headings;
     }
 
 cut_columns : (t : Table) (rows places : List ℕ) → IsShaped t → All (λ place. place < length t.columns) places → All (IsColumn (length (cut t rows places).labels)) (cut t rows places).columns
-cut_columns t rows places s below =
-    subst (λ n. All (IsColumn n) (map (column_rows rows) (map (column_at t.columns) places))) (sym (length-map rows (λ row. slice_index_or t.labels row [])))
-    (all_made (IsColumn (length t.labels)) (IsColumn (length rows)) (column_rows rows) (search (length-map, all_mapped, cell_of_column)) (map (column_at t.columns) places)
+cut_columns t rows places s below = rw (length-map rows (λ row. slice_index_or t.labels row [])) (all_made (IsColumn (length t.labels)) (IsColumn (length rows)) _ (search (length-map, all_mapped, cell_of_column)) (map (column_at t.columns) places)
     (search (all_made, column_of_table)))
 
 -- under headings that fit they are a table
@@ -80,18 +78,17 @@ series_keeps t count rows places s left inside below e =
 frame_keeps : (t : Table) (count : ℕ) (rows places : List ℕ) → IsShaped t → t.shape ≡ Frame → count < length t.level_names → All (λ row. row < length t.labels) rows → All (λ place. place < length t.columns) places
     → IfOk (shown_as false false (without_leading count (cut t rows places))) IsValidEntry
 frame_keeps t count rows places s is left inside below =
-    let some = all_made (λ place. place < length t.columns) IsSome (heading_at t) (λ place lt. s.headings.labelled is place None (omega (arith, lt, s.headed))) places below in
-    finished_keeps (without_leading count (cut t rows places))
-    (λ none. leading_shaped (cut t rows places) count (search (cut_shaped, frame_headings, different)) left)
+    let some = all_made (λ place. place < length t.columns) IsSome _ (λ place lt. s.headings.labelled is place None (omega (arith, lt, s.headed))) places below in
+    search (finished_keeps, leading_shaped, cut_shaped, frame_headings, different)
 
 -- a row across columns of one kind
 first_held : (count : ℕ) (kind : Kind) (c : ColumnOf CellValue) → IsColumn count c → same_kind c.kind kind ≡ true → Held kind (first_cell c)
-first_held count kind c h e = grind (arith, kind_is, cell_of_column)
+first_held = grind (arith, kind_is, cell_of_column)
 
 firsts_held : (count : ℕ) (kind : Kind) (cs : List (ColumnOf CellValue)) → All (IsColumn count) cs → list_all (λ c. same_kind c.kind kind) cs ≡ true → All (Held kind) (map first_cell cs)
 firsts_held count kind cs h e =
     let alike = all_pass (λ c. same_kind c.kind kind) cs e in
-    all_made (λ c. IsColumn count c × (same_kind c.kind kind ≡ true)) (Held kind) first_cell (λ c both. first_held count kind c both.0 both.1) cs (λ k d lt. (h k d lt, alike k d lt))
+    all_made (λ c. IsColumn count c × (same_kind c.kind kind ≡ true)) (Held kind) _ (λ c both. first_held _ _ c both.0 both.1) cs (λ k d lt. (h k d lt, alike k d lt))
 
 row_shaped : (t : Table) (kind : Kind) → length t.headings ≡ length t.columns → All (Held kind) (map first_cell t.columns) → IsShaped (row_series t kind)
 row_shaped t kind headed held = record {
@@ -104,7 +101,7 @@ row_shaped t kind headed held = record {
 }
 
 row_keeps : (t : Table) (count : ℕ) → length t.headings ≡ length t.columns → All (IsColumn count) t.columns → IfOk (row_result t) IsValidEntry
-row_keeps t count headed columns = by (list_all (λ c. same_kind c.kind (kind_across t.columns)) t.columns) refl
+row_keeps t count headed columns = by _ refl
   where
     by : (b : Bool) → list_all (λ c. same_kind c.kind (kind_across t.columns)) t.columns ≡ b
         → IfOk (then_value (if b then Ok (kind_across t.columns) else Err wrong_kind) (λ kind. limited (row_series t kind))) IsValidEntry
@@ -114,11 +111,11 @@ row_keeps t count headed columns = by (list_all (λ c. same_kind c.kind (kind_ac
 -- one cell
 cell_keeps : (count : ℕ) (cs : List (ColumnOf CellValue)) → All (IsColumn count) cs → IsHeldCell (first_cell (column_at cs 0))
 cell_keeps count [] h = refl
-cell_keeps count (c ∷ cs) h = held_cell c.kind (first_cell c) (cell_of_column count c 0 (h 0 c (omega arith)))
+cell_keeps count (c ∷ cs) h = held_cell c.kind _ (cell_of_column count c 0 (h 0 c (omega arith)))
 
 -- what a table gives of what is reached
 pub picked_keeps : (t : Table) (reach : Reach) → IsShaped t → IsReach t reach → IfOk (picked_result t reach) IsValidEntry
-picked_keeps t reach s r = by reach.rows.single reach.columns.single refl
+picked_keeps t reach s r = by _ _ refl
   where
     rows : List ℕ
     rows = reach.rows.rows
@@ -134,10 +131,10 @@ picked_keeps t reach s r = by reach.rows.single reach.columns.single refl
 
     by : (a b : Bool) → reach.columns.single ≡ b → IfOk (shown_as a b taken) IsValidEntry
     by true true e = cell_keeps count taken.columns (cut_columns t rows places s r.columns)
-    by false true e = series_keeps t reach.rows.dropped rows places s r.levels r.rows r.columns (r.one e)
+    by false true e = series_keeps t _ _ _ s r.levels r.rows r.columns (r.one e)
     by true false e = row_keeps taken count (search length-map) (cut_columns t rows places s r.columns)
-    by false false e = frame_keeps t reach.rows.dropped rows places s (r.frame e) r.levels r.rows r.columns
+    by false false e = frame_keeps t _ _ _ s (r.frame e) r.levels r.rows r.columns
 
 -- the number of rows
 pub length_result_keeps : (v : Entry) → IfOk (length_result v) IsValidEntry
-length_result_keeps x = grind (arith, wrap_fits)
+length_result_keeps = grind (arith, wrap_fits)

@@ -1,21 +1,21 @@
 -- Settings and removals leave valid tables.
 use Rattle.{
-  std.{proofs.{Common.{rules, ◌≡◌, ◌≢◌, ◌∙◌, ap, refl, sym, subst, ℕ, zero, suc, ◌+◌, ◌%◌, ◌/◌, ◌<◌, ◌≤◌, pos, nat_eq, List, [], ◌∷◌, length, map, arith}, lemmas.{Bool.Decides.{nat_tests}, List.{length-map, length-append, length-set, FromFn.{length-map-range_with_len}, Edits.{length-remove}, Elements.{All-cons, All-head, All-tail, All-append, All-set}, Quantifiers.{all_pairs_remove}}, Nat.{mul-le}}}, specs.{Prelude.{Bool, true, false, not, ◌&&◌, ◌||◌, nat_le, if◌then◌else◌, remove, slice_index, Option, Some, None, option_map, IsSome, IfSome, unwrap_or, Result, Ok, Err, IfOk, All, AllPairs}, List.{list_any}}},
+  std.{proofs.{Common.{rules, ◌≡◌, ◌≢◌, ◌∙◌, ap, refl, sym, subst, ℕ, zero, suc, ◌+◌, ◌%◌, ◌/◌, ◌<◌, ◌≤◌, pos, nat_eq, List, [], ◌∷◌, length, map, arith}, lemmas.{Bool.Decides.{nat_tests}, List.{length-map, length-append, length-set, FromFn.{length-map-range_with_len}, Edits.{length-remove}, Elements.{All-cons, All-head, All-tail, All-append, All-set}, Quantifiers.{all_pairs_remove}}, Nat.{mul-le}}}, specs.{Prelude.{Bool, true, false, ◌&&◌, ◌||◌, nat_le, if◌then◌else◌, remove, slice_index, Option, Some, None, option_map, IsSome, IfSome, unwrap_or, Result, Ok, Err, IfOk, All, AllPairs}, List.{list_any}}},
   cell_core.specs.declared.grid.Shape.TheVariants.{Series, Frame},
   meaning.specs.{Column.{gap_cell}, Cell.{CellValue, na_cell, LabelValue, Kind, int, holds}, Symbol.{Accessor}, Fault.{FaultValue, wrong_kind, bad_value, levels, no_columns, then_value}},
   table_meaning.specs.{Table.{ColumnOf, Table, column_at}, Change.{put_at, without_column, with_cell_at, with_cell, with_values_from, with_values}, Valid.{IsValid}, Value.{Entry, Given, GivenSub, row}},
-  form_meaning.specs.{Binding.{same_label}, Finish.{limited_table, default_labels, missing_column, column_labels}, Infix.{same_tuple, same_tuples}, Select.{place_of_label, column_place}, Set.{of_length}},
+  form_meaning.specs.{Finish.{limited_table, default_labels, missing_column, column_labels}, Infix.{same_tuple}, Select.{place_of_label, column_place}, Set.{of_length}},
   pick_meaning.specs.Keys.{Pick},
   align_meaning.{specs.{Faults.{AlignRefusal, met_rows}, Targets.{reindexed}}, proofs.FoundLaws.{reindexed_count}},
-  select_meaning.specs.{Select.{Way}, Set.{SetValue, same, listed, aligned, set_value, with_labelled, put_result, with_rows, has_none, list_set, aligned_rows, column_at_rows, aligned_column, series_set, column_set, Reached, or_added, rows_set, Target, target_of, target_by, lacks_columns, with_gap, with_row, values_for, kind_of_value, with_new_column, fit_from, filled_table, target_set, access_set, assign_result, removal_result}},
+  select_meaning.specs.{Select.{Way}, Set.{SetValue, same, listed, aligned, set_value, put_result, with_rows, list_set, aligned_rows, column_at_rows, aligned_column, series_set, column_set, Reached, or_added, rows_set, Target, target_of, lacks_columns, with_gap, with_row, values_for, kind_of_value, with_new_column, fit_from, filled_table, target_set, access_set, assign_result, removal_result}},
   table_laws.{specs.Validity.{IsValidObject, IsHeldCell, IsValidGiven}, proofs.{ListLaws.{both_true, all_made, all_mapped, at_or, then_keeps, All-put_at, length-put_at, All-remove, of_length_keeps}, CellLaws.{Held, na_held}, ColumnLaws.{IsColumn, list_keeps, spread_column}, TableLaws.{IsShaped, shaped, valid, limited_table_keeps, column_of_table, frame_headings, one_column}, HeadingLaws.{put_heading, column_place_found}}},
 }
 
 -- a column in the place of its label, or last
 put_keeps : (t : Table) (l : LabelValue) (c : ColumnOf CellValue) → IsShaped t → t.shape ≡ Frame → IsColumn (length t.labels) c → IfOk (put_result t l c) IsValid
 put_keeps t l c s is h =
-    let place = unwrap_or (place_of_label t.headings l) (length t.headings) in
-    limited_table_keeps (with_labelled t l c) record {
+    let place = unwrap_or (place_of_label t.headings l) (length _) in
+    limited_table_keeps _ record {
       some = s.some;
       few = s.few;
       levels = s.levels;
@@ -25,10 +25,10 @@ put_keeps t l c s is h =
     }
 
 pub length_default : (count : ℕ) → length (default_labels count) ≡ count
-length_default count = search length-map-range_with_len
+length_default = search length-map-range_with_len
 
 pub default_levels : (count : ℕ) → All (λ tuple. length tuple ≡ 1) (default_labels count)
-default_levels count = search all_mapped
+default_levels = search all_mapped
 
 -- rows for a frame that has none
 record AreRows (labels : List (List LabelValue)) (level_names : List (Option LabelValue)) : Type 0 where
@@ -40,21 +40,21 @@ rows_shaped : (t : Table) (labels : List (List LabelValue)) (level_names : List 
 rows_shaped t labels level_names s r = search (length-map, all_mapped, spread_column, na_held)
 
 list_set_keeps : (t : Table) (l : LabelValue) (c : ColumnOf CellValue) → IsShaped t → t.shape ≡ Frame → IsColumn (length c.cells) c → IfOk (list_set t l c) IsValid
-list_set_keeps t l c s is h = by (has_none t.labels && not (has_none c.cells))
+list_set_keeps t l c s is h = by _
   where
     by : (b : Bool) → IfOk (if b then put_result (with_rows t (default_labels (length c.cells)) (None ∷ [])) l c else of_length (length t.labels) (length c.cells) (put_result t l c)) IsValid
     by true =
-        put_keeps (with_rows t (default_labels (length c.cells)) (None ∷ [])) l c
-        (rows_shaped t (default_labels (length c.cells)) (None ∷ []) s record { some = Prim.omega arith; few = Prim.omega arith; levels = default_levels (length c.cells) })
-        is (subst (λ n. IsColumn n c) (sym (length_default (length c.cells))) h)
+        put_keeps _ l c
+        (rows_shaped t _ _ s record { some = Prim.omega arith; few = Prim.omega arith; levels = default_levels (length c.cells) })
+        is (subst (λ n. IsColumn n c) (sym (length_default _)) h)
     by false = grind (arith, of_length_keeps, put_keeps)
 
 -- the column of a Series at the rows that labels take
 pub met_keeps : {A : Type 0} (P : A → Type 0) (r : Result A (AlignRefusal (List LabelValue))) → IfOk r P → IfOk (met_rows r) P
-met_keeps x x1 h = grind arith
+met_keeps P = grind arith
 
 aligned_count : (level_count : ℕ) (labels : List (List LabelValue)) (u : Table) → IfOk (aligned_rows level_count labels u) (λ rows. length rows ≡ length labels)
-aligned_count level_count labels u = by (same_tuples labels u.labels || nat_eq level_count (length u.level_names))
+aligned_count level_count labels u = by _
   where
     by : (b : Bool) → IfOk (if b then met_rows (reindexed same_tuple u.labels labels) else Err (bad_value levels)) (λ rows. length rows ≡ length labels)
     by true = search (met_keeps, reindexed_count)
@@ -62,15 +62,15 @@ aligned_count level_count labels u = by (same_tuples labels u.labels || nat_eq l
 
 gap_held : (kind : Kind) (cells : List CellValue) (row : Option ℕ) → All (Held kind) cells → Held kind (gap_cell na_cell cells row)
 gap_held kind cells None held = na_held kind
-gap_held kind cells (Some place) held = at_or (Held kind) cells place na_cell (na_held kind) held
+gap_held kind cells (Some place) held = at_or (Held kind) _ _ _ (na_held kind) held
 
 aligned_keeps : (level_count : ℕ) (labels : List (List LabelValue)) (u : Table) → All (Held (column_at u.columns 0).kind) (column_at u.columns 0).cells → IfOk (aligned_column level_count labels u) (IsColumn (length labels))
 aligned_keeps level_count labels u held =
-    then_keeps (λ rows. length rows ≡ length labels) (IsColumn (length labels)) (aligned_rows level_count labels u) _ (aligned_count level_count labels u)
+    then_keeps (λ rows. length rows ≡ length labels) _ _ _ (aligned_count level_count labels u)
     (λ rows count. subst (λ n. IsColumn n (column_at_rows (column_at u.columns 0) rows)) count (search (length-map, all_mapped, gap_held)))
 
 series_set_keeps : (t : Table) (l : LabelValue) (u : Table) → IsShaped t → t.shape ≡ Frame → IsShaped u → u.shape ≡ Series → IfOk (series_set t l u) IsValid
-series_set_keeps t l u s is r is' = by (has_none t.labels && not (has_none u.labels))
+series_set_keeps t l u s is r is' = by _
   where
     c : ColumnOf CellValue
     c = column_at u.columns 0
@@ -81,7 +81,7 @@ series_set_keeps t l u s is r is' = by (has_none t.labels && not (has_none u.lab
     by : (b : Bool) → IfOk (if b then put_result (with_rows t u.labels u.level_names) l c else then_value (aligned_column (length t.level_names) t.labels u) (put_result t l)) IsValid
     by true = put_keeps (with_rows t u.labels u.level_names) l c (search rows_shaped) is fits
     by false =
-        then_keeps (IsColumn (length t.labels)) IsValid (aligned_column (length t.level_names) t.labels u) (put_result t l) (aligned_keeps (length t.level_names) t.labels u fits.held)
+        then_keeps _ _ _ _ (aligned_keeps (length t.level_names) t.labels u fits.held)
         (λ d h. put_keeps t l d s is h)
 
 -- the value of a setting is valid
@@ -91,10 +91,10 @@ IsValidValue (listed cells) = Unit {0}
 IsValidValue (aligned u) = IsValid u × (u.shape ≡ Series)
 
 set_value_valid : (g : Given) → IsValidGiven g → IfOk (set_value g) IsValidValue
-set_value_valid x h = grind arith
+set_value_valid = grind arith
 
 own_column : (cells : List CellValue) (r : Result (ColumnOf CellValue) FaultValue) → IfOk r (IsColumn (length cells)) → IfOk r (λ c. IsColumn (length c.cells) c)
-own_column cells x h = grind arith
+own_column = grind arith
 
 column_set_keeps : (t : Table) (l : LabelValue) (value : SetValue) → IsShaped t → t.shape ≡ Frame → IsValidValue value → IfOk (column_set t l value) IsValid
 column_set_keeps t l (same c) s is h = search (put_keeps, spread_column)
@@ -107,7 +107,7 @@ kind_kept [] place r x q = refl
 kind_kept (c ∷ cs) zero r x zero = refl
 kind_kept (c ∷ cs) zero r x (suc q) = refl
 kind_kept (c ∷ cs) (suc place) r x zero = refl
-kind_kept (c ∷ cs) (suc place) r x (suc q) = kind_kept cs place r x q
+kind_kept (c ∷ cs) (suc place) r x (suc q) = kind_kept cs _ r x q
 
 -- cells that fit their columns leave columns
 module _ (t : Table) (rows places : List ℕ) where
@@ -119,21 +119,21 @@ module _ (t : Table) (rows places : List ℕ) where
   cell_kept count (c ∷ cs) zero r x all fits =
       let old = All-head (IsColumn count) c cs all in
       All-cons (IsColumn count) (with_cell_at c r x) cs record { filled = search length-set; held = All-set (Held c.kind) c.cells r x fits old.held } (All-tail (IsColumn count) c cs all)
-  cell_kept count (c ∷ cs) (suc place) r x all fits = All-cons (IsColumn count) c (with_cell cs place r x) (All-head (IsColumn count) c cs all) (cell_kept count cs place r x (All-tail (IsColumn count) c cs all) fits)
+  cell_kept count (c ∷ cs) (suc place) r x all fits = All-cons (IsColumn count) c (with_cell cs place r x) (All-head (IsColumn count) c cs all) (cell_kept _ cs _ r x (All-tail (IsColumn count) c cs all) fits)
 
   values_kept : (count k : ℕ) (cs : List (ColumnOf CellValue)) (values : List CellValue) → All (IsColumn count) cs → AreKinds cs → fit_from k t places values ≡ true → All (IsColumn count) (with_values_from k cs rows places values)
   values_kept count k cs [] all kinds fits = all
   values_kept count k cs (x ∷ xs) all kinds fits =
       let place = slice_index places (k % length places) in
       let r = slice_index rows (k / length places) in
-      let both = both_true (holds (column_at t.columns place).kind x) (fit_from (suc k) t places xs) fits in
-      values_kept count (suc k) (with_cell cs place r x) xs
-      (cell_kept count cs place r x all (ap (λ kind. holds kind x) (kinds place) ∙ both.0))
+      let both = both_true _ _ fits in
+      values_kept count (suc k) _ xs
+      (cell_kept _ cs _ r x all (ap (λ kind. holds kind x) (kinds place) ∙ both.0))
       (λ q. kind_kept cs place r x q ∙ kinds q) both.1
 
   values_count : (k : ℕ) (cs : List (ColumnOf CellValue)) (values : List CellValue) → length (with_values_from k cs rows places values) ≡ length cs
   values_count k cs [] = refl
-  values_count k cs (x ∷ xs) = values_count (suc k) (with_cell cs (slice_index places (k % length places)) (slice_index rows (k / length places)) x) xs ∙ length-set cs _ _
+  values_count k cs (x ∷ xs) = values_count (suc k) _ xs ∙ length-set cs _ _
 
   filled_keeps : (values : List CellValue) → IsShaped t → IfOk (filled_table t rows places values) IsValid
   filled_keeps values s = by (fit_from 0 t places values) refl
@@ -162,10 +162,10 @@ row_shaped t (Some l) s is = record {
 }
 
 with_row_shape : (t : Table) (added : Option LabelValue) → (with_row t added).shape ≡ t.shape
-with_row_shape t x = grind arith
+with_row_shape = grind arith
 
 with_row_headings : (t : Table) (added : Option LabelValue) → (with_row t added).headings ≡ t.headings
-with_row_headings t x = grind arith
+with_row_headings = grind arith
 
 -- one more column, under a label that no column has
 abbrev pub IsNew : Table → Option LabelValue → Type 0
@@ -185,7 +185,7 @@ new_column_shaped t (Some l) value s h =
       levels = s.levels;
       headed = search length-put_at;
       columns = All-put_at (IsColumn (length t.labels)) t.columns (length t.columns) c s.columns fits;
-      headings = frame_headings t.shape t.columns_name (put_at t.headings (length t.columns) (Some l)) h.0 (All-put_at IsSome t.headings (length t.columns) (Some l) (s.headings.labelled h.0) refl) apart;
+      headings = frame_headings _ _ _ h.0 (All-put_at IsSome t.headings (length t.columns) (Some l) (s.headings.labelled h.0) refl) apart;
     })
   where
     anything : {A : Type 0} (r : Result A FaultValue) → IfOk r (λ a. Unit {0})
@@ -220,7 +220,7 @@ target_keeps by t value target s adds = go (lacks_columns t target)
 
 -- a label that a key adds is new
 step_new : (b x : Bool) (o : Option ℕ) → (b && true) || x ≡ false → (x ≡ false → o ≡ None) → (if b then Some 0 else option_map suc o) ≡ None
-step_new x1 x o e f = grind arith
+step_new = grind arith
 
 abbrev no_label : Option LabelValue
 no_label = None
@@ -230,26 +230,26 @@ none_there o h = Prim.cc
 
 not_there : (hs : List (Option LabelValue)) (l : LabelValue) → All IsSome hs → list_any (same_tuple (l ∷ [])) (map (λ h. unwrap_or h (int (pos 0)) ∷ []) hs) ≡ false → place_of_label hs l ≡ None
 not_there [] l some e = refl
-not_there (None ∷ hs) l some e = none_there (place_of_label (None ∷ hs) l) (All-head IsSome None hs some)
+not_there (None ∷ hs) l some e = none_there _ (All-head IsSome None hs some)
 not_there (Some a ∷ hs) l some e =
-    step_new (same_label l a) (list_any (same_tuple (l ∷ [])) (map (λ h. unwrap_or h (int (pos 0)) ∷ []) hs)) (place_of_label hs l) e (λ rest. not_there hs l (All-tail IsSome (Some a) hs some) rest)
+    step_new _ _ _ e (λ rest. not_there hs l (All-tail IsSome (Some a) hs some) rest)
 
 columns_new : (t : Table) (added : Option LabelValue) (pick : Result Pick FaultValue) → IsShaped t → t.shape ≡ Frame → IfOk (or_added added (column_labels t) pick) (λ r. IsNew t r.added)
-columns_new t x pick s is = grind (arith, not_there)
+columns_new = grind (arith, not_there)
 
 one_level : (n : ℕ) → nat_eq n 1 ≡ true → n ≡ 1
 one_level n e = Prim.grind (arith, nat_tests)
 
 rows_one : (by : Accessor) (t : Table) (k : GivenSub) → IfOk (rows_set by t k) (λ r. IfSome r.added (λ l. length t.level_names ≡ 1))
-rows_one by t k = search (rules, nat_eq, one_level)
+rows_one = search (rules, nat_eq, one_level)
 
 both_added : (t : Table) (rows columns : Result Reached FaultValue) → IfOk rows (λ r. IfSome r.added (λ l. length t.level_names ≡ 1)) → IfOk columns (λ r. IsNew t r.added) → IfOk (target_of rows columns) (AddsTo t)
-both_added t x columns single new = grind arith
+both_added = grind arith
 
 access_set_keeps : (by : Accessor) (t : Table) (first : GivenSub) (second : Option GivenSub) (g : Given) → IsShaped t → IsValidGiven g → IfOk (access_set by t first second g) IsValid
 access_set_keeps by t first second g s h =
     then_keeps IsValidValue IsValid (set_value g) _ (set_value_valid g h)
-    (λ value v. then_keeps (AddsTo t) IsValid (target_by t.shape by t first second) (target_set by t value) (grind (arith, both_added, rows_one, then_keeps, columns_new))
+    (λ value v. then_keeps (AddsTo t) IsValid _ _ (grind (arith, both_added, rows_one, then_keeps, columns_new))
     (λ target adds. target_keeps by t value target s adds))
 
 -- a setting
@@ -260,16 +260,16 @@ fewer : (a b m : ℕ) → a ≤ b → nat_le b m ≡ true → nat_le a m ≡ tru
 fewer a b m le e = Prim.grind (arith, nat_tests)
 
 three : (a b c b' c' : Bool) → (b ≡ true → b' ≡ true) → (c ≡ true → c' ≡ true) → a && b && c ≡ true → a && b' && c' ≡ true
-three a b c b' c' f g e = grind (arith, both_true)
+three = grind (arith, both_true)
 
 label_removal_keeps : (t : Table) (l : LabelValue) → IsValid t → t.shape ≡ Frame → IfOk (then_value (column_place t l) (λ place. Ok (without_column t place))) IsValid
 label_removal_keeps t l v is =
-    then_keeps (λ place. place < length t.headings) IsValid (column_place t l) _ (column_place_found t l)
+    then_keeps (λ place. place < length _) _ _ _ (column_place_found t l)
     (λ place lt.
     let s = shaped t v in
     let columns : length (remove t.columns place) + 1 ≡ length t.columns = grind (arith, length-remove) in
     let headings : length (remove t.headings place) + 1 ≡ length t.headings = search length-remove in
-    valid (without_column t place) record {
+    valid _ record {
       some = s.some;
       few = s.few;
       levels = s.levels;
@@ -280,4 +280,4 @@ label_removal_keeps t l v is =
 
 -- a removal
 pub removal_result_keeps : (v k : Entry) → IsValidObject v → IfOk (removal_result v k) IsValid
-removal_result_keeps x k h = grind (arith, label_removal_keeps)
+removal_result_keeps = grind (arith, label_removal_keeps)

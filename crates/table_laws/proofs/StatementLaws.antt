@@ -7,7 +7,7 @@ use Rattle.{
   form_meaning.specs.{declared.Function.TheVariants.{ReadCsv}, Signature.{function_named}},
   select_meaning.specs.Select.{plain, through},
   method_meaning.specs.{Calls.{has_method}, Concat.{tables_of}, Functions.{function_result}, Readers.{reads_file, file_name_of, read_result}},
-  script_meaning.specs.{State.{State, without_name}, Reading.{Files, Reading, Reads, at_once, then_read, of_bytes, of_path, of_file}, Expression.{named_by, value_of_name, is_minus, where_named, made, value_of, stepped, sub_of, second_of, brackets_of, given_of, part_of, parts_of, pairs_of, named_of, target_of}, Statement.{Answer, then_answer, with_value, set_answer, assigned, statement_result}},
+  script_meaning.specs.{State.{State, without_name}, Reading.{Files, Reading, Reads, at_once, then_read, of_bytes, of_path, of_file}, Expression.{value_of_name, is_minus, where_named, made, value_of, stepped, sub_of, second_of, brackets_of, given_of, part_of, parts_of, pairs_of, named_of, target_of}, Statement.{Answer, then_answer, with_value, set_answer, statement_result}},
   table_laws.{specs.Validity.{IsValidObject, IsValidEntry, IsValidGiven, IsValidArgument, AreValidArguments, IsValidState, LeavesValid, HasHeldLiterals, IsHeldArgument, IsHeldForm}, proofs.{InfixLaws.{infix_result_keeps, sign_result_keeps}, SelectLaws.{length_result_keeps}, ReachLaws.{select_result_keeps}, SetLaws.{assign_result_keeps, removal_result_keeps}, MethodLaws.{chain_result_keeps}, CsvLaws.{read_result_keeps}, ArgumentLaws.{more_valid}, CallLaws.{call_result_keeps, function_result_keeps}}},
 }
 use Rattle.language_meaning.specs.Tree as tree
@@ -17,17 +17,17 @@ abbrev Any : {A : Type 0} → A → Type 0
 Any a = Unit {0}
 
 object : (v : Entry) → IsValidEntry v → IsValidObject v
-object x h = grind arith
+object = grind arith
 
 -- a value goes on, and a fault stops
 read_keeps : {A B : Type 0} (P : A → Type 0) (Q : B → Type 0) (r : Reads A) (go : A → Reads B) → IfOk r.answer P → ((a : A) → P a → IfOk (go a).answer Q) → IfOk (then_read r go).answer Q
-read_keeps P Q r go h so = grind arith
+read_keeps P Q = grind arith
 
 after_any : {A B : Type 0} (Q : B → Type 0) (r : Reads A) (go : A → Reads B) → ((a : A) → IfOk (go a).answer Q) → IfOk (then_read r go).answer Q
-after_any Q r go so = grind (arith, read_keeps)
+after_any Q = grind (arith, read_keeps)
 
 named_keeps : (known : Bool) (n : Text) (rest : Reads Entry) → IfOk rest.answer IsValidEntry → IfOk (where_named known n rest).answer IsValidEntry
-named_keeps x n rest h = grind arith
+named_keeps = grind arith
 
 -- calls of the functions of `pd`
 
@@ -36,7 +36,7 @@ bytes_keep name None gs = tt
 bytes_keep name (Some bytes) gs = read_result_keeps bytes gs
 
 path_keeps : (held : Contents) (name : Text) (path : Option Text) (gs : List NamedGiven) → IfOk (of_path held name path (λ bytes. read_result bytes gs)).answer IsValidEntry
-path_keeps held name x gs = grind (arith, bytes_keep)
+path_keeps = grind (arith, bytes_keep)
 
 made_keeps : (files : Files) (f : Text) (gs : List NamedGiven) → AreValidArguments gs → IfOk (made files f gs).answer IsValidEntry
 made_keeps files f gs h = by (reads_file (function_named f))
@@ -48,7 +48,7 @@ made_keeps files f gs h = by (reads_file (function_named f))
 -- expressions
 
 name_keeps : (n : Text) (o : Option Entry) → IfSome o IsValidEntry → IfOk (value_of_name n o) IsValidEntry
-name_keeps n x h = grind arith
+name_keeps = grind arith
 
 -- the value of an expression: a table is valid, and a column can hold a scalar where it can hold the literals
 record IsValueOf (x : Expr) (v : Entry) : Type 0 where
@@ -59,7 +59,7 @@ abbrev Gives : Expr → Reads Entry → Type 0
 Gives x r = IfOk r.answer (IsValueOf x)
 
 gives_valid : (x : Expr) (r : Reads Entry) → IfOk r.answer IsValidEntry → Gives x r
-gives_valid x r h = grind (arith, object)
+gives_valid = grind (arith, object)
 
 module _ (files : Files) (s : State) (valid : IsValidState s) where
   mutual
@@ -136,7 +136,7 @@ value_of_keeps files s valid x h = by (value_of files s x).answer (value_valid f
     by (Err fault) k = tt
 
 given_keeps : (files : Files) (s : State) → IsValidState s → (a : Arg) → IsHeldArgument a → IfOk (given_of files s a).answer IsValidGiven
-given_keeps files s valid (tree.expr x) h = read_keeps IsValidEntry IsValidGiven (value_of files s x) _ (value_of_keeps files s valid x h) (λ v k. k)
+given_keeps files s valid (tree.expr x) h = read_keeps _ _ (value_of files s x) _ (value_of_keeps _ s valid x h) (λ v k. k)
 given_keeps files s valid (tree.many parts) h = search after_any
 given_keeps files s valid (tree.row parts) h = search after_any
 given_keeps files s valid (tree.table pairs) h = search after_any
@@ -145,31 +145,31 @@ given_keeps files s valid tree.nothing h = tt
 -- states
 
 chosen : (b : Bool) (o p : Option Entry) → IfSome o IsValidEntry → IfSome p IsValidEntry → IfSome (if b then o else p) IsValidEntry
-chosen x o p h k = grind arith
+chosen = grind arith
 
 bound_valid : (s : State) (x : Text) (o : Option Text) (v : Entry) → IsValidState s → IsValidEntry v → IsValidState (with_value s x o v)
-bound_valid s x x1 v valid h = grind (arith, chosen)
+bound_valid = grind (arith, chosen)
 
 set_valid : (s : State) (o : Option Text) (r : Result Table FaultValue) → IsValidState s → IfOk r IsValid → LeavesValid (set_answer s o r)
-set_valid s o x valid h = grind (arith, chosen)
+set_valid = grind (arith, chosen)
 
 pub without_valid : (s : State) (x : Text) → IsValidState s → IsValidState (without_name s x)
-without_valid s x valid = search chosen
+without_valid = search chosen
 
 -- statements
 
 answer_keeps : {A : Type 0} (P : A → Type 0) (r : Reads A) (go : A → Reading Answer) → IfOk r.answer P → ((a : A) → P a → LeavesValid (go a).answer) → LeavesValid (then_answer r go).answer
-answer_keeps P r go h so = grind arith
+answer_keeps P = grind arith
 
 -- The names stand for valid tables after a statement if they do before it.
 pub statement_keeps : (files : Files) (s : State) (f : Form) → IsValidState s → IsHeldForm f → LeavesValid (statement_result files s f).answer
 statement_keeps files s tree.import_pandas valid h = valid
-statement_keeps files s (tree.bind x e) valid h = answer_keeps IsValidEntry (value_of files s e) _ (value_of_keeps files s valid e h) (λ v k. bound_valid s x (named_by e) v valid k)
+statement_keeps files s (tree.bind x e) valid h = answer_keeps _ (value_of files s e) _ (value_of_keeps files s valid e h) (λ v k. bound_valid s x _ v valid k)
 statement_keeps files s (tree.put x step a) valid h =
-    answer_keeps IsValidGiven (given_of files s a) _ (given_keeps files s valid a h.1)
+    answer_keeps _ (given_of files s a) _ (given_keeps files s valid a h.1)
     (λ g k. answer_keeps IsValidEntry (value_of files s x) _ (value_of_keeps files s valid x h.0)
     (λ v l. answer_keeps Any (target_of files s step) _ (grind arith)
-    (λ target _. set_valid s (named_by x) (assigned v target g) valid (search (assign_result_keeps, object)))))
+    (λ target _. set_valid s _ _ valid (search (assign_result_keeps, object)))))
 statement_keeps files s (tree.drop_name n) valid h = grind (arith, answer_keeps, without_valid)
 statement_keeps files s (tree.drop_column n x) valid h = grind (arith, answer_keeps, name_keeps, set_valid, removal_result_keeps, object)
 statement_keeps files s (tree.print x end) valid h = grind (arith, answer_keeps)

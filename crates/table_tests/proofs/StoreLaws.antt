@@ -7,10 +7,10 @@ use Rattle.{
 }
 
 nat_eq_self : (n : ℕ) → nat_eq n n ≡ true
-nat_eq_self n = grind (arith, nat_tests)
+nat_eq_self = grind (arith, nat_tests)
 
 nat_same : (a b : ℕ) → nat_eq a b ≡ true → a ≡ b
-nat_same a b e = grind (arith, nat_tests)
+nat_same = grind (arith, nat_tests)
 
 nat_other : (a b : ℕ) → a ≢ b → nat_eq a b ≡ false
 nat_other a b apart = go (nat_eq a b) refl
@@ -33,14 +33,13 @@ module _ (none one two : Tables) (a b : ℕ) (s t : NumberedTable) (fresh : one 
   second_there = ap (λ (f : Tables). f b) second ∙ ap (λ c. if c then Some t else one b) (nat_eq_self b)
 
   pub moved_there : (three : Tables) → three ≡ with_moved two a 0 None b → IsSome (three a)
-  moved_there three moved =
-      let u = with_column (table_at two a) 0 None (column_at (table_at two b).columns 0) in
-      ap is_some (ap (λ (f : Tables). f a) moved ∙ ap (λ c. if c then Some u else (if nat_eq b a then None else two a)) (nat_eq_self a))
+  moved_there _ moved =
+      ap is_some (ap (λ (f : Tables). f a) moved ∙ ap (λ c. if c then Some (with_column (table_at two a) 0 None (column_at (table_at two b).columns 0)) else (if nat_eq b a then None else two a)) (nat_eq_self a))
 
 -- the headings of a Series stay as they are
 pub same_headings : (o : Option NumberedTable) (t : NumberedTable) → o ≡ Some t → t.shape ≡ Series → t.columns_name ≡ None → t.headings ≡ None ∷ [] → AreHeadings (table_or o).shape (table_or o).columns_name (put_at (table_or o).headings 0 None)
 same_headings o t is series name headings =
-    let other : t.shape ≡ Frame → ⊥ = λ e. let wrong : Series ≡ Frame = sym series ∙ e in cc in
+    let other : t.shape ≡ Frame → ⊥ = λ e. cc in
     subst (λ (p : Option NumberedTable). AreHeadings (table_or p).shape (table_or p).columns_name (put_at (table_or p).headings 0 None)) (sym is)
     (record {
       single = λ e. ap (λ l. length (put_at l 0 None)) headings;

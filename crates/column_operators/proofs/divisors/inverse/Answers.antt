@@ -1,11 +1,8 @@
 use Rattle.{
-  std.proofs.{lemmas.Nat.{pow-add, div_below, one_shl, pow_pos}, Common.{◌≡◌, ◌+◌, ◌*◌, ◌%◌, ◌^◌, arith}},
+  std.proofs.{lemmas.Nat.{pow-add, div_below, one_shl}, Common.{◌≡◌, ◌+◌, ◌*◌, ◌%◌, ◌^◌, arith}},
   column_operators.proofs.QuotientLaws.{inverts},
 }
 use Rattle.column_operators.proofs.divisors.inverse.Goals as goal
-
-pub overflow_sub-result : goal.overflow_sub-result
-overflow_sub-result c = omega (arith, one_shl (63 + c.args.shift) 128 (omega (arith, c.requires.narrow)), pow_pos (63 + c.args.shift))
 
 pub overflow_cast-result : goal.overflow_cast-result
 overflow_cast-result c =

@@ -5,4 +5,4 @@ use Rattle.{
 use Rattle.column_operators.proofs.kernels.pure_binary.Goals as goal
 
 pub returns-clause-rows : goal.returns-clause-rows
-returns-clause-rows c = column_rows c.args.dict.now c.args.dict.now (operator_of c.args.op) c.args.a c.args.b (length c.args.a.cells) c.on_columns.result refl (sym c.requires.same) (search rules)
+returns-clause-rows c = column_rows c.args.dict.now c.args.dict.now (operator_of c.args.op) c.args.a c.args.b (length c.args.a.cells) c.pure_on_columns.result refl (sym c.requires.same) (search rules)

@@ -5,4 +5,4 @@ use Rattle.{
 use Rattle.column_operators.proofs.kernels.pure_with_scalar.Goals as goal
 
 pub returns-clause-rows : goal.returns-clause-rows
-returns-clause-rows c = scalar_rows c.args.dict.now c.args.dict.now (operator_of c.args.op) c.args.a c.args.scalar c.args.scalar_left (length c.args.a.cells) c.beside.result refl (search rules)
+returns-clause-rows c = scalar_rows c.args.dict.now c.args.dict.now (operator_of c.args.op) c.args.a c.args.scalar c.args.scalar_left (length c.args.a.cells) c.pure_beside.result refl (search rules)

@@ -11,6 +11,5 @@ use Rattle.column_operators.proofs.kernels.quotients_by.Goals as goal
 pub returns-clause-answer : goal.returns-clause-answer
 returns-clause-answer g c = λ texts.
     let count = g.A.Source.count_of c.args.a in
-    let row = g.A.Source.row_of c.args.a in
-    pair_answer texts task.Quotient task.Quotient refl Int64 Int64 Int64 number_cell number_cell number_cell (division_row floor_quotient) refl (quotient_law texts) count count row (λ k. Some (pos c.args.divisor)) refl c.operate_sides.result
+    pair_answer texts task.Quotient task.Quotient refl Int64 Int64 Int64 number_cell number_cell number_cell (division_row floor_quotient) refl (quotient_law texts) count count (g.A.Source.row_of c.args.a) (λ k. Some (pos c.args.divisor)) refl c.operate_sides.result
     (grind arith)

@@ -11,6 +11,5 @@ returns c =
     let a = c.args.a.now in
     let values = c.args.values.now.keys in
     let texts = c.as_slice-2.result.now in
-    let among = c.as_slice-2.ensures.value ∙ c.in_ok-texts.ensures ∙ ap texts_among c.as_slice.ensures.keys in
     if_same_rows c.map_lane-2.result a.count (lane_row a.values.now a.present.now a.start a.stride a.back) (λ x. Some (listed_value (λ p q. id.eq-value.it p q) c.contains.result texts x)) (λ x. Some (list_any (same_number (text_cell x)) values))
-    (text_listed values c.contains.result texts c.contains.ensures among) c.map_lane-2.ensures
+    (text_listed values c.contains.result texts c.contains.ensures (c.as_slice-2.ensures.value ∙ c.in_ok-texts.ensures ∙ ap texts_among c.as_slice.ensures.keys)) c.map_lane-2.ensures

@@ -7,13 +7,13 @@ use Rattle.{
 use Rattle.concat_forms.proofs.below.frames_below.Goals as goal
 
 pub returns-then-not-have_same_levels : goal.returns-then-not-have_same_levels
-returns-then-not-have_same_levels c = grind (arith, levels_apart)
+returns-then-not-have_same_levels = grind (arith, levels_apart)
 
 pub table_below-requires-clause-headings : goal.table_below-requires-clause-headings
 table_below-requires-clause-headings c = rw (c.deref.ensures.value ∙ c.in_ok-headings.ensures) (frame_headings _ _ _ c.requires.shape c.requires.known)
 
 pub table_below-requires-clause-given : goal.table_below-requires-clause-given
-table_below-requires-clause-given c = grind (arith, united_given)
+table_below-requires-clause-given = grind (arith, united_given)
 
 pub returns : goal.returns
 returns c =
@@ -22,5 +22,5 @@ returns c =
     let T = parts_value dict parts in
     let C = asked_value dict c.args.asked.now in
     let headed = ap (headings_value dict) (c.deref.ensures.value ∙ c.in_ok-headings.ensures) ∙ headings_united _ _ _ c.len.ensures.distinct c.requires.known in
-    let is = ap (table_made Frame T C) headed ∙ sym (levels_same dict parts _ (sym c.have_same_levels.ensures ∙ c.if-not-have_same_levels.false)) in
+    let is = ap (table_made Frame T C) headed ∙ sym (levels_same _ parts _ (sym c.have_same_levels.ensures ∙ c.if-not-have_same_levels.false)) in
     rw is at c.table_below.ensures

@@ -1,24 +1,19 @@
 use Rattle.{
+  frame_store.{proofs.Settling.{labels_part}, specs.Parts.{axis_of}},
   std.proofs.Common.{arith, ◌∙◌, ap, sym, refl, map},
-  frame_store.specs.Parts.{axis_of},
-  concat_forms.{specs.Asked.{asked_value}, proofs.MetLaws.{equal_axis, equal_given, beside_equal, beside_levels, beside_met}},
+  concat_forms.{specs.Asked.{asked_value}, proofs.MetLaws.{equal_axis, beside_equal, beside_levels, beside_met}},
 }
 use Rattle.concat_forms.proofs.beside.beside.Goals as goal
 
-pub on_axis-requires-clause-given : goal.on_axis-requires-clause-given
-on_axis-requires-clause-given c =
-    equal_given _ _ _ _ c.requires.some c.index-parts-0.is (c.in_ok-axis.ensures ∙ c.axis.ensures ∙ ap axis_of c.table.ensures) c.requires.known
-
 pub on_axis-requires-clause-axis : goal.on_axis-requires-clause-axis
 on_axis-requires-clause-axis c =
-    let copied = c.in_ok-axis.ensures ∙ c.axis.ensures ∙ ap axis_of c.table.ensures in
-    equal_axis _ _ _ _ _ c.requires.some c.index-parts-0.is (ap (map (λ axis. axis.now)) c.deref.ensures.value ∙ c.in_ok-axes.ensures.axes) (sym c.have_same_labels.ensures ∙ c.if-have_same_labels.true) copied
-    (equal_given _ _ _ _ c.requires.some c.index-parts-0.is copied c.requires.known)
+    equal_axis _ _ _ _ _ c.requires.some c.index-parts-0.is (ap (map (λ axis. axis.now)) c.deref.ensures.value ∙ c.in_ok-axes.ensures.axes) (sym c.have_same_labels.ensures ∙ c.if-have_same_labels.true) (c.in_ok-axis.ensures ∙ c.axis.ensures ∙ ap axis_of c.table.ensures)
+    (grind (arith, labels_part))
 
 pub returns-then-have_same_labels : goal.returns-then-have_same_labels
 returns-then-have_same_labels c =
     let dict = c.args.dict.now in
-    let is = beside_equal dict c.len.ensures.distinct c.deref.result.now c.args.parts.now (grind arith) c.requires.known (asked_value dict c.args.asked.now) c.index-parts-0.result c.in_ok-axis.axis c.requires.some c.index-parts-0.is
+    let is = beside_equal _ c.len.ensures.distinct c.deref.result.now _ (grind arith) c.requires.known (asked_value dict c.args.asked.now) c.index-parts-0.result _ c.requires.some c.index-parts-0.is
     (sym c.have_same_labels.ensures ∙ c.if-have_same_labels.true) (c.in_ok-axis.ensures ∙ c.axis.ensures ∙ ap axis_of c.table.ensures) in
     grind arith
 
@@ -31,7 +26,6 @@ returns-then-not-have_same_levels c = (
 
 pub returns : goal.returns
 returns c =
-    let dict = c.args.dict.now in
-    let is = beside_met dict c.len.ensures.distinct c.deref.result.now c.args.parts.now (grind arith) c.requires.known (asked_value dict c.args.asked.now) (sym c.have_same_labels.ensures ∙ c.if-have_same_labels.false)
+    let is = beside_met _ c.len.ensures.distinct c.deref.result.now _ (grind arith) c.requires.known (asked_value c.args.dict.now c.args.asked.now) (sym c.have_same_labels.ensures ∙ c.if-have_same_labels.false)
     (sym c.have_same_levels.ensures ∙ c.if-not-have_same_levels.false) in
     rw is c.met.ensures

@@ -22,20 +22,16 @@ from_tuples-requires-clause-alike c =
 pub on_axis-requires-clause-given : goal.on_axis-requires-clause-given
 on_axis-requires-clause-given c =
     let lists = each_tuples _ _ c.requires.axes in
-    let apart = ap (are_equal same_tuple) (sym lists) ∙ c.requires.apart in
-    let told = ap (labels_concatenated same_tuple c.args.asked.now.inner) (sym lists) ∙ c.in-Ok.ensures in
     rw c.in_ok-axis-in-Ok.ensures
-    (met_given _ c.len.ensures.distinct _ c.requires.known (asked_value c.args.dict.now c.args.asked.now) apart _ told)
+    (met_given _ c.len.ensures.distinct _ c.requires.known (asked_value c.args.dict.now c.args.asked.now) (ap (are_equal same_tuple) (sym lists) ∙ c.requires.apart) _ (ap (labels_concatenated same_tuple c.args.asked.now.inner) (sym lists) ∙ c.in-Ok.ensures))
 
 pub on_axis-requires-clause-axis : goal.on_axis-requires-clause-axis
 on_axis-requires-clause-axis c =
-    let dict = c.args.dict.now in
-    let C = asked_value dict c.args.asked.now in
+    let C = asked_value c.args.dict.now c.args.asked.now in
     let lists = each_tuples _ _ c.requires.axes in
     let apart = ap (are_equal same_tuple) (sym lists) ∙ c.requires.apart in
     let told = ap (labels_concatenated same_tuple c.args.asked.now.inner) (sym lists) ∙ c.in-Ok.ensures in
-    let count = c.levels-levels.ensures.count ∙ ap (λ x. length x.names) (c.axis.ensures ∙ ap axis_of c.table.ensures) ∙ first_count _ _ c.requires.some c.index-parts-0.is in
-    met_axis _ _ _ _ _ c.in_ok-axis-in-Ok.ensures count c.requires.levels (met_given _ c.len.ensures.distinct _ c.requires.known C apart _ told)
+    met_axis _ _ _ _ _ c.in_ok-axis-in-Ok.ensures (c.levels-levels.ensures.count ∙ ap (λ x. length x.names) (c.axis.ensures ∙ ap axis_of c.table.ensures) ∙ first_count _ _ c.requires.some c.index-parts-0.is) c.requires.levels (met_given _ c.len.ensures.distinct _ c.requires.known C apart _ told)
     (met_once _ c.len.ensures.distinct _ c.requires.known C apart _ told)
 
 pub returns-in_ok-axis-in-Ok : goal.returns-in_ok-axis-in-Ok
@@ -61,9 +57,9 @@ pub returns-in-Err-TooLarge : goal.returns-in-Err-TooLarge
 returns-in-Err-TooLarge c =
     let parts = c.args.parts.now in
     let dict = c.args.dict.now in
-    let lists = each_tuples c.args.axes.now parts c.requires.axes in
+    let lists = each_tuples _ _ c.requires.axes in
     let apart = ap (are_equal same_tuple) (sym lists) ∙ c.requires.apart in
     let answer = subst (λ f. ConcatsBy (as_it_is) (Err f) (labels_concatenated same_tuple c.args.asked.now.inner (map (λ axis. axis.now.tuples) c.args.axes.now))) c.in-Err-TooLarge.field-0-is c.in-Err-TooLarge.ensures in
     let told = ap (labels_concatenated same_tuple c.args.asked.now.inner) (sym lists) ∙ answer in
-    let many = met_many dict c.len.ensures.distinct parts c.requires.known (asked_value dict c.args.asked.now) apart told in
+    let many = met_many _ c.len.ensures.distinct _ c.requires.known (asked_value dict c.args.asked.now) apart told in
     grind (arith, numbered_labels)

@@ -1,15 +1,15 @@
 use Rattle.{
-  std.proofs.{Common.{◌≡◌, ◌∙◌, ◌-◌, ap, sym, subst, refl, length, true, false, rules, arith}, lemmas.{Result.{err_from_is_err_and}, List.{length-map}}},
+  concat_forms.{proofs.{BesideLaws.{numbered_seen, all_headings_seen}, FrameLaws.{all_numbered, headings_refused, beyond_limits, finished_so, level_names_so, frame_given, frame_whole}}, specs.{Parts.{parts_value}, Axes.{named_after}}},
+  std.proofs.{Common.{◌≡◌, ◌∙◌, ap, sym, subst, length, true, false, rules, arith}, lemmas.{Result.{err_from_is_err_and}, List.{length-map}}},
   table_meaning.specs.{Settled.{IsSettled}, Table.{tuple_value, table_value}},
   form_meaning.specs.Finish.{within_limits},
   frame_store.specs.Shown.{labels_value, headings_value},
   selections.specs.Headings.{repeated_heading},
-  concat_forms.{specs.{Parts.{parts_value}, Axes.{named_after}}, proofs.FrameLaws.{all_numbered, headings_refused, beyond_limits, finished_so, level_names_so, frame_so, frame_given, frame_whole}},
 }
 use Rattle.concat_forms.proofs.beside.on_axis.Goals as goal
 
 pub returns-in_err-headings : goal.returns-in_err-headings
-returns-in_err-headings c = grind (arith, err_from_is_err_and, headings_refused)
+returns-in_err-headings = grind (arith, err_from_is_err_and, headings_refused)
 
 pub returns-then-not-within_limits : goal.returns-then-not-within_limits
 returns-then-not-within_limits c =
@@ -19,11 +19,6 @@ returns-then-not-within_limits c =
     let told : within_limits (length c.args.axis.tuples) (length c.in_ok-list.list.items) ≡ false = search rules in
     let beyond : within_limits (length labels) (length (all_numbered c.args.renumbered c.args.parts.now)) ≡ false = grind (arith, length-map) in
     search beyond_limits
-
-pub named-axis-requires-clause-given : goal.named-axis-requires-clause-given
-named-axis-requires-clause-given c =
-    let none : length c.args.axis.names - c.levels-levels.result ≡ 0 = omega (arith, c.levels-levels.ensures.count) in
-    rw none (λ more. refl)
 
 pub new-requires-clause-whole : goal.new-requires-clause-whole
 new-requires-clause-whole c =
@@ -43,7 +38,7 @@ returns c =
     let headed = c.in_ok-headings.ensures.made ∙ (λ i. record { columns_name = search; labels = listed i }) in
     let names = c.named-axis.ensures.names ∙ ap (λ n. named_after (headings_value dict c.args.axis.names) n (parts_value dict parts)) c.levels-levels.ensures.count ∙ level_names_so _ _ _ c.requires.some c.requires.levels in (
       finished_so _ c.len.ensures.distinct _ c.requires.known _ _ _ none within
-          (grind (arith, frame_so _ parts c.args.renumbered c.args.axis _ _ _ _ c.named-axis.ensures.tuples names c.name_of_all-columns_name.ensures.name headed c.in_ok-blocks.ensures.columns, c.new.ensures)),
+          (grind (arith, numbered_seen, all_headings_seen, c.new.ensures)),
       subst (IsSettled table_value dict) (sym c.new.ensures)
           (frame_given _ _ _ _ _ _ _ _ c.requires.known (rw c.named-axis.ensures.tuples c.requires.given)
           c.named-axis.ensures.given c.name_of_all-columns_name.ensures.given headed c.in_ok-blocks.ensures.blocks),

@@ -1,15 +1,9 @@
 use Rattle.{
-  std.proofs.{Common.{arith, take_all}, lemmas.List.{append-nil}},
+  std.proofs.Common.{arith},
   form_parts.proofs.GapLaws.{block_on, single_on},
   concat_forms.proofs.PlaceLaws.{more_on},
 }
 use Rattle.concat_forms.proofs.beside.with_columns.Goals as goal
-
-pub take-requires : goal.take-requires
-take-requires c = grind arith
-
-pub loop-place-init : goal.loop-place-init
-loop-place-init c = search append-nil
 
 pub loop-place-preserved : goal.loop-place-preserved
 loop-place-preserved c =
@@ -18,6 +12,3 @@ loop-place-preserved c =
           (grind (arith, block_on));
       single = grind (arith, single_on);
     }
-
-pub returns-clause-columns : goal.returns-clause-columns
-returns-clause-columns c = grind (arith, take_all)

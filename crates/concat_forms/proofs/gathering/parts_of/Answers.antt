@@ -1,7 +1,7 @@
 use Rattle.{
   std.proofs.Common.{arith, ◌∙◌, ◌++◌, ◌∷◌, [], ap, Some},
   frame_store.specs.Objects.{tables},
-  concat_forms.proofs.{PartLists.{object_live, no_part, part_more, known_more, seen_table}, gathering.parts_of.Goals.{in-Some+in_ok-new+in_ok-push, in_default}},
+  concat_forms.proofs.{PartLists.{object_live, no_part, part_more, known_more}, gathering.parts_of.Goals.{in-Some+in_ok-new+in_ok-push, in_default}},
 }
 use Rattle.concat_forms.proofs.gathering.parts_of.Goals as goal
 
@@ -10,7 +10,6 @@ read-requires c = object_live _ _ _ _ _ _ c.requires c.loop-item-test.true c.ite
 
 pub loop-item-preserved : goal.loop-item-preserved
 loop-item-preserved c =
-    let live = tables c.args.store.now in
     let k = c.loop-item.item-index in
     let before = c.loop-item.invariant in
     elim c.match-object.branch [
@@ -18,7 +17,7 @@ loop-item-preserved c =
           let grown = ap (λ v. v.items) w.parts-is ∙ w.in_ok-push.ensures.items ∙ (λ i. c.loop-item.parts.items ++ w.in_ok-new.ensures i ∷ []) in
           record {
             whole = part_more _ _ k _ c.loop-item-test.true c.item-item.is _ _ _ grown
-                (λ texts. ap (λ t. Some t) (seen_table live _ w.in-Some.id _ w.read.ensures.table) ∙ w.in-Some.ensures.table live texts) before.whole;
+                (λ texts. ap (λ t. Some t) (grind arith) ∙ w.in-Some.ensures.table (tables c.args.store.now) texts) before.whole;
             known = known_more _ _ k _ c.loop-item-test.true c.item-item.is _ _ _ _ grown w.read.ensures.table w.read.ensures.whole before.known;
           }
       | in_default w ↦ record {

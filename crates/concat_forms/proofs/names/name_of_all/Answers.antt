@@ -7,10 +7,9 @@ use Rattle.concat_forms.proofs.names.name_of_all.Goals as goal
 
 pub loop-other-init : goal.loop-other-init
 loop-other-init c =
-    let dict = c.args.dict.now in
     record {
       whole = search first_name;
-      given = rw c.name-name.ensures (name_given _ _ _ (subst (IsKnownTable dict) (sym c.first-item.is) (grind arith)));
+      given = rw c.name-name.ensures (name_given _ _ _ (subst (IsKnownTable c.args.dict.now) (sym c.first-item.is) (grind arith)));
     }
 
 pub common_name-name-requires-clause-b : goal.common_name-name-requires-clause-b

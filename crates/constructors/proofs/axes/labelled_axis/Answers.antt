@@ -8,7 +8,7 @@ pub returns-then-index-rows-clause-labels : goal.returns-then-index-rows-clause-
 returns-then-index-rows-clause-labels c = search count_refused
 
 pub returns-then-levels-gt4-clause-labels : goal.returns-then-levels-gt4-clause-labels
-returns-then-levels-gt4-clause-labels c = grind (arith, levels_refused, cells_refused)
+returns-then-levels-gt4-clause-labels = grind (arith, levels_refused, cells_refused)
 
 pub returns : goal.returns
 returns c =

@@ -12,4 +12,4 @@ returns-then-got-rows c = λ texts. (
 )
 
 pub loop-place-preserved : goal.loop-place-preserved
-loop-place-preserved c = grind (arith, rows_next)
+loop-place-preserved = grind (arith, rows_next)

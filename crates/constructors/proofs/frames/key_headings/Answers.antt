@@ -8,4 +8,4 @@ use Rattle.constructors.proofs.frames.key_headings.Goals as goal
 pub returns-clause-different : goal.returns-clause-different
 returns-clause-different c =
     let is : c.loop-label.headings ≡ record { columns_name = None; labels = map (λ key. Some key) (keys c.args.places.now) } = search rules in
-    keys_fit _ _ c.keys-label-items.ensures.unique is
+    search keys_fit

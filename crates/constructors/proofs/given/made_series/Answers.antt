@@ -1,7 +1,7 @@
 use Rattle.{
   std.proofs.Common.{◌∙◌, ap, sym, refl},
   form_meaning.specs.Binding.{bound_of},
-  frame_store.specs.{Objects.{tables}, Arguments.{arguments_of}, World.{world}},
+  frame_store.specs.{Objects.{tables}, Arguments.{arguments_of}},
   signatures.proofs.{ToldLaws.{name_given}, ScalarLaws.{items_settled}},
   constructors.proofs.GivenLaws.{index_settled, index_levels, series_given},
 }
@@ -9,29 +9,25 @@ use Rattle.constructors.proofs.given.made_series.Goals as goal
 
 pub series_of-requires-clause-values : goal.series_of-requires-clause-values
 series_of-requires-clause-values c =
-    let live = tables c.args.store.now in
     items_settled c.in_ok-bound.bound 0 _ _ _ c.list-values.ensures.value (rw (sym c.in_ok-bound.ensures.2) at c.requires.given)
 
 pub series_of-requires-clause-levels : goal.series_of-requires-clause-levels
 series_of-requires-clause-levels c =
     let live = tables c.args.store.now in
     let dict = c.args.dict.now in
-    let w = world c.args.store.now dict in
     let b = c.in_ok-bound.bound in
     let is = c.function_parameters-parameters.ensures in
-    index_levels _ _ _ w b _
+    index_levels _ _ _ _ b _
     (ap (λ ps. bound_of ps (arguments_of live dict b.args.now)) (sym is) ∙ ap (λ gs. bound_of c.function_parameters-parameters.result.now (arguments_of live dict gs)) c.in_ok-bound.ensures.2 ∙ c.in_ok-bound.ensures.0)
     (c.in_ok-bound.ensures.1 ∙ is) refl refl (c.list_or_none-index.ensures.value live dict)
 
 pub series_of-requires-clause-index : goal.series_of-requires-clause-index
 series_of-requires-clause-index c =
-    let live = tables c.args.store.now in
     index_settled (λ b. b.now) c.in_ok-bound.bound 1 _ _ _ c.list_or_none-index.ensures.value
     (rw (sym c.in_ok-bound.ensures.2) at c.requires.given)
 
 pub series_of-requires-clause-name : goal.series_of-requires-clause-name
 series_of-requires-clause-name c =
-    let live = tables c.args.store.now in
     name_given c.in_ok-bound.bound 2 _ _ _ _ c.scalar_or_none.ensures c.name_of-name.ensures
     (rw (sym c.in_ok-bound.ensures.2) at c.requires.given)
 

@@ -17,10 +17,9 @@ of-requires-clause-few c =
 pub loop-row-preserved : goal.loop-row-preserved
 loop-row-preserved c =
     let lt : c.loop-row.row-index < length c.args.index.now = omega arith in
-    let fits = row_fits _ _ _ _ _ _ c.requires.alike lt c.row-item.is (c.in_ok-put_labels.ensures (λ id. None) []) in
     let pushed : c.push.new.self ≡ c.loop-row.tuples ++ c.put_labels.new.labels.items ∷ [] = grind arith in
     record {
-      levels = rw pushed (All-push (λ l. length l ≡ c.args.levels) _ _ c.loop-row.invariant.levels fits);
+      levels = rw pushed (All-push (λ l. length l ≡ c.args.levels) _ _ c.loop-row.invariant.levels (row_fits _ _ _ _ _ _ c.requires.alike lt c.row-item.is (c.in_ok-put_labels.ensures (λ id. None) [])));
       labels = λ texts. rows_step _ _ _ _ _ _ _ _ _
           lt c.row-item.is (c.in_ok-put_labels.ensures (λ id. None) texts) pushed (c.loop-row.invariant.labels texts);
     }

@@ -8,8 +8,8 @@ pub loop-place-preserved : goal.loop-place-preserved
 loop-place-preserved c =
     let lt : c.loop-place.place < length c.args.pairs.now = omega arith in
     record {
-      inside = keys_step _ c.args.pairs.now c.loop-place.places.entries c.insert.new.self.entries _ c.index-pairs-place.result c.loop-place.invariant.inside lt c.requires c.in_ok-insert.ensures.entries;
-      pairs = λ live. pair_step _ _ c.args.pairs.now c.loop-place.places.entries c.insert.new.self.entries _ c.index-pairs-place.result _
+      inside = keys_step _ _ _ _ _ _ c.loop-place.invariant.inside lt c.requires c.in_ok-insert.ensures.entries;
+      pairs = λ live. pair_step _ _ _ _ _ _ _ _
           c.len.ensures.distinct c.loop-place.invariant.inside lt c.requires c.in_ok-insert.ensures.entries (c.loop-place.invariant.pairs live);
     }
 
@@ -17,4 +17,4 @@ pub returns-clause-inside : goal.returns-clause-inside
 returns-clause-inside c = search places_inside
 
 pub returns-clause-settled : goal.returns-clause-settled
-returns-clause-settled c = keys_settled _ _ c.loop-place.places.entries c.loop-place.invariant.inside
+returns-clause-settled c = search keys_settled

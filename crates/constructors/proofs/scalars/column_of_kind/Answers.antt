@@ -7,7 +7,7 @@ use Rattle.constructors.proofs.scalars.column_of_kind.Goals as goal
 pub returns-in_err-push_scalar : goal.returns-in_err-push_scalar
 returns-in_err-push_scalar c = λ texts.
     let p = err_from_is_err_and c.from_residual.result c.from_residual.ensures.1 in
-    rw (p.1, p.2) (held_refused texts c.args.kind c.loop-rest.rest.now c.first-item.result c.scalar.result c.loop-rest.column c.in_err-push_scalar.field-0.0 _
+    rw (p.1, p.2) (held_refused _ _ _ _ _ _ _ _
     c.first-item.is c.in-len1-up.len_at_least c.scalar.ensures c.loop-rest.invariant.kind c.in_err-push_scalar.ensures.err (c.loop-rest.invariant.cells texts))
 
 pub loop-rest-preserved : goal.loop-rest-preserved

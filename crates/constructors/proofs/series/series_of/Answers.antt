@@ -1,7 +1,6 @@
 use Rattle.{
   std.{proofs.{Common.{arith, ◌≡◌, ◌∙◌, ap, sym, List, length, Option}, lemmas.Result.{err_from_is_err_and}}, specs.Option.{option_map}},
   meaning.specs.{Text.{Text}, Cell.{LabelValue}},
-  table_meaning.specs.Table.{heading_value},
   signatures.specs.Scalars.{scalars},
   constructors.{specs.{Index.{rows_labels}, Made.{index_labels}}, proofs.MadeLaws.{column_given, axis_count, axis_refused, series_answer, series_settled}},
 }
@@ -15,22 +14,21 @@ returns-in_err-axis-clause-answer c =
     let index : List Text → Option (List (List LabelValue)) = λ texts. option_map (λ items. rows_labels texts items.now) c.args.index in
     let count : c.len.result ≡ length c.in_ok-column.column.cells = grind arith in
     let p = err_from_is_err_and c.from_residual-in_err-axis.result c.from_residual-in_err-axis.ensures.1 in
-    rw (p.1, p.2) (axis_refused c.args.dict.now c.cast_to.new.dict (scalars c.args.dict.now c.args.values.now) index (heading_value c.args.dict.now c.args.name) c.args.kind c.in_ok-listed.listed c.in_ok-column.column c.in_err-axis.field-0.0
-    c.in_ok-column.ensures.longer (c.in_ok-listed.ensures c.args.dict.now) c.in_ok-column.ensures.answer c.requires.index
-    (rw (← count) (c.in_err-axis.ensures.labels c.cast_to.new.dict)))
+    rw (p.1, p.2) (axis_refused _ _ (scalars c.args.dict.now c.args.values.now) index _ _ _ _ _
+    c.in_ok-column.ensures.longer (c.in_ok-listed.ensures _) c.in_ok-column.ensures.answer c.requires.index
+    (rw (← count) (c.in_err-axis.ensures.labels _)))
 
 pub series_table-requires : goal.series_table-requires
 series_table-requires c =
-    let index : List Text → Option (List (List LabelValue)) = λ texts. option_map (λ items. rows_labels texts items.now) c.args.index in
     let count : c.len.result ≡ length c.in_ok-column.column.cells = grind arith in
     sym count ∙ axis_count _ _ 1 _ c.in_ok-axis.axis (c.in_ok-axis.ensures.labels c.cast_to.new.dict)
 
 pub returns-clause-answer : goal.returns-clause-answer
 returns-clause-answer c =
-    let index : List Text → Option (List (List LabelValue)) = λ texts. option_map (λ items. rows_labels texts items.now) c.args.index in
+    let index : List Text → Option (List (List LabelValue)) = λ texts. option_map (λ items. rows_labels texts items.now) _ in
     let count : c.len.result ≡ length c.in_ok-column.column.cells = grind arith in (
       series_answer _ _ (scalars c.args.dict.now c.args.values.now) _ _ _ _ _ _ _
-          c.in_ok-column.ensures.longer (c.in_ok-listed.ensures c.args.dict.now) c.in_ok-column.ensures.answer c.requires.index (λ texts. ap (λ n. index_labels n 1 (index texts)) (sym count) ∙ c.in_ok-axis.ensures.labels texts)
+          c.in_ok-column.ensures.longer (c.in_ok-listed.ensures _) c.in_ok-column.ensures.answer c.requires.index (λ texts. ap (λ n. index_labels n 1 (index texts)) (sym count) ∙ c.in_ok-axis.ensures.labels texts)
           c.in_ok-axis.ensures.names c.requires.name c.in_ok-series_table.ensures,
       series_settled _ _ _ _ _ _ _
           c.in_ok-column.ensures.longer c.in_ok-column.ensures.given c.requires.index (λ texts. ap (λ n. index_labels n 1 (index texts)) (sym count) ∙ c.in_ok-axis.ensures.labels texts)

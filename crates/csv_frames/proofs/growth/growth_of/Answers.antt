@@ -7,8 +7,7 @@ use Rattle.csv_frames.proofs.growth.growth_of.Goals as goal
 
 pub returns-then-not-branch-clause-grown : goal.returns-then-not-branch-clause-grown
 returns-then-not-branch-clause-grown c =
-    let none = no_header c.reader_of-reader.result c.next_record.new.reader c.in_ok-next_record.field-0 _ c.in_ok-next_record.ensures c.args.bytes.now c.reader_of-reader.ensures.records c.if-not-branch.true in
-    rw none (c.in_ok-growth.ensures c.args.dict.now)
+    rw (no_header c.reader_of-reader.result c.next_record.new.reader c.in_ok-next_record.field-0 _ c.in_ok-next_record.ensures c.args.bytes.now c.reader_of-reader.ensures.records c.if-not-branch.true) (c.in_ok-growth.ensures c.args.dict.now)
 
 pub reading-init : goal.reading-init
 reading-init c =
@@ -21,10 +20,10 @@ reading-init c =
     }
 
 pub overflow_add-result : goal.overflow_add-result
-overflow_add-result c = grind (arith, few_before)
+overflow_add-result = grind (arith, few_before)
 
 pub push-requires-clause-few : goal.push-requires-clause-few
-push-requires-clause-few c = grind (arith, few_before)
+push-requires-clause-few = grind (arith, few_before)
 
 pub reading-preserved : goal.reading-preserved
 reading-preserved c =

@@ -1,5 +1,5 @@
 use Rattle.{
-  std.proofs.{lemmas.List.{drop_all, length-map, length-set, get_or_default}, Common.{◌≡◌, ◌<◌, ◌∙◌, [], ◌∷◌, ◌++◌, None, length, get_or, ap, subst, arith}},
+  std.proofs.{lemmas.List.{length-map, length-set, get_or_default}, Common.{◌≡◌, ◌<◌, ◌∙◌, [], ◌∷◌, ◌++◌, None, length, get_or, ap, subst, arith}},
   csv.specs.Records.{fields_of},
   csv_meaning.specs.CsvRead.{is_misfit},
   csv_frames.{specs.{Views.{column_fields}, Growing.{Grown}}, proofs.{SettledLaws.{longer_twice}, MisfitLaws.{misfit_more}, GrowthLaws.{push_one}}},
@@ -30,10 +30,6 @@ loop-place-preserved c =
           (grind (arith, length-map)))
           (inv.pushed before size grown);
       misfit = λ before size grown.
-          let was = (inv.pushed before size grown).left place (omega arith) lt in
           misfit_more kinds fields place c.loop-place.misfit (inv.misfit before size grown) c.in_ok-misfit.field-0 lt
           (c.in_ok-misfit.ensures.misfit (column_fields place before) (grind arith) ∙ ap (is_misfit named) c.field_in-field.ensures);
     }
-
-pub returns-clause-misfit : goal.returns-clause-misfit
-returns-clause-misfit c = grind (arith, drop_all)

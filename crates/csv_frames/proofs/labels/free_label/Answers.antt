@@ -9,9 +9,8 @@ returns-then-branch-clause-label c =
     let taken = c.args.taken.now in
     let label = c.args.label.now in
     let n = c.loop-number.number-counter in
-    let free = is_number_free taken c.loop-number.taken label (string_bytes c.in_ok-numbered.numbered) c.as_str.result.now n c.in_ok-is_new.field-0 c.loop-number.invariant.taken c.in_ok-numbered.ensures.ok c.as_str.ensures.value c.in_ok-is_new.ensures.new in
     let some : 1 ≤ n = omega arith in
-    label_found taken label (string_bytes c.in_ok-numbered.numbered) n c.args.columns some (omega arith) c.loop-number.invariant.skipped c.in_ok-numbered.ensures.ok (sym c.if-branch.true ∙ free)
+    label_found taken label (string_bytes c.in_ok-numbered.numbered) n c.args.columns some (omega arith) c.loop-number.invariant.skipped c.in_ok-numbered.ensures.ok (sym c.if-branch.true ∙ (is_number_free taken c.loop-number.taken label (string_bytes c.in_ok-numbered.numbered) c.as_str.result.now n c.in_ok-is_new.field-0 c.loop-number.invariant.taken c.in_ok-numbered.ensures.ok c.as_str.ensures.value c.in_ok-is_new.ensures.new))
 
 pub returns-clause-label : goal.returns-clause-label
 returns-clause-label c =

@@ -5,4 +5,4 @@ use Rattle.{
 use Rattle.csv_frames.proofs.labels.is_new.Goals as goal
 
 pub returns-clause-new : goal.returns-clause-new
-returns-clause-new c = grind (arith, new_number)
+returns-clause-new = grind (arith, new_number)

@@ -7,7 +7,7 @@ use Rattle.{
 use Rattle.csv_frames.proofs.labels.labels_of.Goals as goal
 
 so : {A E : Type 0} (r : Result A E) (P Q : A → Type 0) → ((x : A) → P x → Q x) → IfOk r P → IfOk r Q
-so x1 x2 x3 f h = grind arith
+so r P Q = grind arith
 
 pub returns-clause-different : goal.returns-clause-different
 returns-clause-different c =

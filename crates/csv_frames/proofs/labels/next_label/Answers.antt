@@ -11,7 +11,7 @@ returns-then-number-known-clause-skipped c =
     c.requires.skipped c.in_ok-number.ensures.texts c.in_ok-intern.ensures.texts c.in_ok-push.ensures.items c.in_ok-number.ensures.number (search)
 
 pub index-first-requires : goal.index-first-requires
-index-first-requires c = grind (arith, number_within)
+index-first-requires = grind (arith, number_within)
 
 pub free_label-requires-clause-some : goal.free_label-requires-clause-some
 free_label-requires-clause-some c =
@@ -28,7 +28,7 @@ free_label-requires-clause-skipped c =
     (next_number_of labels.before c.intern.new.self labels.taken labels.next.items c.args.label.now n c.index-first.result.now c.requires.skipped c.in_ok-number.ensures.texts c.in_ok-number.ensures.number other c.in_ok-number.ensures.given c.index-first.ensures).1
 
 pub index_mut-requires : goal.index_mut-requires
-index_mut-requires c = grind (arith, number_within)
+index_mut-requires = grind (arith, number_within)
 
 pub returns-clause-label : goal.returns-clause-label
 returns-clause-label c =

@@ -12,4 +12,4 @@ returns-then-len-gt-MOST_COLUMNS-clause-answer c =
     (grind arith)
 
 pub returns-clause-answer : goal.returns-clause-answer
-returns-clause-answer c = grind (arith, length-map, count_labels)
+returns-clause-answer = grind (arith, length-map, count_labels)

@@ -15,5 +15,4 @@ returns-then-is_err-clause-answer c =
 pub returns-else-is_err-clause-answer : goal.returns-else-is_err-clause-answer
 returns-else-is_err-clause-answer c =
     let entries = entries_seen c.args.dict.now c.args.kinds.now in
-    let read = answered c.args.dict.now c.columns_of_text-table.new.dict c.columns_of_text-table.result (columns_of_records entries (file_records c.args.bytes.now)) (sym c.if-is_err.ensures.value) c.columns_of_text-table.ensures.answer in
-    rw (← file_read c.args.bytes.now entries (omega arith) c.in_default.ensures.cases.1) read
+    rw (← file_read c.args.bytes.now entries (omega arith) c.in_default.ensures.cases.1) (answered c.args.dict.now c.columns_of_text-table.new.dict c.columns_of_text-table.result (columns_of_records entries (file_records c.args.bytes.now)) (sym c.if-is_err.ensures.value) c.columns_of_text-table.ensures.answer)

@@ -7,9 +7,7 @@ use Rattle.{
 use Rattle.factorize.proofs.codes.factorize.Goals as goal
 
 pub tuples_of-requires : goal.tuples_of-requires
-tuples_of-requires c =
-    let firsts = c.in_ok-groups.ensures.firsts ∙ ap (λ keys. map (place_among same_tuple keys) (group_keys (seen_rules c.args.dict.now) c.args.sorted c.args.dropna keys)) c.of.ensures in
-    grind (arith, rows_inside)
+tuples_of-requires = grind (arith, rows_inside)
 
 pub returns-clause-keys : goal.returns-clause-keys
 returns-clause-keys c =
@@ -17,4 +15,4 @@ returns-clause-keys c =
     cc (c.in_ok-distinct.ensures, tuples_there c.args.dict.now c.args.keys.now c.args.sorted c.args.dropna)
 
 pub returns-clause-law : goal.returns-clause-law
-returns-clause-law c = grind arith
+returns-clause-law = grind arith

@@ -6,10 +6,9 @@ use Rattle.factorize.proofs.codes.tuples_of.Goals as goal
 
 pub loop-place-preserved : goal.loop-place-preserved
 loop-place-preserved c =
-    let tuples = c.args.tuples.now in
     let rows = c.args.rows.now in
     let lt : c.loop-place.place < length rows = omega arith in
-    one_row_more (λ row. slice_index_or tuples row []) rows c.loop-place.place 0 c.copy.result [] c.loop-place.made c.push.new.self lt
+    one_row_more (λ row. slice_index_or c.args.tuples.now row []) rows c.loop-place.place 0 c.copy.result [] c.loop-place.made c.push.new.self lt
     (grind (arith, get_or_from_slice_get))
     c.loop-place.invariant c.in_ok-push.ensures.ok
 

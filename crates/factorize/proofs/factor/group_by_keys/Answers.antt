@@ -10,7 +10,7 @@ groups_of_all-requires g c =
     c.in_ok-numbers.numbers.firsts.items c.in_ok-numbers.ensures.firsts c.in_ok-numbers.numbers.codes.items c.in_ok-numbers.ensures.codes
 
 pub returns-then-not-dropna-clause-count : goal.returns-then-not-dropna-clause-count
-returns-then-not-dropna-clause-count g c = grind (arith, all_counted)
+returns-then-not-dropna-clause-count = grind (arith, all_counted)
 
 pub returns-then-not-dropna-clause-codes : goal.returns-then-not-dropna-clause-codes
 returns-then-not-dropna-clause-codes g c =
@@ -19,7 +19,7 @@ returns-then-not-dropna-clause-codes g c =
     grind (arith, c.in_ok-all.ensures.groups, all_codes c.args.dict.now (g.R.KeyLevels.keys c.args.rows.now) c.args.sorted c.args.dropna unsorted whole c.in_ok-numbers.numbers.codes.items c.in_ok-numbers.ensures.codes)
 
 pub returns-then-not-dropna-clause-firsts : goal.returns-then-not-dropna-clause-firsts
-returns-then-not-dropna-clause-firsts g c = grind (arith, sight_firsts)
+returns-then-not-dropna-clause-firsts = grind (arith, sight_firsts)
 
 pub returns-then-not-dropna-clause-law : goal.returns-then-not-dropna-clause-law
 returns-then-not-dropna-clause-law g c =

@@ -8,7 +8,7 @@ pub returns-then-row-len : goal.returns-then-row-len
 returns-then-row-len c = no_row c.args.tuples.now c.args.row c.args.level (omega arith)
 
 pub returns-then-level-len : goal.returns-then-level-len
-returns-then-level-len c = grind (arith, get_or_from_slice_get)
+returns-then-level-len = grind (arith, get_or_from_slice_get)
 
 pub returns-else-level-len : goal.returns-else-level-len
-returns-else-level-len c = grind (arith, get_or_from_slice_get, get_or_past)
+returns-else-level-len = grind (arith, get_or_from_slice_get, get_or_past)

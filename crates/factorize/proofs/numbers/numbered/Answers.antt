@@ -1,8 +1,8 @@
 use Rattle.{
-  std.{proofs.Common.{◌≡◌, ◌+◌, ◌-◌, ◌<◌, length, map, arith, All}, specs.List.{zip}},
+  std.proofs.Common.{◌≡◌, ◌+◌, ◌-◌, ◌<◌, length, arith, All},
   cell_core.specs.contracts.cell.LabelEq.TheImpl.Laws.{laws-law},
   index_core.specs.Labels.{same_number},
-  row_keys.{specs.Keys.{label_in}, proofs.RecodeLaws.{last_level, one_level, drop_none}},
+  row_keys.proofs.RecodeLaws.{last_level, one_level, drop_none},
 }
 use Rattle.cell_core.specs.declared.cell.Label.TheVariants as label
 use Rattle.factorize.proofs.numbers.numbered.Goals as goal
@@ -10,8 +10,7 @@ use Rattle.factorize.proofs.numbers.numbered.Goals as goal
 pub loop-level-init : goal.loop-level-init
 loop-level-init g c =
     let rows = g.R.KeyLevels.keys c.args.rows.now in
-    let levels = c.levels-levels.result in
-    let last = levels - 1 in
+    let last = c.levels-levels.result - 1 in
     let all : All (λ t. length t ≡ last + 1) rows = grind arith in
     record {
       inside = omega (arith, c.levels-levels.ensures.some);
@@ -21,11 +20,7 @@ loop-level-init g c =
 pub loop-level-preserved : goal.loop-level-preserved
 loop-level-preserved g c =
     let rows = g.R.KeyLevels.keys c.args.rows.now in
-    let levels = c.levels-levels.result in
     let here = c.loop-level.level - 1 in
-    let next : c.loop-level.level ≡ here + 1 = omega (arith, c.loop-level-test.true) in
-    let seen : zip (map (label_in here) rows) c.deref.result.now ≡ zip (map (label_in here) rows) c.loop-level.numbers.codes.items
-    = grind arith in
     let all : All (λ t. here < length t) rows = grind arith in
     record {
       inside = omega (arith, c.loop-level.invariant.inside);

@@ -5,4 +5,4 @@ use Rattle.{
 use Rattle.factorize.proofs.order.in_sequence.Goals as goal
 
 pub loop-number-preserved : goal.loop-number-preserved
-loop-number-preserved c = grind (arith, one_more)
+loop-number-preserved = grind (arith, one_more)

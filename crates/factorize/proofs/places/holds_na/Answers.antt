@@ -17,9 +17,8 @@ returns-then-eq g c = λ texts.
 
 pub loop-level-preserved : goal.loop-level-preserved
 loop-level-preserved g c = λ texts.
-    let keys = g.R.KeyLevels.keys c.args.rows.now in
     let level = c.loop-level.level in
-    let label : ℕ → LabelValue = λ l. label_datum texts (label_in l (slice_index_or keys c.args.row [])) in
+    let label : ℕ → LabelValue = λ l. label_datum texts (label_in l (slice_index_or (g.R.KeyLevels.keys c.args.rows.now) c.args.row [])) in
     let present : is_na (label level) ≡ false = grind arith in
     ap (list_any is_na) (map-range_with_len_more label 0 level level (omega arith))
     ∙ list_any-append is_na (map label (range_with_len 0 level)) (label level ∷ [])
@@ -27,7 +26,6 @@ loop-level-preserved g c = λ texts.
 
 pub returns : goal.returns
 returns g c = λ texts.
-    let keys = g.R.KeyLevels.keys c.args.rows.now in
-    let label : ℕ → LabelValue = λ l. label_datum texts (label_in l (slice_index_or keys c.args.row [])) in
+    let label : ℕ → LabelValue = λ l. label_datum texts (label_in l (slice_index_or (g.R.KeyLevels.keys c.args.rows.now) c.args.row [])) in
     let end : c.loop-level.level ≡ c.args.levels = omega arith in
     sym (c.loop-level.invariant texts) ∙ ap (λ n. list_any is_na (map label (range_with_len 0 n))) end

@@ -5,7 +5,7 @@ use Rattle.{
 use Rattle.factorize.proofs.places.place_all.Goals as goal
 
 pub loop-place-init : goal.loop-place-init
-loop-place-init c = grind arith
+loop-place-init = grind arith
 
 pub loop-place-preserved : goal.loop-place-preserved
 loop-place-preserved c =
@@ -26,7 +26,6 @@ loop-place-preserved c =
 pub returns : goal.returns
 returns c =
     let kept = c.args.kept.now in
-    let count = length c.args.places.now in
     let end : length kept ≤ c.loop-place.place = omega arith in
-    fill_by_all (λ n. position (λ k. n == k) kept) c.loop-place.places count None c.loop-place.invariant.size
+    fill_by_all (λ n. position (λ k. n == k) kept) c.loop-place.places (length c.args.places.now) None c.loop-place.invariant.size
     (λ n lt. c.loop-place.invariant.at n lt ∙ ap (position (λ k. n == k)) (take_all c.loop-place.place kept end))

@@ -6,10 +6,9 @@ use Rattle.factorize.proofs.places.without_na.Goals as goal
 
 pub loop-number-preserved : goal.loop-number-preserved
 loop-number-preserved g c = λ texts.
-    let keys = g.R.KeyLevels.keys c.args.rows.now in
     let numbers = c.args.numbers.now in
     let i = c.loop-number.number-index in
-    let stays : ℕ → Bool = λ n. not (row_holds_na texts keys c.args.levels (first_row c.args.firsts.now n)) in
+    let stays : ℕ → Bool = λ n. not (row_holds_na texts (g.R.KeyLevels.keys c.args.rows.now) c.args.levels (first_row c.args.firsts.now n)) in
     let lt : i < length numbers = omega arith in
     let told : not c.holds_na-stays.result ≡ stays (slice_index_or numbers i 0) = cc (c.holds_na-stays.ensures texts, c.row_of.ensures) in
     c.in_ok-push_if.ensures
@@ -18,7 +17,6 @@ loop-number-preserved g c = λ texts.
 
 pub returns : goal.returns
 returns g c = λ texts.
-    let keys = g.R.KeyLevels.keys c.args.rows.now in
     let end : length c.args.numbers.now ≤ c.loop-number.number-index = omega arith in
     c.from.ensures ∙ c.loop-number.invariant texts
-    ∙ ap (filter (λ n. not (row_holds_na texts keys c.args.levels (first_row c.args.firsts.now n)))) (take_all c.loop-number.number-index c.args.numbers.now end)
+    ∙ ap (filter (λ n. not (row_holds_na texts (g.R.KeyLevels.keys c.args.rows.now) c.args.levels (first_row c.args.firsts.now n)))) (take_all c.loop-number.number-index c.args.numbers.now end)

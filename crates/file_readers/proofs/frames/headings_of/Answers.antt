@@ -1,6 +1,5 @@
 use Rattle.{
-  std.proofs.Common.{◌∙◌, ◌<◌, ap, length, arith},
-  frame_store.specs.Parts.{HeadingList},
+  std.proofs.Common.{◌<◌, ap, length, arith},
   file_readers.proofs.FrameLaws.{heading_step},
 }
 use Rattle.file_readers.proofs.frames.headings_of.Goals as goal
@@ -9,7 +8,7 @@ pub loop-place-preserved : goal.loop-place-preserved
 loop-place-preserved c =
     let lt : c.loop-place.place < length c.args.labels.now = omega arith in
     record {
-      nameless = ap (λ (h : HeadingList). h.columns_name) c.in_ok-push.ensures.ok ∙ c.loop-place.invariant.nameless;
+      nameless = grind arith;
       labels = heading_step c.args.labels.now c.loop-place.place c.at.result.now c.at-in-loop-place.result c.loop-place.headings.labels c.push.new.self.labels _
-          lt c.at.ensures c.at-in-loop-place.ensures (ap (λ (h : HeadingList). h.labels) c.in_ok-push.ensures.ok) c.loop-place.invariant.labels;
+          lt c.at.ensures c.at-in-loop-place.ensures (ap (λ h. h.labels) c.in_ok-push.ensures.ok) c.loop-place.invariant.labels;
     }

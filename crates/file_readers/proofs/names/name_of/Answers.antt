@@ -1,6 +1,5 @@
 use Rattle.{
-  std.proofs.Common.{◌∙◌, ap, sym, subst},
-  table_meaning.specs.Settled.{IsSettled},
+  std.proofs.Common.{arith, ◌∙◌, ap, sym},
   form_meaning.specs.Binding.{bound_of},
   frame_store.specs.{Objects.{tables}, Arguments.{arguments_of}, World.{world}},
   file_readers.proofs.NameLaws.{name_given},
@@ -9,10 +8,9 @@ use Rattle.file_readers.proofs.names.name_of.Goals as goal
 
 pub returns-in-Some-Text : goal.returns-in-Some-Text
 returns-in-Some-Text c =
-    let live = tables c.args.store.now in
     let dict = c.args.dict.now in
-    let gs = arguments_of live dict c.args.args.now in
+    let gs = arguments_of (tables c.args.store.now) dict c.args.args.now in
     let is = c.in_ok-bound.ensures in
     name_given c.args.function gs (world c.args.store.now dict) c.in_ok-bound.bound c.in-Some-Text.name
     (is.1 ∙ c.function_parameters.ensures) (ap (λ ps. bound_of ps gs) (sym c.function_parameters.ensures) ∙ is.0) (rw c.in-Some-Text.field-0-is at c.in-Some-Text.ensures)
-    (subst (IsSettled (arguments_of live) dict) (sym is.2) c.requires.given)
+    (grind arith)

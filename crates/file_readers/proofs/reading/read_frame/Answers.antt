@@ -1,10 +1,8 @@
 use Rattle.{
-  std.proofs.Common.{◌∙◌, ap, sym, subst, Result},
-  meaning.specs.Fault.{FaultValue},
-  table_meaning.specs.Value.{Entry},
+  std.proofs.Common.{◌∙◌, ap, sym},
   form_meaning.specs.Binding.{bound_of},
   csv_frames.specs.Views.{entries_seen},
-  frame_store.specs.{Objects.{tables}, Arguments.{arguments_of}, Shown.{Makes}, World.{world}},
+  frame_store.specs.{Objects.{tables}, Arguments.{arguments_of}, World.{world}},
   file_readers.proofs.ReadLaws.{read_bound},
 }
 use Rattle.method_meaning.specs.Readers as readers
@@ -16,7 +14,5 @@ returns-clause-answer c =
     let dict = c.args.dict.now in
     let gs = arguments_of live dict c.args.args.now in
     let is = c.in_ok-bound.ensures in
-    subst (λ (m : Result Entry FaultValue). Makes c.frame_of_file.new.dict c.frame_of_file.result m)
-    (read_bound c.args.bytes.now gs (world c.args.store.now dict) c.in_ok-bound.bound (entries_seen dict c.in_ok-kinds.kinds)
-    (is.1 ∙ c.function_parameters.ensures) (ap (λ ps. bound_of ps gs) (sym c.function_parameters.ensures) ∙ is.0) (c.in_ok-kinds.ensures live ∙ ap readers.kinds_given (c.dict_or_none.ensures.value live dict)))
-    c.frame_of_file.ensures.answer
+    rw (← read_bound c.args.bytes.now gs (world c.args.store.now dict) c.in_ok-bound.bound (entries_seen dict c.in_ok-kinds.kinds)
+    (is.1 ∙ c.function_parameters.ensures) (ap (λ ps. bound_of ps gs) (sym c.function_parameters.ensures) ∙ is.0) (c.in_ok-kinds.ensures live ∙ ap readers.kinds_given (c.dict_or_none.ensures.value live dict))) c.frame_of_file.ensures.answer

@@ -1,14 +1,11 @@
 use Rattle.{
-  std.proofs.Common.{◌∙◌, ◌<◌, ap, length, subst, sym, arith, take_all, All},
-  cell_core.specs.declared.cell.Cell.TheVariants.{Na},
-  column_core.specs.Moves.{IsPlaceOf},
-  form_meaning.specs.Infix.{on_rows},
+  std.proofs.Common.{◌<◌, length, arith, take_all},
   form_parts.proofs.GapLaws.{one_more_on, block_on, single_on},
 }
 use Rattle.form_parts.proofs.gaps.columns_on.Goals as goal
 
 pub take-requires : goal.take-requires
-take-requires c = subst (λ n. All (IsPlaceOf n) c.args.rows.now) (sym c.column.ensures.rows) c.requires
+take-requires = grind arith
 
 pub loop-place-preserved : goal.loop-place-preserved
 loop-place-preserved c =
@@ -20,7 +17,7 @@ loop-place-preserved c =
     }
 
 pub returns-clause-columns : goal.returns-clause-columns
-returns-clause-columns c = c.loop-place.invariant.columns ∙ ap (on_rows Na c.args.rows.now) (take_all c.loop-place.place c.args.on.now.columns (omega arith))
+returns-clause-columns = grind (arith, take_all)
 
 pub returns-clause-single : goal.returns-clause-single
-returns-clause-single c = c.loop-place.invariant.single
+returns-clause-single c = search

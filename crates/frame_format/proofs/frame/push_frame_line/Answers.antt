@@ -1,6 +1,6 @@
 use Rattle.{
-  std.proofs.Common.{◌∙◌, ◌++◌, ap, length, codes},
-  format_meaning.specs.{Told.{cell_at}, Print.{spaces, level_width, titled_width, level_text, shown_cell}},
+  std.proofs.Common.{arith, ◌∙◌, ap, length},
+  format_meaning.specs.{Told.{cell_at}, Print.{level_width, titled_width, shown_cell}},
   frame_format.proofs.FieldLaws.{both, both_at_last, at_last, sides_measured, columns_measured, length_measured},
 }
 use Rattle.frame_format.proofs.frame.push_frame_line.Goals as goal
@@ -14,11 +14,8 @@ push_cells-requires-clause-columns g c = ap length c.as_slice-2.ensures.value �
 pub returns : goal.returns
 returns g c =
     let t = c.args.source.now in
-    let out = c.args.out.now in
-    both_at_last c.push_cells.result out c.push_spaces.new.out c.push_cells.new.out _ _
-    (both out c.push_labels.new.out c.push_spaces.new.out _ _
-    (c.in_ok-push_labels.ensures ∙ ap (λ l. out ++ l) (sides_measured _ (level_width t) (length t.level_names) (c.as_slice.ensures.value ∙ c.requires.layout.levels) (codes " ") (level_text t c.args.row)))
-    (c.in_ok-push_spaces.ensures ∙ ap (λ n. c.push_labels.new.out ++ spaces n) c.requires.layout.filling))
+    both_at_last c.push_cells.result c.args.out.now c.push_spaces.new.out c.push_cells.new.out _ _
+    (grind (arith, both, sides_measured))
     (at_last c.push_cells.result c.push_spaces.new.out c.push_cells.new.out _ _
     (columns_measured _ (titled_width t) (length t.columns) (c.as_slice-2.ensures.value ∙ c.requires.layout.columns) (λ column. shown_cell (cell_at t c.args.row column)))
     c.push_cells.ensures)

@@ -9,8 +9,7 @@ use Rattle.frame_format.proofs.records.csv_text.Goals as goal
 
 pub loop-row-init : goal.loop-row-init
 loop-row-init g c =
-    let w = c.from_writer-writer.ensures in
-    header_written _ _ _ _ (nothing_written _ _ _ w.wtr c.new-2.ensures.items w.empty w.cfg c.new.ensures w.fields w.wrote) c.in_ok-write_record.ensures c.in_ok-fill_header.ensures.fields
+    header_written _ _ _ _ (search nothing_written) c.in_ok-write_record.ensures c.in_ok-fill_header.ensures.fields
 
 pub loop-row-preserved : goal.loop-row-preserved
 loop-row-preserved g c =
@@ -22,5 +21,4 @@ returns g c =
     let t = c.new-source.result in
     let header = record_text (header_fields c.args.index t) in
     let all : c.loop-row.row ≡ length t.labels = omega (arith, c.loop-row-test.false, c.loop-row.auto.row-end, c.rows-row-end.ensures) in
-    let rows = ap (λ n. header ++ flat_map (λ row. record_text (row_fields c.args.index (row_of na_cell t row))) (places n)) all ∙ ap (λ l. header ++ l) (rows_written t (λ r. record_text (row_fields c.args.index r))) in
-    IfOk-weaker c.words_of.result _ _ (λ words h. h _ c.loop-row.invariant ∙ rows ∙ ap (csv_text_of c.args.index) c.new-source.ensures) c.words_of.ensures
+    IfOk-weaker c.words_of.result _ _ (λ words h. h _ c.loop-row.invariant ∙ (ap (λ n. header ++ flat_map (λ row. record_text (row_fields c.args.index (row_of na_cell t row))) (places n)) all ∙ ap (λ l. header ++ l) (rows_written t (λ r. record_text (row_fields c.args.index r)))) ∙ ap (csv_text_of c.args.index) c.new-source.ensures) c.words_of.ensures

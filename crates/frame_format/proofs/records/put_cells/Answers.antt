@@ -1,13 +1,13 @@
 use Rattle.{
-  std.proofs.Common.{◌∙◌, arith},
+  std.proofs.Common.{arith},
   frame_format.proofs.RecordLaws.{field_pushed, filled_more, cells_placed},
 }
 use Rattle.frame_format.proofs.records.put_cells.Goals as goal
 
 pub loop-column-preserved : goal.loop-column-preserved
 loop-column-preserved g c = record {
-  fields = field_pushed _ c.loop-column.column _ _ _ _ _ c.loop-column.invariant.fields c.loop-column.invariant.filled.partial c.in_ok-push_field.ensures.fields (c.as_bytes.ensures.value ∙ c.as_str.ensures.value ∙ c.in_ok-write_cell.ensures);
-  filled = filled_more _ _ _ c.loop-column.invariant.filled c.in_ok-push_field.ensures.fields c.in_ok-push_field.ensures.partial c.as_bytes.ensures.utf8;
+  fields = field_pushed _ c.loop-column.column _ _ _ _ _ c.loop-column.invariant.fields c.loop-column.invariant.filled.partial c.in_ok-push_field.ensures.fields (grind arith);
+  filled = grind (arith, filled_more);
 }
 
 pub returns-clause-fields : goal.returns-clause-fields

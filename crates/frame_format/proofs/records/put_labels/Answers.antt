@@ -1,5 +1,5 @@
 use Rattle.{
-  std.proofs.Common.{◌∙◌, [], get_or, arith},
+  std.proofs.Common.{[], get_or, arith},
   cell_core.specs.Values.{na},
   format_meaning.specs.CsvWrite.{label_field},
   frame_format.proofs.RecordLaws.{field_pushed, filled_more, fields_placed},
@@ -8,8 +8,8 @@ use Rattle.frame_format.proofs.records.put_labels.Goals as goal
 
 pub loop-level-preserved : goal.loop-level-preserved
 loop-level-preserved g c = record {
-  fields = field_pushed _ c.loop-level.level _ _ _ _ _ c.loop-level.invariant.fields c.loop-level.invariant.filled.partial c.in_ok-push_field.ensures.fields (c.as_bytes.ensures.value ∙ c.as_str.ensures.value ∙ c.in_ok-write_label.ensures);
-  filled = filled_more _ _ _ c.loop-level.invariant.filled c.in_ok-push_field.ensures.fields c.in_ok-push_field.ensures.partial c.as_bytes.ensures.utf8;
+  fields = field_pushed _ c.loop-level.level _ _ _ _ _ c.loop-level.invariant.fields c.loop-level.invariant.filled.partial c.in_ok-push_field.ensures.fields (grind arith);
+  filled = grind (arith, filled_more);
 }
 
 pub returns-clause-fields : goal.returns-clause-fields

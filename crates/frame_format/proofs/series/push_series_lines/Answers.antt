@@ -1,8 +1,8 @@
 use Rattle.{
-  std.proofs.Common.{refl},
+  std.proofs.Common.{arith, refl},
   frame_format.proofs.FieldLaws.{both, flat_pushed},
 }
 use Rattle.frame_format.proofs.series.push_series_lines.Goals as goal
 
 pub loop-row-preserved : goal.loop-row-preserved
-loop-row-preserved g c = flat_pushed _ c.loop-row.row _ c.loop-row.out c.push_str.new.self _ c.loop-row.invariant (both c.loop-row.out c.push_series_line.new.out c.push_str.new.self _ _ c.in_ok-push_series_line.ensures c.in_ok-push_str.ensures.ok) refl
+loop-row-preserved g c = flat_pushed _ c.loop-row.row _ c.loop-row.out c.push_str.new.self _ c.loop-row.invariant (grind (arith, both)) refl

@@ -1,7 +1,6 @@
 use Rattle.{
-  std.proofs.Common.{arith, ◌≡◌},
-  table_meaning.specs.Table.{table_value},
-  frame_store.{specs.{Objects.{tables, table_at}, World.{world}}, proofs.Settling.{longer_self}},
+  std.proofs.Common.{arith},
+  frame_store.{specs.World.{world}, proofs.Settling.{longer_self}},
   label_methods.proofs.AnswerLaws.{known_table, forms_so},
 }
 use Rattle.frame_methods.proofs.calling.answer.Goals as goal
@@ -12,10 +11,6 @@ summarize-made-requires c = known_table (world c.args.store.now c.args.dict.now)
 
 pub returns-in-Summary : goal.returns-in-Summary
 returns-in-Summary c =
-    let w = world c.args.store.now c.args.dict.now in
-    let call = c.args.call.now in
-    let t = table_value c.args.dict.now (table_at (tables c.args.store.now) c.args.on.0) in
-    let at : c.read.result ≡ table_at (tables c.args.store.now) c.args.on.0 = grind arith in
     forms_so _ _ _ _ _
     (grind arith)
     (c.answer_made.ensures c.args.dict.now _ (longer_self c.args.dict.now) c.requires.settled c.summarize-made.ensures.answer)
@@ -23,18 +18,15 @@ returns-in-Summary c =
 -- a table of rows, levels or labels
 pub returns-in-Rows : goal.returns-in-Rows
 returns-in-Rows c =
-    let t = table_value c.args.dict.now (table_at (tables c.args.store.now) c.args.on.0) in
     forms_so _ _ _ _ _ (grind arith)
     (c.placed.ensures.answers c.args.dict.now _ (longer_self c.args.dict.now) c.requires.settled c.rows_made-table.ensures)
 
 pub returns-in-Levels : goal.returns-in-Levels
 returns-in-Levels c =
-    let t = table_value c.args.dict.now (table_at (tables c.args.store.now) c.args.on.0) in
     forms_so _ _ _ _ _ (grind arith)
     (c.placed-in-Levels.ensures.answers c.args.dict.now _ (c.levels_made-table.ensures.longer) c.requires.settled c.levels_made-table.ensures.answer)
 
 pub returns-in-Labels : goal.returns-in-Labels
 returns-in-Labels c =
-    let t = table_value c.args.dict.now (table_at (tables c.args.store.now) c.args.on.0) in
     forms_so _ _ _ _ _ (grind arith)
     (c.placed-in-Labels.ensures.answers c.args.dict.now _ (longer_self c.args.dict.now) c.requires.settled c.labels_made-table.ensures)

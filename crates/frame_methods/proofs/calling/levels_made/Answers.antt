@@ -1,12 +1,11 @@
 use Rattle.{
-  std.proofs.{Common.{arith, ◌≡◌, ap, sym, subst, refl}, lemmas.Result.{err_from_is_err_and}},
+  std.proofs.Common.{arith, ◌≡◌, ap, sym, subst, refl},
   table_meaning.specs.{Settled.{IsSettled}, Table.{table_value}},
   form_meaning.specs.Make.{on},
-  form_parts.proofs.TableMade.{refused_on},
   method_meaning.specs.Levels.{rename_axis_result, set_index_result},
   frame_store.{specs.{Objects.{tables, table_at}, Shown.{headings_value}, World.{world}}, proofs.Settling.{object_settled}},
   frame_methods.proofs.{AnswerLaws.{makes_by}, ShapeLaws.{set_index_of_frame}},
-  label_methods.{specs.Named.{first_in}, proofs.{AnswerLaws.{known_table}, LevelNameLaws.{names_given}, LevelMoveLaws.{option_given}}},
+  label_methods.proofs.{AnswerLaws.{known_table}, LevelNameLaws.{names_given}, LevelMoveLaws.{option_given}},
 }
 use Rattle.form_meaning.specs.declared.Method.TheVariants as method
 use Rattle.form_meaning.specs.declared.LevelMethod.TheVariants as level_method
@@ -15,18 +14,10 @@ use Rattle.frame_methods.proofs.calling.levels_made.Goals as goal
 pub set_index-requires-clause-known : goal.set_index-requires-clause-known
 set_index-requires-clause-known c = known_table (world c.args.store.now c.args.dict.now) c.args.on.0 c.read-source.result c.read-source.ensures.table c.read-source.ensures.whole c.requires.settled
 
-pub set_index-requires-clause-places : goal.set_index-requires-clause-places
-set_index-requires-clause-places c = grind arith
-
-pub returns-in_err-places-in-SetIndex-clause-answer : goal.returns-in_err-places-in-SetIndex-clause-answer
-returns-in_err-places-in-SetIndex-clause-answer c = grind (arith, err_from_is_err_and, makes_by, refused_on)
-
 pub returns-in_ok-places-in-SetIndex-clause-answer : goal.returns-in_ok-places-in-SetIndex-clause-answer
 returns-in_ok-places-in-SetIndex-clause-answer c =
     let w = world c.args.store.now c.args.dict.now in
-    let s = table_value w.texts c.read-source.result in
     let at : c.read-source.result ≡ table_at w.tables c.args.on.0 = grind arith in
-    let g = first_in w c.args.bound.now in
     makes_by w (method.Levels c.args.method) (method.Levels level_method.SetIndex) c.args.bound.now c.read-source.result _ c.set_index.result (λ a t. set_index_result t (a 0)) _ at (ap method.Levels c.in-SetIndex.is) c.requires.call.parameters (λ v. refl)
     (grind arith)
     c.set_index.ensures
@@ -34,14 +25,10 @@ returns-in_ok-places-in-SetIndex-clause-answer c =
 pub returns-in_ok-names-in-RenameAxis-clause-answer : goal.returns-in_ok-names-in-RenameAxis-clause-answer
 returns-in_ok-names-in-RenameAxis-clause-answer c =
     let w = world c.args.store.now c.args.dict.now in
-    let s = table_value w.texts c.read-source.result in
     let at : c.read-source.result ≡ table_at w.tables c.args.on.0 = grind arith in
-    let settled = object_settled w.texts w.tables c.args.on.0 c.read-source.result c.read-source.ensures.table c.requires.settled in
-    let names = c.in_ok-names-in-RenameAxis.names.items in
-    let given = names_given c.args.bound.now 0 names w.tables w.texts c.in_ok-names-in-RenameAxis.ensures c.requires.call.given in
     makes_by w (method.Levels c.args.method) (method.Levels level_method.RenameAxis) c.args.bound.now c.read-source.result _ c.rename_axis.result (λ a t. rename_axis_result t (a 0)) _ at (ap method.Levels c.in-RenameAxis.is) c.requires.call.parameters (λ v. refl)
     (grind arith)
-    (c.rename_axis.ensures w.texts settled (subst (λ ns. IsSettled headings_value w.texts ns) (sym c.as_slice.ensures.value) given))
+    (c.rename_axis.ensures w.texts (object_settled w.texts w.tables c.args.on.0 c.read-source.result c.read-source.ensures.table c.requires.settled) (subst (λ ns. IsSettled headings_value w.texts ns) (sym c.as_slice.ensures.value) (names_given c.args.bound.now 0 c.in_ok-names-in-RenameAxis.names.items w.tables w.texts c.in_ok-names-in-RenameAxis.ensures c.requires.call.given)))
 
 -- levels as columns, or none of them
 pub reset_levels-requires : goal.reset_levels-requires
@@ -72,4 +59,4 @@ pub swap_levels-requires-clause-second : goal.swap_levels-requires-clause-second
 swap_levels-requires-clause-second c = option_given c.args.bound.now 1 c.scalar_or_none-in-Swaplevel.result (tables c.args.store.now) c.args.dict.now c.scalar_or_none-in-Swaplevel.ensures c.requires.call.given
 
 pub set_index-requires-clause-shape : goal.set_index-requires-clause-shape
-set_index-requires-clause-shape c = grind (arith, set_index_of_frame)
+set_index-requires-clause-shape = grind (arith, set_index_of_frame)

@@ -1,13 +1,12 @@
 use Rattle.{
-  std.proofs.{Common.{arith, ◌≡◌, ◌∙◌, ap, sym, refl}, lemmas.Result.{err_from_is_err_and}},
+  std.proofs.Common.{arith, ◌≡◌, ◌∙◌, ap, sym, refl},
   meaning.specs.Fault.{then_value},
   table_meaning.specs.Table.{table_value},
   form_meaning.specs.{Binding.{truth_in}, Make.{on}, Select.{column_places}},
-  form_parts.proofs.TableMade.{refused_on},
-  method_meaning.specs.Rows.{dropna_result, duplicated_result, sort_values_result, sort_by_result, sorted_result, all_places, labels_in},
+  method_meaning.specs.Rows.{dropna_result, sort_values_result, sort_by_result, all_places, labels_in},
   frame_store.{specs.{Objects.{tables, table_at}, World.{world}}, proofs.Settling.{object_settled}},
   selections.proofs.PickedLaws.{places_inside},
-  frame_methods.{specs.Rows.{duplicated_among}, proofs.AnswerLaws.{makes_by}},
+  frame_methods.proofs.AnswerLaws.{makes_by},
   label_methods.{specs.Named.{first_in}, proofs.{AnswerLaws.{known_table}, NamedLaws.{all_are}}},
 }
 use Rattle.form_meaning.specs.declared.Method.TheVariants as method
@@ -18,9 +17,8 @@ pub returns-in-Dropna : goal.returns-in-Dropna
 returns-in-Dropna c =
     let w = world c.args.store.now c.args.dict.now in
     let at : c.read-source.result ≡ table_at (tables c.args.store.now) c.args.on.0 = grind arith in
-    let settled = object_settled w.texts w.tables c.args.on.0 c.read-source.result c.read-source.ensures.table c.requires.settled in
     makes_by w (method.Rows c.args.method) (method.Rows row_method.Dropna) c.args.bound.now c.read-source.result _ c.dropna.result (λ a t. dropna_result t) _ at (ap method.Rows c.in-Dropna.is) c.requires.call.parameters (λ v. refl) refl
-    (c.dropna.ensures w.texts settled)
+    (c.dropna.ensures w.texts (object_settled w.texts w.tables c.args.on.0 c.read-source.result c.read-source.ensures.table c.requires.settled))
 
 -- the columns of a Series
 pub duplicated-requires-clause-known : goal.duplicated-requires-clause-known
@@ -39,45 +37,17 @@ pub sort_index-requires-clause-known : goal.sort_index-requires-clause-known
 sort_index-requires-clause-known c = known_table (world c.args.store.now c.args.dict.now) c.args.on.0 c.read-source.result c.read-source.ensures.table c.read-source.ensures.whole c.requires.settled
 
 pub duplicated-requires-clause-places : goal.duplicated-requires-clause-places
-duplicated-requires-clause-places c = grind (arith, places_inside)
-
-pub returns-in_ok-places-in-DuplicatedSeries : goal.returns-in_ok-places-in-DuplicatedSeries
-returns-in_ok-places-in-DuplicatedSeries c =
-    let w = world c.args.store.now c.args.dict.now in
-    let s = table_value w.texts c.read-source.result in
-    let at : c.read-source.result ≡ table_at w.tables c.args.on.0 = grind arith in
-    makes_by w (method.Rows c.args.method) (method.Rows row_method.DuplicatedSeries) c.args.bound.now c.read-source.result _ c.duplicated.result (λ a t. duplicated_among t (all_places t)) _ at (ap method.Rows c.in-DuplicatedSeries.is) c.requires.call.parameters (λ v. refl)
-    (cc (all_are w.texts c.read-source.result c.in_ok-places-in-DuplicatedSeries.places c.columns.result c.in_ok-places-in-DuplicatedSeries.ensures c.columns.ensures))
-    c.duplicated.ensures
+duplicated-requires-clause-places = grind (arith, places_inside)
 
 -- the columns that are named, or all
-pub returns-in_err-places-in-DuplicatedFrame : goal.returns-in_err-places-in-DuplicatedFrame
-returns-in_err-places-in-DuplicatedFrame c = grind (arith, err_from_is_err_and, makes_by, refused_on)
-
-pub duplicated-requires-in-DuplicatedFrame-clause-places : goal.duplicated-requires-in-DuplicatedFrame-clause-places
-duplicated-requires-in-DuplicatedFrame-clause-places c = grind arith
-
-pub returns-in_ok-places-in-DuplicatedFrame : goal.returns-in_ok-places-in-DuplicatedFrame
-returns-in_ok-places-in-DuplicatedFrame c =
-    let w = world c.args.store.now c.args.dict.now in
-    let s = table_value w.texts c.read-source.result in
-    let at : c.read-source.result ≡ table_at w.tables c.args.on.0 = grind arith in
-    makes_by w (method.Rows c.args.method) (method.Rows row_method.DuplicatedFrame) c.args.bound.now c.read-source.result _ c.duplicated-in-DuplicatedFrame.result (λ a t. duplicated_result t (a 0)) _ at (ap method.Rows c.in-DuplicatedFrame.is) c.requires.call.parameters (λ v. refl)
-    (grind arith)
-    c.duplicated-in-DuplicatedFrame.ensures
-
 -- in the order of their cells
 pub returns-in_ok-places-in-SortValuesSeries : goal.returns-in_ok-places-in-SortValuesSeries
 returns-in_ok-places-in-SortValuesSeries c =
     let w = world c.args.store.now c.args.dict.now in
-    let s = table_value w.texts c.read-source.result in
     let at : c.read-source.result ≡ table_at w.tables c.args.on.0 = grind arith in
     makes_by w (method.Rows c.args.method) (method.Rows row_method.SortValuesSeries) c.args.bound.now c.read-source.result _ c.sort_values.result (λ a t. on (truth_in (a 0)) (λ b. sort_values_result t b (all_places t))) _ at (ap method.Rows c.in-SortValuesSeries.is) c.requires.call.parameters (λ v. refl)
     (grind (arith, all_are w.texts c.read-source.result c.in_ok-places-in-SortValuesSeries.places c.columns-in-SortValuesSeries.result c.in_ok-places-in-SortValuesSeries.ensures c.columns-in-SortValuesSeries.ensures, c.truth.ensures w.tables w.texts))
     c.sort_values.ensures
-
-pub returns-in_err-places-in-SortValuesFrame : goal.returns-in_err-places-in-SortValuesFrame
-returns-in_err-places-in-SortValuesFrame c = grind (arith, err_from_is_err_and, makes_by, refused_on)
 
 pub returns-in_ok-places-in-SortValuesFrame : goal.returns-in_ok-places-in-SortValuesFrame
 returns-in_ok-places-in-SortValuesFrame c =
@@ -90,14 +60,5 @@ returns-in_ok-places-in-SortValuesFrame c =
     ∙ ap (λ o. on o (λ b. sort_by_result s b g)) (c.truth-ascending.ensures w.tables w.texts))
     c.sort_values-in-SortValuesFrame.ensures
 
-pub returns-in-SortIndex : goal.returns-in-SortIndex
-returns-in-SortIndex c =
-    let w = world c.args.store.now c.args.dict.now in
-    let s = table_value w.texts c.read-source.result in
-    let at : c.read-source.result ≡ table_at w.tables c.args.on.0 = grind arith in
-    makes_by w (method.Rows c.args.method) (method.Rows row_method.SortIndex) c.args.bound.now c.read-source.result _ c.sort_index.result (λ a t. on (truth_in (a 0)) (λ b. sorted_result t b t.labels)) _ at (ap method.Rows c.in-SortIndex.is) c.requires.call.parameters (λ v. refl)
-    (grind arith)
-    c.sort_index.ensures
-
 pub sort_values-requires-clause-places : goal.sort_values-requires-clause-places
-sort_values-requires-clause-places c = grind (arith, places_inside)
+sort_values-requires-clause-places = grind (arith, places_inside)

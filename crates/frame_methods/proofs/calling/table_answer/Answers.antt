@@ -17,8 +17,6 @@ use Rattle.frame_methods.proofs.calling.table_answer.Goals as goal
 pub returns-in-Head : goal.returns-in-Head
 returns-in-Head c =
     let fits : FitsSigned w64 c.whole.result = search rules in
-    let w = world c.args.store.now c.args.dict.now in
-    let t = table_value c.args.dict.now (table_at (tables c.args.store.now) c.args.on.0) in
     forms_so _ _ _ _ _
     (grind (arith, answer_by))
     (simp to_z-of_z at (c.head.ensures c.args.dict.now c.requires.settled))
@@ -26,8 +24,6 @@ returns-in-Head c =
 pub returns-in-Tail : goal.returns-in-Tail
 returns-in-Tail c =
     let fits : FitsSigned w64 c.whole-in-Tail.result = search rules in
-    let w = world c.args.store.now c.args.dict.now in
-    let t = table_value c.args.dict.now (table_at (tables c.args.store.now) c.args.on.0) in
     forms_so _ _ _ _ _
     (grind (arith, answer_by))
     (simp to_z-of_z at (c.tail.ensures c.args.dict.now c.requires.settled))
@@ -53,8 +49,6 @@ rename_frame-requires-clause-given c = search pairs_settled
 -- a text
 pub returns-in-ToCsv : goal.returns-in-ToCsv
 returns-in-ToCsv c =
-    let w = world c.args.store.now c.args.dict.now in
-    let t = table_value c.args.dict.now (table_at (tables c.args.store.now) c.args.on.0) in
     forms_so _ _ _ _ _
     (grind (arith, answer_by))
     (c.answer_made.ensures c.args.dict.now _ c.to_csv-text.ensures.longer c.requires.settled c.to_csv-text.ensures.answer)

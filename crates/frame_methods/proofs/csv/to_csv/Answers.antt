@@ -1,7 +1,6 @@
-use Rattle.std.proofs.{lemmas.{List.{length-map}, Bool.Decides.{nat_tests}}, Common.{arith, ◌≡◌, ◌<◌, false, length, rules}}
+use Rattle.std.proofs.{lemmas.{List.{length-map}, Bool.Decides.{nat_tests}}, Common.{arith}}
 use Rattle.frame_methods.proofs.csv.to_csv.Goals as goal
 
 pub returns-clause-answer : goal.returns-clause-answer
 returns-clause-answer c =
-    let some : c.args.index ≡ false → 0 < length c.read-table.result.columns = search rules in
     grind (arith, c.read-table.ensures.table, length-map, nat_tests)

@@ -17,8 +17,7 @@ returns-in_err-headings-clause-answers c = λ live.
 
 pub renamed-requires-clause-name : goal.renamed-requires-clause-name
 renamed-requires-clause-name c =
-    let settled = object_settled c.args.dict.now (tables c.args.store.now) c.args.on.0 c.read.result c.read.ensures.table c.requires.settled in
-    rw c.in_ok-headings.ensures.name (columns_name_part c.args.dict.now c.read.result settled)
+    rw c.in_ok-headings.ensures.name (columns_name_part c.args.dict.now c.read.result (object_settled c.args.dict.now (tables c.args.store.now) c.args.on.0 c.read.result c.read.ensures.table c.requires.settled))
 
 pub returns-clause-answers : goal.returns-clause-answers
 returns-clause-answers c = λ live.

@@ -1,7 +1,7 @@
 use Rattle.{
   std.proofs.Common.{arith, refl},
   table_meaning.specs.Table.{heading_value},
-  frame_methods.proofs.NameLaws.{named_settled, meant_so},
+  frame_methods.proofs.NameLaws.{named_settled},
 }
 use Rattle.frame_methods.proofs.renaming.rename_series.Goals as goal
 
@@ -9,6 +9,3 @@ pub renamed-requires-clause-labels : goal.renamed-requires-clause-labels
 renamed-requires-clause-labels c =
     named_settled (λ ts. heading_value ts c.args.name) (λ h. h) c.args.dict.now c.args.name c.push.new.self.labels c.requires.name (λ ts. refl)
     (grind arith)
-
-pub returns-clause-answers : goal.returns-clause-answers
-returns-clause-answers c = grind (arith, meant_so)

@@ -10,7 +10,7 @@ pub chosen_table-requires-clause-columns : goal.chosen_table-requires-clause-col
 chosen_table-requires-clause-columns c = places_inside c.in_ok-columns.columns c.columns-2.result (length c.args.on.now.columns) c.in_ok-columns.ensures c.columns-2.ensures
 
 pub chosen_table-requires-clause-headed : goal.chosen_table-requires-clause-headed
-chosen_table-requires-clause-headed c = grind (arith, places_count)
+chosen_table-requires-clause-headed = grind (arith, places_count)
 
 pub returns : goal.returns
 returns c = λ texts settled.

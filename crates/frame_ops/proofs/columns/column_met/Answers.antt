@@ -1,19 +1,14 @@
 use Rattle.{
-  std.proofs.Common.{◌≡◌, refl, subst, sym, true, []},
-  nullable_array.specs.Answers.{Answers},
+  std.proofs.Common.{◌≡◌, refl, subst, true, []},
   column_operators.specs.Tasks.{operator_of},
   table_meaning.specs.Table.{column_at},
-  frame_ops.{specs.{declared.other.Other.{Other}, Pairs.{pair_at, kinds_meet, meeting_value, column_meant}}, proofs.AnswerLaws.{beside_scalar, across_scalar}},
+  frame_ops.{specs.{declared.other.Other.{Other}, Pairs.{pair_at, kinds_meet}}, proofs.AnswerLaws.{beside_scalar, across_scalar}},
 }
 use Rattle.frame_ops.proofs.columns.column_met.Goals as goal
 
 pub returns-in-Scalar-clause-answer : goal.returns-in-Scalar-clause-answer
-returns-in-Scalar-clause-answer c =
-    subst (λ (o : Other). Answers c.with_scalar.new.dict c.with_scalar.result (column_meant (operator_of c.args.op) (meeting_value c.args.dict.now (pair_at o c.args.place (column_at c.args.on.now.columns c.args.place))))) (sym c.in-Scalar.is)
-    (beside_scalar _ _ (operator_of c.args.op) _ _ _ _ _ _ c.column-column.ensures.column refl c.with_scalar.ensures.answer)
+returns-in-Scalar-clause-answer c = rw c.in-Scalar.is (beside_scalar _ _ (operator_of c.args.op) _ _ _ _ _ _ c.column-column.ensures.column refl c.with_scalar.ensures.answer)
 
 pub returns-in-Across-clause-answer : goal.returns-in-Across-clause-answer
-returns-in-Across-clause-answer c =
-    subst (λ (o : Other). Answers c.with_scalar-in-Across.new.dict c.with_scalar-in-Across.result (column_meant (operator_of c.args.op) (meeting_value c.args.dict.now (pair_at o c.args.place (column_at c.args.on.now.columns c.args.place))))) (sym c.in-Across.is)
-    (across_scalar _ _ (operator_of c.args.op) _ _ _ c.in-Across.series c.args.place c.cell-cell.result c.in-Across.left _ c.column-column.ensures.column c.column-in-Across.ensures.column c.cell-cell.ensures.cell (c.cell-cell.ensures.held [])
+returns-in-Across-clause-answer c = rw c.in-Across.is (across_scalar _ _ (operator_of c.args.op) _ _ _ c.in-Across.series c.args.place c.cell-cell.result c.in-Across.left _ c.column-column.ensures.column c.column-in-Across.ensures.column c.cell-cell.ensures.cell (c.cell-cell.ensures.held [])
     (subst (λ (o : Other). kinds_meet (operator_of c.args.op) (pair_at o c.args.place (column_at c.args.on.now.columns c.args.place)) ≡ true) c.in-Across.is c.requires.kinds) c.with_scalar-in-Across.ensures.answer)

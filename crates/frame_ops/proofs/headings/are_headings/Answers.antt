@@ -1,16 +1,13 @@
 use Rattle.{
-  std.proofs.Common.{◌≡◌, ◌<◌, length, arith, rules, subst, true, Some},
-  meaning.specs.Cell.{label_datum},
+  std.proofs.Common.{◌≡◌, ◌<◌, length, arith},
   multi_index.specs.Axes.{HaveLevels},
-  table_meaning.specs.Table.{heading_value},
-  form_meaning.specs.Finish.{same_heading},
   frame_store.proofs.Settling.{headings_part, labels_part},
   frame_ops.proofs.HeadingLaws.{heading_settled, label_settled, other_rows, other_levels, one_more_heading},
 }
 use Rattle.frame_ops.proofs.headings.are_headings.Goals as goal
 
 pub returns-then-rows-columns : goal.returns-then-rows-columns
-returns-then-rows-columns c = grind (arith, other_rows)
+returns-then-rows-columns = grind (arith, other_rows)
 
 pub returns-then-levels-ne1 : goal.returns-then-levels-ne1
 returns-then-levels-ne1 c =
@@ -36,6 +33,4 @@ loop-place-preserved c =
     let lt' : c.loop-place.place < length c.args.frame.now.headings = omega arith in
     let one : c.levels.result ≡ 1 = omega arith in
     let alike : HaveLevels c.levels.result c.args.series.now.labels = grind arith in
-    let same : same_heading (Some (label_datum c.args.dict.now c.label.result)) (heading_value c.args.dict.now c.heading.result) ≡ true = search rules in
-    one_more_heading c.args.dict.now c.args.series.now.labels c.args.frame.now.headings c.loop-place.place c.label.result c.heading.result _ (subst (λ n. HaveLevels n c.args.series.now.labels) one alike) lt lt'
-    c.label.ensures c.heading.ensures.value same c.loop-place.invariant
+    grind (arith, one_more_heading)

@@ -1,12 +1,9 @@
 use Rattle.{
   std.proofs.Common.{◌<◌, length, arith},
   frame_store.proofs.Settling.{headings_part},
-  frame_ops.proofs.HeadingLaws.{heading_settled, other_count},
+  frame_ops.proofs.HeadingLaws.{heading_settled},
 }
 use Rattle.frame_ops.proofs.headings.same_headings.Goals as goal
-
-pub returns-then-columns : goal.returns-then-columns
-returns-then-columns c = other_count c.args.dict.now c.args.a.now.headings c.args.b.now.headings (λ e. omega arith)
 
 pub same_heading-requires-clause-a : goal.same_heading-requires-clause-a
 same_heading-requires-clause-a c =

@@ -1,15 +1,12 @@
 use Rattle.{
   std.proofs.Common.{arith, ◌∙◌},
+  frame_ops.proofs.JoinedTable.{sides_beyond, meant_of, columns_of, side_given},
   column_operators.specs.Tasks.{operator_of},
-  frame_ops.proofs.JoinedTable.{sides_beyond, opposite_of, meant_of, columns_of, side_given},
 }
 use Rattle.frame_ops.proofs.joining.joined_columns.Goals as goal
 
 pub returns-then-not-within_limits-clause-made : goal.returns-then-not-within_limits-clause-made
-returns-then-not-within_limits-clause-made c = grind (arith, sides_beyond)
-
-pub infix_columns-requires-clause-opposite : goal.infix_columns-requires-clause-opposite
-infix_columns-requires-clause-opposite c = grind (arith, opposite_of)
+returns-then-not-within_limits-clause-made = grind (arith, sides_beyond)
 
 pub infix_columns-requires-clause-given : goal.infix_columns-requires-clause-given
 infix_columns-requires-clause-given c =

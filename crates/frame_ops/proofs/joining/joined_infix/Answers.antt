@@ -1,53 +1,21 @@
 use Rattle.{
-  frame_ops.proofs.{NamingLaws.{counted_by, fits_by}, JoinedTable.{joined_refused, framed_settled, joined_is_settled, joined_is_meant, axes_joined, axis_labels, axis_names, axes_levels, on_axis}},
+  frame_ops.proofs.{NamingLaws.{counted_by, fits_by}, JoinedTable.{joined_refused, framed_settled, joined_is_settled, joined_is_meant, axes_joined, on_axis}},
   std.proofs.{lemmas.List.{length-map}, Common.{arith, ◌≡◌, ◌∙◌, Ok, Err, refl, map, sym, ap, rules}},
   column_operators.specs.Tasks.{operator_of},
   label_align.specs.declared.joined.Joined.{Joined},
-  table_meaning.specs.Table.{table_value},
   frame_store.specs.{Parts.{block_column, headings_of, table_with}, Shown.{headings_value}},
-  form_parts.proofs.TableMade.{refused_on},
 }
 use Rattle.form_meaning.specs.Infix as meant
 use Rattle.frame_ops.proofs.joining.joined_infix.Goals as goal
 
-pub joined_rows-requires-clause-levels : goal.joined_rows-requires-clause-levels
-joined_rows-requires-clause-levels c = search axes_levels
-
-pub joined_rows-requires-clause-given_a : goal.joined_rows-requires-clause-given_a
-joined_rows-requires-clause-given_a c = search axis_labels
-
-pub joined_rows-requires-clause-given_b : goal.joined_rows-requires-clause-given_b
-joined_rows-requires-clause-given_b c = search axis_labels
-
-pub name_levels-requires-clause-levels : goal.name_levels-requires-clause-levels
-name_levels-requires-clause-levels c = search axes_levels
-
-pub name_levels-requires-clause-count : goal.name_levels-requires-clause-count
-name_levels-requires-clause-count c = grind arith
-
-pub name_levels-requires-clause-given_a : goal.name_levels-requires-clause-given_a
-name_levels-requires-clause-given_a c = search axis_names
-
-pub name_levels-requires-clause-given_b : goal.name_levels-requires-clause-given_b
-name_levels-requires-clause-given_b c = search axis_names
-
-pub joined_columns-requires-clause-inside : goal.joined_columns-requires-clause-inside
-joined_columns-requires-clause-inside c = grind arith
-
 pub new-requires-clause-whole : goal.new-requires-clause-whole
 new-requires-clause-whole c = rw c.shape.ensures (grind (arith, counted_by, length-map, fits_by))
-
-pub returns-in_err-rows-clause-makes : goal.returns-in_err-rows-clause-makes
-returns-in_err-rows-clause-makes c = grind (arith, refused_on, axes_joined)
 
 pub returns-in_err-blocks-clause-makes : goal.returns-in_err-blocks-clause-makes
 returns-in_err-blocks-clause-makes c =
     let old = c.args.dict.now in
-    let new = c.joined_columns.new.dict in
-    let v = table_value old c.args.a.now in
-    let w = table_value old c.args.b.now in
     let is : c.from_residual-in_err-blocks.result ≡ Err c.in_err-blocks.field-0.0 = search rules in
-    rw is (joined_refused old new c.args.a.now c.args.b.now c.args.naming (on_axis c.in_ok-rows.rows c.name_levels.new.axis c.name_levels.ensures.tuples) c.name_levels.new.axis (headings_of c.args.a.now) (operator_of c.args.op) c.joined_columns.result c.in_err-blocks.field-0.0
+    rw is (joined_refused old c.joined_columns.new.dict c.args.a.now c.args.b.now c.args.naming (on_axis c.in_ok-rows.rows c.name_levels.new.axis c.name_levels.ensures.tuples) c.name_levels.new.axis (headings_of c.args.a.now) (operator_of c.args.op) c.joined_columns.result c.in_err-blocks.field-0.0
     (sym (axes_joined old c.axis.result.now c.axis-2.result.now c.args.a.now c.args.b.now c.axis.ensures c.axis-2.ensures) ∙ c.in_ok-rows.ensures.rows ∙ ap Ok (grind arith)) c.in_err-blocks.was c.joined_columns.ensures.made)
 
 pub returns-clause-makes : goal.returns-clause-makes
@@ -60,11 +28,9 @@ returns-clause-makes c =
     let headings = c.in_ok-headings.headings in
     let same : axis.tuples ≡ c.in_ok-rows.rows.axis.tuples = search in
     let rows : Joined = search on_axis in
-    let rows_are =
-    sym (search axes_joined) ∙ c.in_ok-rows.ensures.rows ∙ ap Ok (grind arith) in
     let names : headings_value old axis.names ≡ meant.common_names (headings_value old a.level_names) (headings_value old b.level_names) = grind arith in
     let is = c.new.ensures ∙ ap (λ s. table_with s axis headings (map block_column c.in_ok-blocks.blocks)) c.shape.ensures in
     let settled = framed_settled old new a b c.args.naming rows axis headings refl c.in_ok-headings.ensures c.requires.known_a.given c.requires.name (rw same c.in_ok-rows.ensures.given) c.name_levels.ensures.given in (
-      joined_is_meant old new a b c.args.naming rows axis headings refl c.in_ok-headings.ensures c.in_ok-blocks.blocks c.new.result is (operator_of c.args.op) rows_are names c.joined_columns.ensures.longer settled c.in_ok-blocks.ensures.made,
+      joined_is_meant old new a b c.args.naming rows axis headings refl c.in_ok-headings.ensures c.in_ok-blocks.blocks c.new.result is (operator_of c.args.op) (sym (search axes_joined) ∙ c.in_ok-rows.ensures.rows ∙ ap Ok (grind arith)) names c.joined_columns.ensures.longer settled c.in_ok-blocks.ensures.made,
       joined_is_settled old new a b c.args.naming rows axis headings refl c.in_ok-headings.ensures c.in_ok-blocks.blocks c.new.result is c.joined_columns.ensures.longer settled c.in_ok-blocks.ensures.columns,
     )

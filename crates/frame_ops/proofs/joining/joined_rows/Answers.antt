@@ -1,5 +1,5 @@
 use Rattle.{
-  std.proofs.{Common.{arith, length}, lemmas.List.{length-replicate}},
+  std.proofs.Common.{arith, length},
   row_keys.specs.Keys.{same_tuple},
   align_meaning.proofs.DifferLaws.{joined_apart},
   label_align.{specs.{Joined.{lists_seen}, Tuples.{tuple_less}}, proofs.SameLaws.{tuple_decides}},
@@ -15,10 +15,10 @@ pub outer-requires-clause-given_b : goal.outer-requires-clause-given_b
 outer-requires-clause-given_b c = search tuples_given
 
 pub returns-in-Ok-clause-rows : goal.returns-in-Ok-clause-rows
-returns-in-Ok-clause-rows c = grind (arith, rows_meant)
+returns-in-Ok-clause-rows = grind (arith, rows_meant)
 
 pub returns-in-Err-clause-rows : goal.returns-in-Err-clause-rows
-returns-in-Err-clause-rows c = grind (arith, rows_refused)
+returns-in-Err-clause-rows = grind (arith, rows_refused)
 
 pub returns-in-Ok-clause-given : goal.returns-in-Ok-clause-given
 returns-in-Ok-clause-given c =
@@ -35,9 +35,6 @@ returns-in-Ok-clause-inside c =
     is_joined c.args.dict.now a b c.in-Ok.rows
     (rows_inside c.args.dict.now a.tuples b.tuples c.len.ensures.distinct c.requires.given_a c.requires.given_b (length a.names)
     (grind arith) (grind arith) c.in-Ok.rows c.in-Ok.ensures.rows)
-
-pub returns-in-Ok-clause-names : goal.returns-in-Ok-clause-names
-returns-in-Ok-clause-names c = grind (arith, length-replicate)
 
 pub returns-in-Ok-clause-apart : goal.returns-in-Ok-clause-apart
 returns-in-Ok-clause-apart c = λ left right. joined_apart same_tuple (tuple_less c.args.dict.now) tuple_decides c.args.a.now.tuples c.args.b.now.tuples left right (lists_seen c.in-Ok.rows) c.in-Ok.ensures.rows

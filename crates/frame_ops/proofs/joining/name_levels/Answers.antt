@@ -6,9 +6,6 @@ use Rattle.{
 }
 use Rattle.frame_ops.proofs.joining.name_levels.Goals as goal
 
-pub loop-level-init : goal.loop-level-init
-loop-level-init c = grind arith
-
 pub common_name-requires-clause-a : goal.common_name-requires-clause-a
 common_name-requires-clause-a c =
     let lt : c.loop-level.level < length c.args.a.now.names = omega arith in
@@ -26,18 +23,16 @@ loop-level-preserved c =
     let level = c.loop-level.level in
     let lt : level < length names = omega (arith, c.loop-level.invariant.count) in
     let set = ap (λ x. x.names) c.set_name.ensures in
-    let a_at = sym (get_or_from_slice_get c.args.a.now.names level c.name.result None c.name.ensures) in
-    let b_at = sym (get_or_from_slice_get c.args.b.now.names level c.name-in-loop-level.result None c.name-in-loop-level.ensures) in
     record {
       tuples = ap (λ x. x.tuples) c.set_name.ensures ∙ c.loop-level.invariant.tuples;
       count = ap (λ l. length l) set ∙ length-set names level c.common_name.result ∙ c.loop-level.invariant.count;
       named = one_named (λ k h. heading_value dict h ≡ common_name (heading_value dict (slice_index_or c.args.a.now.names k None)) (heading_value dict (slice_index_or c.args.b.now.names k None))) names c.set_name.new.self.names level c.common_name.result set lt c.loop-level.invariant.named
-          (c.common_name.ensures.name ∙ (λ i. common_name (heading_value dict (a_at i)) (heading_value dict (b_at i))));
+          (c.common_name.ensures.name ∙ (λ i. common_name (heading_value dict ((sym (get_or_from_slice_get c.args.a.now.names level c.name.result None c.name.ensures)) i)) (heading_value dict ((sym (get_or_from_slice_get c.args.b.now.names level c.name-in-loop-level.result None c.name-in-loop-level.ensures)) i))));
       given = one_named (λ k h. IsSettled heading_value dict h) names c.set_name.new.self.names level c.common_name.result set lt c.loop-level.invariant.given c.common_name.ensures.settled;
     }
 
 pub returns-clause-names : goal.returns-clause-names
-returns-clause-names c = grind (arith, all_named)
+returns-clause-names = grind (arith, all_named)
 
 pub returns-clause-given : goal.returns-clause-given
 returns-clause-given c = names_given c.args.dict.now c.loop-level.axis.names (λ k lt. c.loop-level.invariant.given k (omega (arith, c.loop-level.invariant.count)))

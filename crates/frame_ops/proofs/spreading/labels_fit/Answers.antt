@@ -18,9 +18,8 @@ returns-then-not-fits_rows c =
     let keys = map heading_tuple c.args.frame.now.headings in
     let lt' : c.loop-place.place < length c.args.frame.now.columns = omega arith in
     let lt : c.loop-place.place < length keys = omega (arith, lt', length-map c.args.frame.now.headings heading_tuple, c.requires.headed) in
-    let rows = c.rows.ensures ∙ (λ i. slice_index_or ((c.in_ok-found.ensures ∙ (λ j. map (rows_with (c.axis.ensures j).tuples) (c.in_ok-labels.ensures j))) i) c.loop-place.place []) in
     let fits : (if are_some c.rows.result.now then same_kind (column_at c.args.frame.now.columns c.loop-place.place).kind (column_at c.args.series.now.columns 0).kind else true) ≡ false = grind arith in
-    one_unfit (column_at c.args.series.now.columns 0).kind c.args.series.now.labels keys c.args.frame.now.columns c.loop-place.place c.rows.result.now _ lt lt' rows fits c.loop-place.invariant
+    one_unfit (column_at c.args.series.now.columns 0).kind c.args.series.now.labels keys c.args.frame.now.columns c.loop-place.place c.rows.result.now _ lt lt' (c.rows.ensures ∙ (λ i. slice_index_or ((c.in_ok-found.ensures ∙ (λ j. map (rows_with (c.axis.ensures j).tuples) (c.in_ok-labels.ensures j))) i) c.loop-place.place [])) fits c.loop-place.invariant
 
 pub loop-place-preserved : goal.loop-place-preserved
-loop-place-preserved c = grind (arith, length-map, one_more_fits)
+loop-place-preserved = grind (arith, length-map, one_more_fits)

@@ -7,10 +7,10 @@ use Rattle.{
 use Rattle.frame_ops.proofs.spreading.spread_frame.Goals as goal
 
 pub returns-in_err-headings-clause-made : goal.returns-in_err-headings-clause-made
-returns-in_err-headings-clause-made c = grind (arith, spread_refused)
+returns-in_err-headings-clause-made = grind (arith, spread_refused)
 
 pub returns-then-not-within_limits-clause-made : goal.returns-then-not-within_limits-clause-made
-returns-then-not-within_limits-clause-made c = grind (arith, spread_beyond)
+returns-then-not-within_limits-clause-made = grind (arith, spread_beyond)
 
 pub new-requires-clause-whole : goal.new-requires-clause-whole
 new-requires-clause-whole c =
@@ -30,6 +30,3 @@ returns-clause-known c =
     subst (IsKnownTable c.args.dict.now)
     (grind arith)
     (spread_known c.args.dict.now c.args.frame.now c.args.series.now c.requires.known_frame c.requires.known_series c.requires.frame c.requires.series c.requires.level c.in_ok-headings.ensures.different)
-
-pub returns-clause-frame : goal.returns-clause-frame
-returns-clause-frame c = grind arith

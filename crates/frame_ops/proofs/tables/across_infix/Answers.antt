@@ -1,5 +1,5 @@
 use Rattle.{
-  std.proofs.Common.{arith, ◌≡◌, ◌∙◌, sym, true, rules},
+  std.proofs.Common.{◌≡◌, ◌∙◌, sym, true, rules},
   column_operators.specs.Tasks.{operator_of},
   frame_ops.proofs.InfixLaws.{makes_as, across_is_meant, across_opposite, series_given},
 }
@@ -11,7 +11,7 @@ table_met-requires-clause-opposite c =
     across_opposite c.args.dict.now c.args.frame.now c.args.series c.args.left c.requires.known_frame.whole c.requires.known_series.whole c.requires.series (sym c.are_headings.ensures ∙ same)
 
 pub table_met-requires-clause-other : goal.table_met-requires-clause-other
-table_met-requires-clause-other c = series_given c.args.dict.now c.args.series c.requires.known_series.whole c.requires.series c.requires.known_series.given
+table_met-requires-clause-other c = search series_given
 
 pub returns-clause-makes : goal.returns-clause-makes
 returns-clause-makes c =
@@ -19,6 +19,3 @@ returns-clause-makes c =
     makes_as _ _ _ _ c.table_met.ensures.makes
     (across_is_meant (operator_of c.args.op) c.args.dict.now c.args.frame.now c.args.series c.args.left c.requires.known_frame.whole (sym c.are_headings.ensures ∙ same)
     (across_opposite c.args.dict.now c.args.frame.now c.args.series c.args.left c.requires.known_frame.whole c.requires.known_series.whole c.requires.series (sym c.are_headings.ensures ∙ same)).1)
-
-pub returns-then-not-are_headings-clause-makes : goal.returns-then-not-are_headings-clause-makes
-returns-then-not-are_headings-clause-makes c = grind (arith, makes_as)

@@ -7,10 +7,10 @@ use Rattle.{
 use Rattle.frame_ops.proofs.tables.expect_joined.Goals as goal
 
 pub returns-then-not-columns_fit-clause-passes : goal.returns-then-not-columns_fit-clause-passes
-returns-then-not-columns_fit-clause-passes c = grind (arith, kinds_differ)
+returns-then-not-columns_fit-clause-passes = grind (arith, kinds_differ)
 
 pub returns-then-levels-clause-passes : goal.returns-then-levels-clause-passes
-returns-then-levels-clause-passes c = grind (arith, levels_differ)
+returns-then-levels-clause-passes = grind (arith, levels_differ)
 
 pub returns-then-compares-clause-passes : goal.returns-then-compares-clause-passes
 returns-then-compares-clause-passes c = λ texts rest.
@@ -18,9 +18,6 @@ returns-then-compares-clause-passes c = λ texts rest.
     let levels : length c.args.a.now.level_names ≡ length c.args.b.now.level_names = omega arith in
     let compared : compares (operator_of c.args.op) ≡ true = search rules in
     (tests_passed (operator_of c.args.op) texts c.args.a.now c.args.b.now c.requires rest kinds true levels compared, λ more. refl)
-
-pub returns-clause-fit : goal.returns-clause-fit
-returns-clause-fit c = grind arith
 
 pub returns-clause-passes : goal.returns-clause-passes
 returns-clause-passes c = λ texts rest.

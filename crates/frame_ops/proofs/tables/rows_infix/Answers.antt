@@ -2,18 +2,12 @@ use Rattle.{
   std.proofs.{Common.{arith, ◌≡◌, true, rules}, lemmas.List.{length-map}},
   form_meaning.specs.Infix.{same_tuples},
   frame_store.specs.Shown.{labels_value},
-  frame_ops.proofs.InfixLaws.{makes_as, rows_are_meant, rows_count, table_given},
+  frame_ops.proofs.InfixLaws.{makes_as, rows_are_meant, table_given},
 }
 use Rattle.frame_ops.proofs.tables.rows_infix.Goals as goal
 
-pub unequal_infix-requires-clause-unequal : goal.unequal_infix-requires-clause-unequal
-unequal_infix-requires-clause-unequal c = grind arith
-
-pub table_met-requires-clause-opposite : goal.table_met-requires-clause-opposite
-table_met-requires-clause-opposite c = grind (arith, rows_count)
-
 pub table_met-requires-clause-other : goal.table_met-requires-clause-other
-table_met-requires-clause-other c = table_given c.args.dict.now c.args.b c.requires.known_b.given
+table_met-requires-clause-other c = search table_given
 
 pub returns-clause-makes : goal.returns-clause-makes
 returns-clause-makes c =

@@ -2,7 +2,6 @@ use Rattle.{
   std.proofs.Common.{arith, ◌∙◌, sym},
   column_operators.specs.Tasks.{operator_of},
   table_meaning.specs.Table.{table_value},
-  form_parts.proofs.TableMade.{refused_on},
   frame_ops.proofs.{InfixLaws.{makes_as}, WideLaws.{known_wide, widened_seen}},
 }
 use Rattle.form_meaning.specs.Infix as meant
@@ -14,15 +13,6 @@ unequal_columns-requires-clause-known_a c = rw (c.read-on.ensures ∙ c.in_ok-le
 pub unequal_columns-requires-clause-known_b : goal.unequal_columns-requires-clause-known_b
 unequal_columns-requires-clause-known_b c = rw (c.read.ensures ∙ c.in_ok-right.ensures) (known_wide c.args.dict.now c.args.b.now c.args.a.now c.in_ok-joined.joined.axis.tuples c.in_ok-joined.joined.right c.in_ok-joined.joined.left c.requires.known_b c.requires.frame_b c.in_ok-joined.ensures.keys c.in_ok-joined.ensures.given c.in_ok-joined.ensures.right c.in_ok-joined.ensures.left)
 
-pub unequal_columns-requires-clause-frame : goal.unequal_columns-requires-clause-frame
-unequal_columns-requires-clause-frame c = grind arith
-
-pub unequal_columns-requires-clause-columns : goal.unequal_columns-requires-clause-columns
-unequal_columns-requires-clause-columns c = grind arith
-
-pub returns-in_err-joined-clause-makes : goal.returns-in_err-joined-clause-makes
-returns-in_err-joined-clause-makes c = grind (arith, refused_on)
-
 pub returns-clause-makes : goal.returns-clause-makes
 returns-clause-makes c =
     let texts = c.args.dict.now in
@@ -30,10 +20,7 @@ returns-clause-makes c =
     let a = c.args.a.now in
     let b = c.args.b.now in
     let j = c.in_ok-joined.joined in
-    let left = c.read-on.ensures ∙ c.in_ok-left.ensures in
-    let right = c.read.ensures ∙ c.in_ok-right.ensures in
-    let joined = c.in_ok-joined.ensures.columns in
     makes_as _ _ _ _ c.unequal_columns.ensures.makes
-    ((λ i. meant.unequal_columns op (table_value texts (left i)) (table_value texts (right i)))
+    ((λ i. meant.unequal_columns op (table_value texts ((c.read-on.ensures ∙ c.in_ok-left.ensures) i)) (table_value texts ((c.read.ensures ∙ c.in_ok-right.ensures) i)))
     ∙ (λ i. meant.unequal_columns op (widened_seen a b j.axis.tuples j.left j.right texts i) (widened_seen b a j.axis.tuples j.right j.left texts i))
     ∙ sym (grind arith))

@@ -1,5 +1,5 @@
 use Rattle.{
-  std.proofs.Common.{◌<◌, [], length, arith, slice_get, slice_index_or, take_all},
+  std.proofs.Common.{◌<◌, [], length, arith, slice_get, slice_index_or},
   multi_index.proofs.SideLaws.{tuple_there},
   frame_ops.proofs.WideLaws.{one_more_key},
 }
@@ -11,6 +11,3 @@ loop-place-preserved c =
     let there = tuple_there c.args.keys.now c.loop-place.place lt in
     one_more_key c.args.name c.args.keys.now.tuples c.loop-place.place (slice_index_or c.args.keys.now.tuples c.loop-place.place []) c.label.result c.loop-place.headings c.push.new.self lt c.loop-place.invariant there
     (grind (arith, slice_get)) c.in_ok-push.ensures.ok
-
-pub returns : goal.returns
-returns c = grind (arith, take_all)

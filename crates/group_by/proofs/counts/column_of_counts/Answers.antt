@@ -9,7 +9,7 @@ pub loop-count-init : goal.loop-count-init
 loop-count-init c = search no_numbers
 
 pub push-requires : goal.push-requires
-push-requires c = grind arith
+push-requires = grind arith
 
 pub loop-count-preserved : goal.loop-count-preserved
 loop-count-preserved c =

@@ -5,7 +5,7 @@ use Rattle.{
 use Rattle.group_by.proofs.counts.count_rows.Goals as goal
 
 pub count_one-requires-clause-below : goal.count_one-requires-clause-below
-count_one-requires-clause-below c = grind arith
+count_one-requires-clause-below = grind arith
 
 pub count_one-requires-clause-room : goal.count_one-requires-clause-room
 count_one-requires-clause-room c =
@@ -13,7 +13,7 @@ count_one-requires-clause-room c =
     room c.args.groups.now.codes c.loop-row.row c.args.groups.now.count c.loop-row.counts (omega arith) (subst (λ n. n < 2 ^ 64) c.rows-row-end.ensures small) c.loop-row.invariant.size c.loop-row.invariant.each
 
 pub loop-row-init : goal.loop-row-init
-loop-row-init c = grind arith
+loop-row-init = grind arith
 
 pub loop-row-preserved : goal.loop-row-preserved
 loop-row-preserved c =
@@ -26,4 +26,4 @@ loop-row-preserved c =
     }
 
 pub returns-clause-counted : goal.returns-clause-counted
-returns-clause-counted c = grind (arith, take_all)
+returns-clause-counted = grind (arith, take_all)

@@ -6,16 +6,16 @@ use Rattle.{
 use Rattle.group_by.proofs.counts.place_rows.Goals as goal
 
 pub loop-row-init : goal.loop-row-init
-loop-row-init c = grind (arith, no_numbers)
+loop-row-init = grind (arith, no_numbers)
 
 pub place_of-requires : goal.place_of-requires
-place_of-requires c = grind arith
+place_of-requires = grind arith
 
 pub push-requires : goal.push-requires
-push-requires c = grind arith
+push-requires = grind arith
 
 pub count_one-requires-clause-below : goal.count_one-requires-clause-below
-count_one-requires-clause-below c = grind arith
+count_one-requires-clause-below = grind arith
 
 pub count_one-requires-clause-room : goal.count_one-requires-clause-room
 count_one-requires-clause-room c =

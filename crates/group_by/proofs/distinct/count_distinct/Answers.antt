@@ -6,10 +6,10 @@ use Rattle.{
 use Rattle.group_by.proofs.distinct.count_distinct.Goals as goal
 
 pub loop-row-init : goal.loop-row-init
-loop-row-init c = grind arith
+loop-row-init = grind arith
 
 pub count_one-requires-clause-below : goal.count_one-requires-clause-below
-count_one-requires-clause-below c = grind (arith, new_below)
+count_one-requires-clause-below = grind (arith, new_below)
 
 pub count_one-requires-clause-room : goal.count_one-requires-clause-room
 count_one-requires-clause-room c =
@@ -39,4 +39,4 @@ loop-row-preserved c =
     }
 
 pub returns-clause-counted : goal.returns-clause-counted
-returns-clause-counted c = grind (arith, take_all)
+returns-clause-counted = grind (arith, take_all)

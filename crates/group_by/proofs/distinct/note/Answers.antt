@@ -5,13 +5,13 @@ use Rattle.{
 use Rattle.group_by.proofs.distinct.note.Goals as goal
 
 pub returns-in-Some-clause-seen : goal.returns-in-Some-clause-seen
-returns-in-Some-clause-seen c = grind (arith, noted_there)
+returns-in-Some-clause-seen = grind (arith, noted_there)
 
 pub returns-in-Some-clause-new : goal.returns-in-Some-clause-new
-returns-in-Some-clause-new c = grind (arith, new_there)
+returns-in-Some-clause-new = grind (arith, new_there)
 
 pub returns-in_default-clause-seen : goal.returns-in_default-clause-seen
 returns-in_default-clause-seen c = search noted_missing
 
 pub returns-in_default-clause-new : goal.returns-in_default-clause-new
-returns-in_default-clause-new c = grind arith
+returns-in_default-clause-new = grind arith

@@ -30,8 +30,7 @@ returns-clause-answer g c =
     let dict = c.args.dict.now in
     let op = reduction_of c.args.op in
     let groups = g.C.RowGroups.groups_of c.args.codes.now in
-    let cells = map (datum dict) c.args.a.cells in
-    let seen : map (datum dict) c.as_ref.result.cells ≡ reduced_cells op groups cells
+    let seen : map (datum dict) c.as_ref.result.cells ≡ reduced_cells op groups (map (datum dict) c.args.a.cells)
     = grind arith in
     let codes : c.codes.result.now ≡ groups.codes = grind arith in
     transform_answer op dict groups c.args.a c.in_ok-take.field-0 (grind arith)

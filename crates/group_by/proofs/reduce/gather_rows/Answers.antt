@@ -6,10 +6,10 @@ use Rattle.{
 use Rattle.group_by.proofs.reduce.gather_rows.Goals as goal
 
 pub gather_cell-requires : goal.gather_cell-requires
-gather_cell-requires g c = grind arith
+gather_cell-requires = grind arith
 
 pub loop-row-init : goal.loop-row-init
-loop-row-init g c = grind arith
+loop-row-init = grind arith
 
 pub loop-row-preserved : goal.loop-row-preserved
 loop-row-preserved g c =
@@ -31,4 +31,4 @@ loop-row-preserved g c =
     }
 
 pub returns-clause-value : goal.returns-clause-value
-returns-clause-value g c = grind (arith, take_all)
+returns-clause-value = grind (arith, take_all)

@@ -5,7 +5,7 @@ use Rattle.{
 use Rattle.group_by.proofs.running.running_sums.Goals as goal
 
 pub sum_rows-requires-clause-size : goal.sum_rows-requires-clause-size
-sum_rows-requires-clause-size c = grind (arith, length-replicate)
+sum_rows-requires-clause-size = grind (arith, length-replicate)
 
 pub sum_rows-requires-clause-zero : goal.sum_rows-requires-clause-zero
 sum_rows-requires-clause-zero c = subst (All (λ (s : Cell). s ≡ Int (pos 0))) (grind arith) (All-replicate (λ (s : Cell). s ≡ Int (pos 0)) c.count.result (Int (pos 0)) refl)

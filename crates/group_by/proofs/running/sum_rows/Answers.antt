@@ -8,19 +8,19 @@ use Rattle.{
 use Rattle.group_by.proofs.running.sum_rows.Goals as goal
 
 pub loop-row-init : goal.loop-row-init
-loop-row-init c = grind (arith, no_numbers)
+loop-row-init = grind (arith, no_numbers)
 
 pub add_cell-requires : goal.add_cell-requires
-add_cell-requires c = grind arith
+add_cell-requires = grind arith
 
 pub sum_of-requires-clause-below : goal.sum_of-requires-clause-below
-sum_of-requires-clause-below c = grind arith
+sum_of-requires-clause-below = grind arith
 
 pub sum_of-requires-clause-held : goal.sum_of-requires-clause-held
-sum_of-requires-clause-held c = grind arith
+sum_of-requires-clause-held = grind arith
 
 pub push-requires : goal.push-requires
-push-requires c = grind arith
+push-requires = grind arith
 
 pub loop-row-preserved : goal.loop-row-preserved
 loop-row-preserved c =

@@ -4,7 +4,7 @@ use Rattle.{
   table_meaning.specs.{Settled.{IsSettled}, Table.{table_value}},
   frame_store.specs.Shown.{headings_value},
   method_meaning.specs.Groups.{headings_of},
-  group_forms.{specs.{declared.columns.ColumnCall.TheVariants.{Reduced}, Columns.{takes_at, made_at}, Grouped.{grouping_seen}, Tables.{group_keys}}, proofs.{ColumnLaws.{all_taken}, KeyLaws.{codes_counted}, RowLaws.{own_settled, labels_counted}, GroupLaws.{group_headings_settled, group_labelled, reduced_one, reduced_refused, reduced_shown, reduced_headings, reduced_columns, group_table, group_made, group_headings_counted, axis_counted, blocks_counted}, ShownLaws.{made_is, refused_is}}},
+  group_forms.{specs.{declared.columns.ColumnCall.TheVariants.{Reduced}, Columns.{takes_at, made_at}, Grouped.{grouping_seen}, Tables.{group_keys}}, proofs.{ColumnLaws.{all_taken}, KeyLaws.{codes_counted}, RowLaws.{own_settled, labels_counted}, GroupLaws.{group_headings_settled, group_labelled, reduced_refused, reduced_shown, reduced_headings, reduced_columns, group_table, group_made, group_headings_counted, axis_counted, blocks_counted}, ShownLaws.{made_is, refused_is}}},
 }
 use Rattle.group_forms.proofs.by_group.reduced.Goals as goal
 
@@ -22,15 +22,9 @@ new_headings-requires-clause-given c =
     let labels = c.as_slice-2.ensures.value ∙ c.in_ok-labels.ensures in
     subst (IsSettled headings_value dict) (sym labels) (group_headings_settled dict t c.args.grouping.now c.as_slice.result.now c.requires.known.given (search own_settled))
 
-pub new_headings-requires-clause-one : goal.new_headings-requires-clause-one
-new_headings-requires-clause-one c = grind (arith, reduced_one)
-
 pub new_headings-requires-clause-labelled : goal.new_headings-requires-clause-labelled
 new_headings-requires-clause-labelled c =
-    let t = c.args.on.now in
-    let owned = c.as_slice.ensures.value ∙ c.in_ok-own.ensures in
-    let labels = c.as_slice-2.ensures.value ∙ c.in_ok-labels.ensures in
-    λ e. subst (All IsSome) (sym labels) (grind (arith, group_labelled, labelled))
+    λ e. subst (All IsSome) (sym (c.as_slice-2.ensures.value ∙ c.in_ok-labels.ensures)) (grind (arith, group_labelled, labelled))
 
 pub returns-in_err-headings : goal.returns-in_err-headings
 returns-in_err-headings c =
@@ -57,20 +51,11 @@ more_columns-requires-clause-taken c =
     let all : list_all (takes_at (Reduced c.args.op) c.args.on.now) c.args.values.now.places ≡ true = search rules in
     search all_taken
 
-pub group_axis-requires-clause-few : goal.group_axis-requires-clause-few
-group_axis-requires-clause-few c =
-    grind (arith, length-map)
-
 -- the table
-pub new_table-requires-clause-single : goal.new_table-requires-clause-single
-new_table-requires-clause-single c = c.in_ok-blocks.ensures.blocks.single
-
 pub new_table-requires-clause-rows : goal.new_table-requires-clause-rows
 new_table-requires-clause-rows c =
     let dict = c.args.dict.now in
-    let t = c.args.on.now in
-    let counted = ap (λ gs. gs.count) c.in_ok-found.ensures.groups ∙ sym (axis_counted dict (table_value dict t) (grouping_seen dict c.args.grouping.now) c.in_ok-axis.axis c.in_ok-axis.ensures) in
-    rw counted at c.in_ok-blocks.ensures.blocks.filled
+    rw (ap (λ gs. gs.count) c.in_ok-found.ensures.groups ∙ sym (axis_counted dict (table_value dict c.args.on.now) (grouping_seen dict c.args.grouping.now) c.in_ok-axis.axis c.in_ok-axis.ensures)) at c.in_ok-blocks.ensures.blocks.filled
 
 pub new_table-requires-clause-headed : goal.new_table-requires-clause-headed
 new_table-requires-clause-headed c =
@@ -78,17 +63,10 @@ new_table-requires-clause-headed c =
     let t = c.args.on.now in
     let g = c.args.grouping.now in
     let v = c.args.values.now in
-    let owned = c.as_slice.ensures.value ∙ c.in_ok-own.ensures in
-    let labels = c.as_slice-2.ensures.value ∙ c.in_ok-labels.ensures in
     let f = made_at (Reduced c.args.op) c.in_ok-found.found.groups (table_value dict t) in
-    let columns = group_keys (table_value dict t) (grouping_seen dict g) ++ map f v.places in
-    let made = c.in_ok-blocks.ensures.columns ∙ ap (λ ks. ks ++ map f v.places) c.in_ok-keys.ensures.columns in
     ap (λ h. length h.labels) c.in_ok-headings.ensures.made
-    ∙ ap (λ l. length l) labels
-    ∙ sym (blocks_counted dict c.in_ok-blocks.blocks columns made ∙ group_headings_counted dict t g c.as_slice.result.now (map f v.places) (length-map v.places f ∙ sym (labels_counted t v.places c.as_slice.result.now owned)))
-
-pub new_table-requires-clause-headings : goal.new_table-requires-clause-headings
-new_table-requires-clause-headings c = c.in_ok-headings.ensures.fit
+    ∙ ap (λ l. length l) (c.as_slice-2.ensures.value ∙ c.in_ok-labels.ensures)
+    ∙ sym (blocks_counted dict c.in_ok-blocks.blocks (group_keys (table_value dict t) (grouping_seen dict g) ++ map f v.places) (c.in_ok-blocks.ensures.columns ∙ ap (λ ks. ks ++ map f v.places) c.in_ok-keys.ensures.columns) ∙ group_headings_counted dict t g c.as_slice.result.now (map f v.places) (length-map v.places f ∙ sym (labels_counted t v.places c.as_slice.result.now (c.as_slice.ensures.value ∙ c.in_ok-own.ensures))))
 
 pub returns : goal.returns
 returns c =
@@ -100,13 +78,10 @@ returns c =
     let owned = c.as_slice.ensures.value ∙ c.in_ok-own.ensures in
     let labels = c.as_slice-2.ensures.value ∙ c.in_ok-labels.ensures in
     let all : list_all (takes_at (Reduced c.args.op) t) v.places ≡ true = search rules in
-    let count = c.count-count.ensures ∙ ap (λ gs. gs.count) c.in_ok-found.ensures.groups in
-    let f = made_at (Reduced c.args.op) c.in_ok-found.found.groups T in
-    let made = c.in_ok-blocks.ensures.columns ∙ ap (λ ks. ks ++ map f v.places) c.in_ok-keys.ensures.columns
+    let made = c.in_ok-blocks.ensures.columns ∙ ap (λ ks. ks ++ map (made_at (Reduced c.args.op) c.in_ok-found.found.groups T) v.places) c.in_ok-keys.ensures.columns
     ∙ ap (λ gs. group_keys T (grouping_seen dict g) ++ map (made_at (Reduced c.args.op) gs T) v.places) c.in_ok-found.ensures.groups in
     let table = group_table T (grouping_seen dict g) (headings_of T v.places) (reduced_columns dict t g v c.args.op) in
-    let headed = reduced_headings dict t g v c.args.op c.as_slice.result.now c.as_slice-2.result.now c.count-count.result owned labels count in
-    let given = subst (IsSettled headings_value dict) (sym labels) (group_headings_settled dict t g c.as_slice.result.now c.requires.known.given (own_settled dict t v.places c.as_slice.result.now owned c.requires.known.given)) in
+    let headed = reduced_headings dict t g v c.args.op c.as_slice.result.now c.as_slice-2.result.now c.count-count.result owned labels (c.count-count.ensures ∙ ap (λ gs. gs.count) c.in_ok-found.ensures.groups) in
     made_is dict c.is_single-single.result table _ c.in_ok-axis.axis c.columns_name-name.result c.as_slice-2.result.now c.in_ok-blocks.blocks c.in_ok-headings.headings c.new_table.result
-    (group_made dict t g (headings_of T v.places) (reduced_columns dict t g v c.args.op) c.in_ok-axis.axis c.columns_name-name.result c.as_slice-2.result.now c.in_ok-blocks.blocks _ c.requires.known.given c.columns_name-name.ensures c.in_ok-axis.ensures headed.headings given made
+    (group_made dict t g (headings_of T v.places) (reduced_columns dict t g v c.args.op) c.in_ok-axis.axis c.columns_name-name.result c.as_slice-2.result.now c.in_ok-blocks.blocks _ c.requires.known.given c.columns_name-name.ensures c.in_ok-axis.ensures headed.headings (subst (IsSettled headings_value dict) (sym labels) (group_headings_settled dict t g c.as_slice.result.now c.requires.known.given (own_settled dict t v.places c.as_slice.result.now owned c.requires.known.given))) made
     c.in_ok-blocks.ensures.blocks) (cc (reduced_shown dict t g v c.args.op all, c.is_single-single.ensures)) (c.in_ok-headings.ensures.may table headed) c.in_ok-headings.ensures.made c.new_table.ensures

@@ -1,5 +1,5 @@
 use Rattle.{
-  std.proofs.{Common.{arith, ◌∙◌, ap, sym, subst, refl, [], ◌∷◌, length}, lemmas.{List.{length-map}, Result.{err_from_is_err_and}}},
+  std.proofs.{Common.{◌∙◌, ap, sym, subst, refl, [], ◌∷◌, length}, lemmas.Result.{err_from_is_err_and}},
   group_forms.{proofs.{GroupLaws.{grouped_is, group_headings_settled, group_headings_counted, sizes_labelled, size_table, size_column, size_headings, sizes_boxed, sizes_seen, one_settled, group_made, axis_counted, blocks_counted}, ShownLaws.{made_is, refused_is}}, specs.Grouped.{grouping_seen}},
   table_meaning.specs.{Settled.{IsSettled}, Table.{table_value}},
   frame_store.specs.Shown.{headings_value},
@@ -10,9 +10,7 @@ use Rattle.group_forms.proofs.by_group.sizes.Goals as goal
 -- the headings
 pub new_headings-requires-clause-given : goal.new_headings-requires-clause-given
 new_headings-requires-clause-given c =
-    let dict = c.args.dict.now in
-    let labels = c.as_slice.ensures.value ∙ c.in_ok-labels.ensures in
-    subst (IsSettled headings_value dict) (sym labels) (search (group_headings_settled, one_settled))
+    subst (IsSettled headings_value c.args.dict.now) (sym (c.as_slice.ensures.value ∙ c.in_ok-labels.ensures)) (search (group_headings_settled, one_settled))
 
 pub new_headings-requires-clause-labelled : goal.new_headings-requires-clause-labelled
 new_headings-requires-clause-labelled c =
@@ -25,43 +23,31 @@ returns-in_err-headings c =
     let g = c.args.grouping.now in
     let v = c.args.values.now in
     let h = c.args.heading in
-    let counted = c.count-count.ensures ∙ ap (λ gs. gs.count) c.in_ok-found.ensures.groups in
     let table = size_table dict t g v h c.requires.heading in
     let p = err_from_is_err_and c.from_residual-in_err-headings.result c.from_residual-in_err-headings.ensures.1 in
     rw (p.1, p.2)
     (refused_is dict g.as_index table _ c.in_err-headings.field-0.0 (search grouped_is)
-    (c.in_err-headings.ensures.may table (size_headings dict t g v h c.requires.heading c.as_slice.result.now c.count-count.result (c.as_slice.ensures.value ∙ c.in_ok-labels.ensures) counted)))
-
-pub group_axis-requires-clause-few : goal.group_axis-requires-clause-few
-group_axis-requires-clause-few c =
-    grind (arith, length-map)
+    (c.in_err-headings.ensures.may table (size_headings dict t g v h c.requires.heading c.as_slice.result.now c.count-count.result (c.as_slice.ensures.value ∙ c.in_ok-labels.ensures) (c.count-count.ensures ∙ ap (λ gs. gs.count) c.in_ok-found.ensures.groups))))
 
 -- the table
 pub new_table-requires-clause-single : goal.new_table-requires-clause-single
 new_table-requires-clause-single c =
     let dict = c.args.dict.now in
-    let boxed = sizes_boxed dict c.in_ok-found.found.groups c.in_ok-column.column c.into_block.result c.in_ok-blocks.blocks c.push.new.self c.into_block.ensures c.in_ok-push.ensures.ok (c.in_ok-column.ensures.answer dict) (c.in_ok-column.ensures.given dict) c.in_ok-blocks.ensures.blocks in
-    boxed.single
+    (sizes_boxed dict c.in_ok-found.found.groups c.in_ok-column.column c.into_block.result c.in_ok-blocks.blocks c.push.new.self c.into_block.ensures c.in_ok-push.ensures.ok (c.in_ok-column.ensures.answer dict) (c.in_ok-column.ensures.given dict) c.in_ok-blocks.ensures.blocks).single
 
 pub new_table-requires-clause-rows : goal.new_table-requires-clause-rows
 new_table-requires-clause-rows c =
     let dict = c.args.dict.now in
-    let T = table_value dict c.args.on.now in
-    let boxed = sizes_boxed dict c.in_ok-found.found.groups c.in_ok-column.column c.into_block.result c.in_ok-blocks.blocks c.push.new.self c.into_block.ensures c.in_ok-push.ensures.ok (c.in_ok-column.ensures.answer dict) (c.in_ok-column.ensures.given dict) c.in_ok-blocks.ensures.blocks in
-    let counted = ap (λ gs. gs.count) c.in_ok-found.ensures.groups ∙ sym (axis_counted dict T (grouping_seen dict c.args.grouping.now) c.in_ok-axis.axis c.in_ok-axis.ensures) in
-    rw counted at boxed.filled
+    rw (ap (λ gs. gs.count) c.in_ok-found.ensures.groups ∙ sym (axis_counted dict (table_value dict c.args.on.now) (grouping_seen dict c.args.grouping.now) c.in_ok-axis.axis c.in_ok-axis.ensures)) at (sizes_boxed dict c.in_ok-found.found.groups c.in_ok-column.column c.into_block.result c.in_ok-blocks.blocks c.push.new.self c.into_block.ensures c.in_ok-push.ensures.ok (c.in_ok-column.ensures.answer dict) (c.in_ok-column.ensures.given dict) c.in_ok-blocks.ensures.blocks).filled
 
 pub new_table-requires-clause-headed : goal.new_table-requires-clause-headed
 new_table-requires-clause-headed c =
     let dict = c.args.dict.now in
     let t = c.args.on.now in
     let g = c.args.grouping.now in
-    let own = size_column dict t g c.args.values.now c.args.heading c.requires.heading in
-    let labels = c.as_slice.ensures.value ∙ c.in_ok-labels.ensures in
-    let seen = sizes_seen dict t g c.in_ok-found.found.groups c.in_ok-column.column c.into_block.result c.in_ok-blocks.blocks c.push.new.self c.into_block.ensures c.in_ok-push.ensures.ok (c.in_ok-column.ensures.answer dict) c.in_ok-found.ensures.groups c.in_ok-blocks.ensures.columns in
     ap (λ h. length h.labels) c.in_ok-headings.ensures.made
-    ∙ ap (λ l. length l) labels
-    ∙ sym (blocks_counted dict c.push.new.self _ seen ∙ group_headings_counted dict t g (c.args.heading ∷ []) own refl)
+    ∙ ap (λ l. length l) (c.as_slice.ensures.value ∙ c.in_ok-labels.ensures)
+    ∙ sym (blocks_counted dict c.push.new.self _ (sizes_seen dict t g c.in_ok-found.found.groups c.in_ok-column.column c.into_block.result c.in_ok-blocks.blocks c.push.new.self c.into_block.ensures c.in_ok-push.ensures.ok (c.in_ok-column.ensures.answer dict) c.in_ok-found.ensures.groups c.in_ok-blocks.ensures.columns) ∙ group_headings_counted dict t g (c.args.heading ∷ []) (size_column dict t g c.args.values.now c.args.heading c.requires.heading) refl)
 
 pub returns : goal.returns
 returns c =
@@ -71,12 +57,8 @@ returns c =
     let v = c.args.values.now in
     let h = c.args.heading in
     let labels = c.as_slice.ensures.value ∙ c.in_ok-labels.ensures in
-    let counted = c.count-count.ensures ∙ ap (λ gs. gs.count) c.in_ok-found.ensures.groups in
     let table = size_table dict t g v h c.requires.heading in
-    let boxed = sizes_boxed dict c.in_ok-found.found.groups c.in_ok-column.column c.into_block.result c.in_ok-blocks.blocks c.push.new.self c.into_block.ensures c.in_ok-push.ensures.ok (c.in_ok-column.ensures.answer dict) (c.in_ok-column.ensures.given dict) c.in_ok-blocks.ensures.blocks in
-    let seen = sizes_seen dict t g c.in_ok-found.found.groups c.in_ok-column.column c.into_block.result c.in_ok-blocks.blocks c.push.new.self c.into_block.ensures c.in_ok-push.ensures.ok (c.in_ok-column.ensures.answer dict) c.in_ok-found.ensures.groups c.in_ok-blocks.ensures.columns in
-    let headed = size_headings dict t g v h c.requires.heading c.as_slice.result.now c.count-count.result labels counted in
-    let given = subst (IsSettled headings_value dict) (sym labels) (group_headings_settled dict t g (h ∷ []) c.requires.known.given (one_settled dict h c.requires.given)) in
+    let headed = size_headings dict t g v h c.requires.heading c.as_slice.result.now c.count-count.result labels (c.count-count.ensures ∙ ap (λ gs. gs.count) c.in_ok-found.ensures.groups) in
     made_is dict g.as_index table _ c.in_ok-axis.axis c.columns_name-name.result c.as_slice.result.now c.push.new.self c.in_ok-headings.headings c.new_table.result
-    (group_made dict t g (meant.size_heading g.as_index ∷ []) (size_column dict t g v h c.requires.heading) c.in_ok-axis.axis c.columns_name-name.result c.as_slice.result.now c.push.new.self _ c.requires.known.given c.columns_name-name.ensures c.in_ok-axis.ensures headed.headings given seen boxed)
+    (group_made dict t g (meant.size_heading g.as_index ∷ []) (size_column dict t g v h c.requires.heading) c.in_ok-axis.axis c.columns_name-name.result c.as_slice.result.now c.push.new.self _ c.requires.known.given c.columns_name-name.ensures c.in_ok-axis.ensures headed.headings (subst (IsSettled headings_value dict) (sym labels) (group_headings_settled dict t g (h ∷ []) c.requires.known.given (one_settled dict h c.requires.given))) (sizes_seen dict t g c.in_ok-found.found.groups c.in_ok-column.column c.into_block.result c.in_ok-blocks.blocks c.push.new.self c.into_block.ensures c.in_ok-push.ensures.ok (c.in_ok-column.ensures.answer dict) c.in_ok-found.ensures.groups c.in_ok-blocks.ensures.columns) (sizes_boxed dict c.in_ok-found.found.groups c.in_ok-column.column c.into_block.result c.in_ok-blocks.blocks c.push.new.self c.into_block.ensures c.in_ok-push.ensures.ok (c.in_ok-column.ensures.answer dict) (c.in_ok-column.ensures.given dict) c.in_ok-blocks.ensures.blocks))
     (search grouped_is) (c.in_ok-headings.ensures.may table headed) c.in_ok-headings.ensures.made c.new_table.ensures

@@ -3,7 +3,7 @@ use Rattle.{
   label_methods.proofs.IndexingLaws.{labelled},
   std.{proofs.{Common.{arith, ◌≡◌, ◌∙◌, ap, sym, true, false, length, map, rules}, lemmas.{List.{length-map}, Result.{err_from_is_err_and}}}, specs.List.{list_all}},
   table_meaning.specs.Table.{table_value},
-  group_forms.{specs.Columns.{takes_at, made_at}, proofs.{ColumnLaws.{all_taken}, GroupLaws.{blocks_counted}, KeyLaws.{codes_counted}, RowLaws.{own_settled, labels_counted, along_refused, along_meant, along_headings, along_table, blocks_begin, rows_by_row, blocks_placed}, ShownLaws.{made_is, refused_is}}},
+  group_forms.{specs.Columns.{takes_at, made_at}, proofs.{GroupLaws.{blocks_counted}, KeyLaws.{codes_counted}, RowLaws.{own_settled, labels_counted, along_refused, along_meant, along_headings, along_table, rows_by_row, blocks_placed}, ShownLaws.{made_is, refused_is}}},
 }
 use Rattle.group_forms.proofs.by_row.along_rows.Goals as goal
 
@@ -15,11 +15,8 @@ returns-then-not-all_taken c =
 pub new_headings-requires-clause-given : goal.new_headings-requires-clause-given
 new_headings-requires-clause-given c = own_settled c.args.dict.now c.args.on.now c.args.values.now.places c.as_slice.result.now (c.as_slice.ensures.value ∙ c.in_ok-labels.ensures) c.requires.known.given
 
-pub new_headings-requires-clause-one : goal.new_headings-requires-clause-one
-new_headings-requires-clause-one c = grind (arith, labels_counted)
-
 pub new_headings-requires-clause-labelled : goal.new_headings-requires-clause-labelled
-new_headings-requires-clause-labelled c = grind (arith, labelled)
+new_headings-requires-clause-labelled = grind (arith, labelled)
 
 pub returns-in_err-headings : goal.returns-in_err-headings
 returns-in_err-headings c =
@@ -35,20 +32,9 @@ returns-in_err-headings c =
     (c.in_err-headings.ensures.may (along_table dict t g v c.args.call c.requires.call) (search along_headings)))
 
 pub more_columns-requires-clause-rows : goal.more_columns-requires-clause-rows
-more_columns-requires-clause-rows c = grind (arith, codes_counted)
-
-pub more_columns-requires-clause-taken : goal.more_columns-requires-clause-taken
-more_columns-requires-clause-taken c =
-    let all : list_all (takes_at c.args.call c.args.on.now) c.args.values.now.places ≡ true = search rules in
-    search all_taken
-
-pub more_columns-requires-clause-blocks : goal.more_columns-requires-clause-blocks
-more_columns-requires-clause-blocks c = search blocks_begin
+more_columns-requires-clause-rows = grind (arith, codes_counted)
 
 -- the table
-pub new_table-requires-clause-single : goal.new_table-requires-clause-single
-new_table-requires-clause-single c = c.in_ok-made.ensures.blocks.single
-
 pub new_table-requires-clause-rows : goal.new_table-requires-clause-rows
 new_table-requires-clause-rows c =
     let counted =
@@ -65,9 +51,6 @@ new_table-requires-clause-headed c =
     ap (λ h. length h.labels) c.in_ok-headings.ensures.made
     ∙ labels_counted c.args.on.now v.places c.as_slice.result.now (c.as_slice.ensures.value ∙ c.in_ok-labels.ensures)
     ∙ sym (blocks_counted dict c.in_ok-made.made (map f v.places) (grind (arith, blocks_placed)) ∙ length-map v.places f)
-
-pub new_table-requires-clause-headings : goal.new_table-requires-clause-headings
-new_table-requires-clause-headings c = c.in_ok-headings.ensures.fit
 
 pub returns : goal.returns
 returns c =

@@ -17,11 +17,9 @@ returns-in_err-headings c =
 pub new_table-requires-clause-rows : goal.new_table-requires-clause-rows
 new_table-requires-clause-rows c =
     let dict = c.args.dict.now in
-    let t = c.args.on.now in
-    let boxed = counts_boxed dict t c.args.grouping.now c.in_ok-found.found.groups c.in_ok-found.ensures.groups c.in_ok-column.column c.into_block.result c.new-blocks.result c.push.new.self c.new-blocks.ensures c.into_block.ensures c.in_ok-push.ensures.ok
+    let boxed = counts_boxed dict c.args.on.now c.args.grouping.now c.in_ok-found.found.groups c.in_ok-found.ensures.groups c.in_ok-column.column c.into_block.result c.new-blocks.result c.push.new.self c.new-blocks.ensures c.into_block.ensures c.in_ok-push.ensures.ok
     (c.in_ok-column.ensures.answer dict) (c.in_ok-column.ensures.given dict) in
-    let counted = sym (ap (λ a. length a.tuples) (c.in_ok-axis.ensures ∙ c.axis.ensures)) in
-    subst (λ n. HaveRows n (map block_column c.push.new.self)) counted boxed.filled
+    subst (λ n. HaveRows n (map block_column c.push.new.self)) (sym (ap (λ a. length a.tuples) (c.in_ok-axis.ensures ∙ c.axis.ensures))) boxed.filled
 
 pub returns : goal.returns
 returns c =
@@ -32,14 +30,13 @@ returns c =
     let found = c.in_ok-found.found.groups in
     let boxed = counts_boxed dict t g found c.in_ok-found.ensures.groups c.in_ok-column.column c.into_block.result c.new-blocks.result c.push.new.self c.new-blocks.ensures c.into_block.ensures c.in_ok-push.ensures.ok
     (c.in_ok-column.ensures.answer dict) (c.in_ok-column.ensures.given dict) in
-    let seen = counts_seen dict t g found c.in_ok-found.ensures.groups c.in_ok-column.column c.into_block.result c.new-blocks.result c.push.new.self c.new-blocks.ensures c.into_block.ensures c.in_ok-push.ensures.ok (c.in_ok-column.ensures.answer dict) in
     made_is dict true table _ c.in_ok-axis.axis t.columns_name (None ∷ []) c.push.new.self c.in_ok-headings.headings c.new_table.result
     record {
       frame = c.requires.shape;
       named = refl;
       axis_is = grind (arith, labels_part, level_names_part);
       headings = refl;
-      columns = seen;
+      columns = (counts_seen dict t g found c.in_ok-found.ensures.groups c.in_ok-column.column c.into_block.result c.new-blocks.result c.push.new.self c.new-blocks.ensures c.into_block.ensures c.in_ok-push.ensures.ok (c.in_ok-column.ensures.answer dict));
       name_given = search columns_name_part;
       labels_given = λ more. refl;
       blocks_given = boxed.given;

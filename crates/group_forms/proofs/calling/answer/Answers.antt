@@ -26,37 +26,29 @@ returns-in-Reduced c =
     let dict = c.args.dict.now in
     let g = grouping_seen dict c.args.grouping.now in
     let v = values_seen dict c.args.values.now in
-    let call = (meant.reduced (reduction_of c.in-Reduced.op)) in
     let at : c.read.result ≡ table_or (tables c.args.store.now c.args.on.0) = grind arith in
-    let same = ap (λ n. group_answer (table_value dict n) g v call) at ∙ ap (λ x. group_answer (table_value dict (table_or (tables c.args.store.now c.args.on.0))) g v (call_of x)) (sym c.in-Reduced.is) in
-    rw same at (c.placed.ensures.answers dict _ (longer_self dict) c.requires.settled c.reduced-table.ensures)
+    rw (ap (λ n. group_answer (table_value dict n) g v ((meant.reduced (reduction_of c.in-Reduced.op)))) at ∙ ap (λ x. group_answer (table_value dict (table_or (tables c.args.store.now c.args.on.0))) g v (call_of x)) (sym c.in-Reduced.is)) at (c.placed.ensures.answers dict _ (longer_self dict) c.requires.settled c.reduced-table.ensures)
 
 pub returns-in-Transformed : goal.returns-in-Transformed
 returns-in-Transformed c =
     let dict = c.args.dict.now in
     let g = grouping_seen dict c.args.grouping.now in
     let v = values_seen dict c.args.values.now in
-    let call = (meant.transformed (reduction_of c.in-Transformed.op)) in
     let at : c.read-in-Transformed.result ≡ table_or (tables c.args.store.now c.args.on.0) = grind arith in
-    let same = ap (λ n. group_answer (table_value dict n) g v call) at ∙ ap (λ x. group_answer (table_value dict (table_or (tables c.args.store.now c.args.on.0))) g v (call_of x)) (sym c.in-Transformed.is) in
-    rw same at (c.placed-in-Transformed.ensures.answers dict _ (longer_self dict) c.requires.settled c.along_rows-table.ensures)
+    rw (ap (λ n. group_answer (table_value dict n) g v ((meant.transformed (reduction_of c.in-Transformed.op)))) at ∙ ap (λ x. group_answer (table_value dict (table_or (tables c.args.store.now c.args.on.0))) g v (call_of x)) (sym c.in-Transformed.is)) at (c.placed-in-Transformed.ensures.answers dict _ (longer_self dict) c.requires.settled c.along_rows-table.ensures)
 
 pub returns-in-Cumsum : goal.returns-in-Cumsum
 returns-in-Cumsum c =
     let dict = c.args.dict.now in
     let g = grouping_seen dict c.args.grouping.now in
     let v = values_seen dict c.args.values.now in
-    let call = meant.cumsum in
     let at : c.read-in-Cumsum.result ≡ table_or (tables c.args.store.now c.args.on.0) = grind arith in
-    let same = ap (λ n. group_answer (table_value dict n) g v call) at ∙ ap (λ x. group_answer (table_value dict (table_or (tables c.args.store.now c.args.on.0))) g v (call_of x)) (sym c.in-Cumsum.is) in
-    rw same at (c.placed-in-Cumsum.ensures.answers dict _ (longer_self dict) c.requires.settled c.along_rows-table-in-Cumsum.ensures)
+    rw (ap (λ n. group_answer (table_value dict n) g v meant.cumsum) at ∙ ap (λ x. group_answer (table_value dict (table_or (tables c.args.store.now c.args.on.0))) g v (call_of x)) (sym c.in-Cumsum.is)) at (c.placed-in-Cumsum.ensures.answers dict _ (longer_self dict) c.requires.settled c.along_rows-table-in-Cumsum.ensures)
 
 pub returns-in-Cumcount : goal.returns-in-Cumcount
 returns-in-Cumcount c =
     let dict = c.args.dict.now in
     let g = grouping_seen dict c.args.grouping.now in
     let v = values_seen dict c.args.values.now in
-    let call = meant.cumcount in
     let at : c.read-in-Cumcount.result ≡ table_or (tables c.args.store.now c.args.on.0) = grind arith in
-    let same = ap (λ n. group_answer (table_value dict n) g v call) at ∙ ap (λ x. group_answer (table_value dict (table_or (tables c.args.store.now c.args.on.0))) g v (call_of x)) (sym c.in-Cumcount.is) in
-    rw same at (c.placed-in-Cumcount.ensures.answers dict _ (longer_self dict) c.requires.settled c.counts-table.ensures)
+    rw (ap (λ n. group_answer (table_value dict n) g v meant.cumcount) at ∙ ap (λ x. group_answer (table_value dict (table_or (tables c.args.store.now c.args.on.0))) g v (call_of x)) (sym c.in-Cumcount.is)) at (c.placed-in-Cumcount.ensures.answers dict _ (longer_self dict) c.requires.settled c.counts-table.ensures)

@@ -18,9 +18,7 @@ sizes-table-requires-clause-known c = search (settled_later, object_settled)
 pub returns : goal.returns
 returns c =
     let dict = c.args.dict.now in
-    let g = grouping_seen dict c.args.grouping.now in
-    let v = values_seen dict c.args.values.now in
     let longer = c.in_ok-heading.ensures.longer in
     forms_so c.placed.result _ _ _ _
-    (ap (λ t. group_answer t g v meant.size) (seen_before (world c.args.store.now dict) c.size_heading.new.dict c.args.on.0 c.read.result c.read.ensures.table longer c.requires.settled))
+    (ap (λ t. group_answer t (grouping_seen dict c.args.grouping.now) (values_seen dict c.args.values.now) meant.size) (seen_before (world c.args.store.now dict) c.size_heading.new.dict c.args.on.0 c.read.result c.read.ensures.table longer c.requires.settled))
     (c.placed.ensures.answers dict _ longer c.requires.settled c.sizes-table.ensures)

@@ -1,16 +1,8 @@
 use Rattle.{
-  std.proofs.{lemmas.{Option.{get_or_from_slice_get}, List.{take_all}}, Common.{◌<◌, length, arith}},
+  std.proofs.{lemmas.Option.{get_or_from_slice_get}, Common.{◌<◌, length, arith}},
   group_forms.{specs.Columns.{rows_made}, proofs.ColumnLaws.{one_more_block, one_more_value, one_more_column, place_given, place_seen, place_inside}},
 }
 use Rattle.group_forms.proofs.columns.more_columns.Goals as goal
-
-pub column-requires : goal.column-requires
-column-requires c =
-    let lt : c.loop-k.k < length c.args.places.now = omega arith in
-    place_inside c.args.call c.args.on.now c.args.places.now c.loop-k.k c.at.result.now c.requires.taken lt c.at.ensures
-
-pub made_column-requires-clause-rows : goal.made_column-requires-clause-rows
-made_column-requires-clause-rows c = grind arith
 
 pub made_column-requires-clause-given : goal.made_column-requires-clause-given
 made_column-requires-clause-given c =
@@ -19,7 +11,7 @@ made_column-requires-clause-given c =
     (place_inside c.args.call c.args.on.now c.args.places.now c.loop-k.k c.at.result.now c.requires.taken lt c.at.ensures) c.column.ensures.column
 
 pub made_column-requires-clause-taken : goal.made_column-requires-clause-taken
-made_column-requires-clause-taken c = grind (arith, get_or_from_slice_get)
+made_column-requires-clause-taken = grind (arith, get_or_from_slice_get)
 
 pub loop-k-preserved : goal.loop-k-preserved
 loop-k-preserved c =
@@ -35,6 +27,3 @@ loop-k-preserved c =
       blocks = one_more_block dict (rows_made c.args.call c.args.groups.now) c.in_ok-column.column c.into_block.result c.loop-k.made c.push.new.self box c.in_ok-push.ensures.ok made.rows made.given c.loop-k.invariant.blocks;
       columns = search one_more_column;
     }
-
-pub returns-clause-columns : goal.returns-clause-columns
-returns-clause-columns c = grind (arith, take_all)

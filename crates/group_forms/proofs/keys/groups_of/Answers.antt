@@ -1,36 +1,27 @@
 use Rattle.{
   std.proofs.Common.{arith, ◌∙◌},
-  key_columns.proofs.KeyLaws.{keys_are, keys_counted, rows_alike},
+  key_columns.proofs.KeyLaws.{keys_are},
   group_forms.proofs.KeyLaws.{groups_found, rows_found, labels_found},
 }
 use Rattle.group_forms.proofs.keys.groups_of.Goals as goal
-
-pub of-rows-requires-clause-some : goal.of-rows-requires-clause-some
-of-rows-requires-clause-some c = grind (arith, keys_counted)
-
-pub of-rows-requires-clause-alike : goal.of-rows-requires-clause-alike
-of-rows-requires-clause-alike c = grind (arith, rows_alike)
 
 pub returns-clause-groups : goal.returns-clause-groups
 returns-clause-groups c =
     let t = c.args.on.now in
     let g = c.args.grouping.now in
     let rows = c.of-rows.result in
-    let same = keys_are t g.keys rows.columns.now (grind arith) rows.count (c.of-rows.ensures.count ∙ c.rows.ensures) in
-    groups_found c.args.dict.now t g c.len.ensures.distinct c.requires.known.given _ same c.group_by_keys.result c.group_by_keys.ensures.count c.group_by_keys.ensures.codes
+    groups_found c.args.dict.now t g c.len.ensures.distinct c.requires.known.given _ (keys_are t g.keys rows.columns.now (grind arith) rows.count (c.of-rows.ensures.count ∙ c.rows.ensures)) c.group_by_keys.result c.group_by_keys.ensures.count c.group_by_keys.ensures.codes
 
 pub returns-clause-labels : goal.returns-clause-labels
 returns-clause-labels c =
     let t = c.args.on.now in
     let g = c.args.grouping.now in
     let rows = c.of-rows.result in
-    let same = keys_are t g.keys rows.columns.now (grind arith) rows.count (c.of-rows.ensures.count ∙ c.rows.ensures) in
-    labels_found c.args.dict.now t g c.len.ensures.distinct c.requires.known.given _ same c.group_by_keys.result c.group_by_keys.ensures.firsts
+    labels_found c.args.dict.now t g c.len.ensures.distinct c.requires.known.given _ (keys_are t g.keys rows.columns.now (grind arith) rows.count (c.of-rows.ensures.count ∙ c.rows.ensures)) c.group_by_keys.result c.group_by_keys.ensures.firsts
 
 pub returns-clause-firsts : goal.returns-clause-firsts
 returns-clause-firsts c =
     let t = c.args.on.now in
     let g = c.args.grouping.now in
     let rows = c.of-rows.result in
-    let same = keys_are t g.keys rows.columns.now (grind arith) rows.count (c.of-rows.ensures.count ∙ c.rows.ensures) in
-    rows_found c.args.dict.now t g c.len.ensures.distinct c.requires.known.given _ same c.group_by_keys.result c.group_by_keys.ensures.firsts
+    rows_found c.args.dict.now t g c.len.ensures.distinct c.requires.known.given _ (keys_are t g.keys rows.columns.now (grind arith) rows.count (c.of-rows.ensures.count ∙ c.rows.ensures)) c.group_by_keys.result c.group_by_keys.ensures.firsts

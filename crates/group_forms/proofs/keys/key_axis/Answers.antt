@@ -1,14 +1,5 @@
-use Rattle.{
-  std.proofs.{Common.{arith}, lemmas.List.{length-map, length-replicate}},
-  label_methods.proofs.IndexingLaws.{rows_alike},
-}
+use Rattle.label_methods.proofs.IndexingLaws.{rows_alike}
 use Rattle.group_forms.proofs.keys.key_axis.Goals as goal
 
 pub from_tuples-requires-clause-alike : goal.from_tuples-requires-clause-alike
 from_tuples-requires-clause-alike c = rw c.len.ensures (rows_alike c.args.on.now c.args.keys.now c.args.rows.now c.in_ok-tuples.tuples c.in_ok-tuples.ensures)
-
-pub named_axis-requires : goal.named_axis-requires
-named_axis-requires c = grind (arith, length-map, length-replicate)
-
-pub returns : goal.returns
-returns c = grind arith

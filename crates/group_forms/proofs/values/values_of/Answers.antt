@@ -25,8 +25,7 @@ listed-requires-clause-known c = known_table (world c.args.store.now c.args.dict
 pub listed-requires-clause-items : goal.listed-requires-clause-items
 listed-requires-clause-items c =
     let w = world c.args.store.now c.args.dict.now in
-    let known = subst (λ o. IfSome o (λ a. IsKnownArgument w a.now)) c.in-Some.is c.requires.brackets in
-    items_known w c.in-Some.given.now c.in-Some-list.items.now c.in-Some-list.ensures.parts known
+    items_known w c.in-Some.given.now c.in-Some-list.items.now c.in-Some-list.ensures.parts (subst (λ o. IfSome o (λ a. IsKnownArgument w a.now)) c.in-Some.is c.requires.brackets)
 
 pub returns-in-Some-list-clause-answer : goal.returns-in-Some-list-clause-answer
 returns-in-Some-list-clause-answer c =

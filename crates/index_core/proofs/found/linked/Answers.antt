@@ -1,5 +1,5 @@
 use Rattle.{
-  std.proofs.{lemmas.{List.{length-set, get_or_default, get_or-set_same, get_or-set_other}, Bool.{cases_eq}}, Common.{◌≡◌, ◌<◌, ◌+◌, ◌-◌, length, arith}},
+  std.proofs.{lemmas.{List.{length-set, get_or_default, get_or-set_same, get_or-set_other}, Bool.{cases_eq}}, Common.{◌<◌, ◌+◌, ◌-◌, length, arith}},
   index_core.{specs.Found.{HaveFirstRows, HaveNextRows}, proofs.LinkLaws.{first_more}},
 }
 use Rattle.index_core.proofs.found.linked.Goals as goal
@@ -9,7 +9,6 @@ loop-row-preserved c =
     let labels = c.args.labels.now in
     let p = c.loop-row.row - 1 in
     let lt : p < length labels = omega arith in
-    let same : c.loop-row.row ≡ p + 1 = omega arith in
     let first : HaveFirstRows c.loop-row.first.entries labels (p + 1) = grind arith in
     let next : HaveNextRows c.loop-row.next.items labels (p + 1) = grind arith in
     record {

@@ -10,7 +10,6 @@ returns-then-not-branch c =
     let labels = c.args.labels.now in
     let p = c.loop-place.place - 1 in
     let lt : p < length labels = omega arith in
-    let same : c.loop-place.place ≡ p + 1 = omega arith in
     let keys : AreKeys c.loop-place.later.keys (drop (p + 1) labels) = grind arith in
     sym (stands_twice labels c.loop-place.later.keys p _ lt keys (sym c.in_ok-insert.ensures.added ∙ c.if-not-branch.true))
 
@@ -19,7 +18,6 @@ loop-place-preserved c =
     let labels = c.args.labels.now in
     let p = c.loop-place.place - 1 in
     let lt : p < length labels = omega arith in
-    let same : c.loop-place.place ≡ p + 1 = omega arith in
     let keys : AreKeys c.loop-place.later.keys (drop (p + 1) labels) = grind arith in
     let differ : all_differ same_number (drop (p + 1) labels) ≡ true = grind arith in
     record {

@@ -8,10 +8,9 @@ use Rattle.index_core.proofs.listed.place_of_bound.Goals as goal
 pub loop-place-preserved : goal.loop-place-preserved
 loop-place-preserved c =
     let p : Label → Bool = λ label. is_eq (order_in c.args.dict.now label c.args.bound) in
-    let labels = c.args.labels.now in
     elim c.if-is_eq.branch [
       | then-is_eq+else-is_some w ↦ record {
-        so_far = rw w.found-is (first_time p labels c.loop-place.place _ c.loop-place.found c.loop-place-test.true c.loop-place.invariant.so_far (grind arith) (ap is_eq (sym c.compare.ensures) ∙ sym c.is_eq.ensures ∙ w.if-is_eq.true));
+        so_far = rw w.found-is (first_time p c.args.labels.now c.loop-place.place _ c.loop-place.found c.loop-place-test.true c.loop-place.invariant.so_far (grind arith) (ap is_eq (sym c.compare.ensures) ∙ sym c.is_eq.ensures ∙ w.if-is_eq.true));
         inside = grind arith;
       }
       | else-is_eq w ↦ grind (arith, passed_by)

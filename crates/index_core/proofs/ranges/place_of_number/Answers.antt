@@ -5,10 +5,10 @@ use Rattle.{
 use Rattle.index_core.proofs.ranges.place_of_number.Goals as goal
 
 pub returns-then-number-lt0 : goal.returns-then-number-lt0
-returns-then-number-lt0 c = grind (arith, no_number, to_z-of_z)
+returns-then-number-lt0 = grind (arith, no_number, to_z-of_z)
 
 pub returns-then-place-n : goal.returns-then-place-n
-returns-then-place-n c = grind (arith, number_there, to_z-of_z)
+returns-then-place-n = grind (arith, number_there, to_z-of_z)
 
 pub returns-else-place-n : goal.returns-else-place-n
 returns-else-place-n c =

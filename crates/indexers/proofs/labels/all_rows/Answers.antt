@@ -1,9 +1,8 @@
 use Rattle.{
-  std.proofs.Common.{◌∙◌, ap, sym, Ok},
-  indexers.{specs.Picks.{pick_of}, proofs.SpanLaws.{all_listed}},
-  pick_meaning.specs.Keys.{sliced_pick},
+  std.proofs.Common.{arith},
+  indexers.proofs.SpanLaws.{all_listed},
 }
 use Rattle.indexers.proofs.labels.all_rows.Goals as goal
 
 pub returns-clause-picked : goal.returns-clause-picked
-returns-clause-picked c = ap (λ rows. Ok (sliced_pick rows)) (all_listed _ c.len.result c.len.ensures) ∙ ap (λ p. Ok (pick_of p)) (sym c.in_ok-spanned.ensures)
+returns-clause-picked = grind (arith, all_listed)

@@ -1,6 +1,6 @@
 use Rattle.{
-  std.proofs.{Common.{◌∙◌, ◌<◌, ap, sym, length, [], Ok, Err, arith}, lemmas.Option.{get_or_from_slice_get}},
-  pick_meaning.specs.{Faults.{then_pick, not_there}, Keys.{listed_pick}, Labels.{rows_of_key}, Leading.{leads}},
+  std.proofs.{Common.{◌∙◌, ◌<◌, ap, sym, length, [], arith}, lemmas.Option.{get_or_from_slice_get}},
+  pick_meaning.specs.{Faults.{not_there}, Labels.{rows_of_key}, Leading.{leads}},
   index_core.specs.Labels.{same_number},
   multi_index.specs.Axes.{single_tuples},
   indexers.proofs.{AnswerLaws.{label_found, label_missing}, TurnLaws.{label_more, label_refused}},
@@ -11,11 +11,7 @@ pub returns-then-not-branch-clause-picked : goal.returns-then-not-branch-clause-
 returns-then-not-branch-clause-picked c =
     let lt : c.loop-k.k < length c.args.labels.now = omega arith in
     let here = get_or_from_slice_get c.args.labels.now c.loop-k.k c.at-label.result.now [] c.at-label.ensures in
-    let one = ap length (sym here) ∙ c.requires.full c.loop-k.k [] lt in
-    let missing = label_missing c.in_ok-rows.rows c.args.axis.now.tuples c.at-label.result.now c.at.result (ap single_tuples c.in_ok-rows.ensures ∙ c.only_level.ensures) one c.at.ensures (sym c.in_ok-push_rows.ensures.some ∙ c.if-not-branch.true) in
-    ap (λ r. then_pick r (λ rows. Ok (listed_pick rows)))
-    (label_refused (leads same_number) c.args.axis.now.tuples c.args.labels.now c.loop-k.places c.loop-k.k [] (not_there c.at-label.result.now) _ lt (ap (rows_of_key (leads same_number) c.args.axis.now.tuples) here ∙ missing) c.loop-k.invariant)
-    ∙ ap (λ k. Err (not_there k)) (sym c.copy.ensures)
+    grind (arith, label_refused (leads same_number) c.args.axis.now.tuples c.args.labels.now c.loop-k.places c.loop-k.k [] (not_there c.at-label.result.now) _ lt (ap (rows_of_key (leads same_number) c.args.axis.now.tuples) here ∙ (label_missing c.in_ok-rows.rows c.args.axis.now.tuples c.at-label.result.now c.at.result (ap single_tuples c.in_ok-rows.ensures ∙ c.only_level.ensures) (ap length (sym here) ∙ c.requires.full c.loop-k.k [] lt) c.at.ensures (sym c.in_ok-push_rows.ensures.some ∙ c.if-not-branch.true))) c.loop-k.invariant, c.copy.ensures)
 
 pub loop-k-preserved : goal.loop-k-preserved
 loop-k-preserved c =
@@ -23,4 +19,4 @@ loop-k-preserved c =
     let here = get_or_from_slice_get c.args.labels.now c.loop-k.k c.at-label.result.now [] c.at-label.ensures in
     let one = ap length (sym here) ∙ c.requires.full c.loop-k.k [] lt in
     let found = label_found c.in_ok-rows.rows c.args.axis.now.tuples c.at-label.result.now c.at.result (ap single_tuples c.in_ok-rows.ensures ∙ c.only_level.ensures) one c.at.ensures (sym c.in_ok-push_rows.ensures.some ∙ c.if-not-branch.false) in
-    label_more (leads same_number) c.args.axis.now.tuples c.args.labels.now c.loop-k.places c.push_rows.new.rows _ c.loop-k.k [] _ lt (ap (rows_of_key (leads same_number) c.args.axis.now.tuples) here ∙ found) c.in_ok-push_rows.ensures.rows c.loop-k.invariant
+    label_more (leads same_number) c.args.axis.now.tuples c.args.labels.now c.loop-k.places c.push_rows.new.rows _ c.loop-k.k [] _ lt (cc) c.in_ok-push_rows.ensures.rows c.loop-k.invariant

@@ -1,13 +1,11 @@
 use Rattle.{
-  std.proofs.Common.{◌≡◌, ◌<◌, [], refl, length, slice_index_or, arith},
+  std.proofs.Common.{◌≡◌, [], refl, length, slice_index_or, arith},
   indexers.proofs.MaskLaws.{cell_at_rows},
 }
 use Rattle.indexers.proofs.masks.keeps_at.Goals as goal
 
 pub cell-requires : goal.cell-requires
-cell-requires c =
-    let lt : 0 < length c.args.found.now = omega arith in
-    c.requires.found 0 0 lt
+cell-requires = grind arith
 
 pub returns : goal.returns
 returns c =

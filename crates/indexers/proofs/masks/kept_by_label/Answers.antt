@@ -1,6 +1,6 @@
 use Rattle.{
-  std.proofs.{Common.{◌∙◌, ◌<◌, ◌++◌, ◌∷◌, [], List, ap, sym, length, map, arith}, lemmas.{Option.{get_or_from_slice_get}, Result.{err_from_is_err_and}}},
-  cell_core.specs.declared.cell.Label.{Label, TheVariants.{Na}},
+  std.proofs.{Common.{◌∙◌, ◌<◌, ap, sym, length, map, arith}, lemmas.{Option.{get_or_from_slice_get}, Result.{err_from_is_err_and}}},
+  cell_core.specs.declared.cell.Label.TheVariants.{Na},
   pick_meaning.{specs.Masks.{cell_of_label, kept_by_label}, proofs.RowLaws.{when_so, when_not}},
   index_core.specs.Labels.{same_number},
   indexers.{specs.{Masks.{is_true, as_tuple}, Picks.{as_it_is}}, proofs.{AnswerLaws.{handed_on, seen_ok, seen_refused}, TurnLaws.{mask_more, mask_refused}, masks.kept_by_label.Goals.{then-branch+in_ok-push, else-branch}}},
@@ -13,11 +13,9 @@ returns-in_err-keeps c =
     let labels = c.args.mask_axis.now in
     let axis = c.args.axis.now in
     let lt : c.loop-row.row < length axis = omega arith in
-    let here = ap (cell_of_label same_number labels mask) (get_or_from_slice_get axis c.loop-row.row c.label.result Na c.label.ensures) in
-    let known = ap (λ (ls : List Label). cell_of_label same_number ls mask c.label.result) (sym c.in_ok-labels.ensures) in
     let p = err_from_is_err_and c.from_residual-in_err-keeps.result c.from_residual-in_err-keeps.ensures.1 in
     rw (p.1, p.2) (handed_on as_it_is as_it_is c.in_err-keeps.field-0.0 _ _
-    (seen_refused as_tuple (cell_of_label same_number c.in_ok-labels.labels mask c.label.result) (kept_by_label same_number labels mask 0 axis) (λ f is. mask_refused same_number labels mask axis c.loop-row.rows c.loop-row.row Na f _ lt (here ∙ known ∙ is) c.loop-row.invariant))
+    (seen_refused as_tuple (cell_of_label same_number c.in_ok-labels.labels mask c.label.result) (kept_by_label same_number labels mask 0 axis) (λ f is. mask_refused same_number labels mask axis c.loop-row.rows c.loop-row.row Na f _ lt ((ap (cell_of_label same_number labels mask) (search get_or_from_slice_get)) ∙ (ap (λ ls. cell_of_label same_number ls mask c.label.result) (sym c.in_ok-labels.ensures)) ∙ is) c.loop-row.invariant))
     c.in_err-keeps.ensures)
 
 pub loop-row-preserved : goal.loop-row-preserved
@@ -26,12 +24,10 @@ loop-row-preserved c =
     let labels = c.args.mask_axis.now in
     let axis = c.args.axis.now in
     let lt : c.loop-row.row < length axis = omega arith in
-    let here = ap (cell_of_label same_number labels mask) (get_or_from_slice_get axis c.loop-row.row c.label.result Na c.label.ensures) in
-    let known = ap (λ (ls : List Label). cell_of_label same_number ls mask c.label.result) (sym c.in_ok-labels.ensures) in
-    let cell = here ∙ known ∙ seen_ok as_tuple (cell_of_label same_number c.in_ok-labels.labels mask c.label.result) c.in_ok-keeps.field-0 c.in_ok-keeps.ensures in
+    let cell = (ap (cell_of_label same_number labels mask) (search get_or_from_slice_get)) ∙ (ap (λ ls. cell_of_label same_number ls mask c.label.result) (sym c.in_ok-labels.ensures)) ∙ seen_ok as_tuple (cell_of_label same_number c.in_ok-labels.labels mask c.label.result) c.in_ok-keeps.field-0 c.in_ok-keeps.ensures in
     elim c.if-branch.branch [
       | then-branch+in_ok-push w ↦ mask_more same_number labels mask axis c.loop-row.rows c.if-branch.rows c.loop-row.row Na c.in_ok-keeps.field-0 _ lt cell
-          (w.rows-is ∙ w.in_ok-push.ensures.ok ∙ sym (when_so c.in_ok-keeps.field-0 (c.loop-row.rows ++ c.loop-row.row ∷ []) c.loop-row.rows w.if-branch.true)) c.loop-row.invariant
+          (grind (arith, when_so)) c.loop-row.invariant
       | else-branch w ↦ mask_more same_number labels mask axis c.loop-row.rows c.if-branch.rows c.loop-row.row Na c.in_ok-keeps.field-0 _ lt cell
-          (w.rows-is ∙ sym (when_not c.in_ok-keeps.field-0 (c.loop-row.rows ++ c.loop-row.row ∷ []) c.loop-row.rows w.if-branch.false)) c.loop-row.invariant
+          (search when_not) c.loop-row.invariant
     ]

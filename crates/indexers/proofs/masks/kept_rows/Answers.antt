@@ -12,5 +12,5 @@ loop-row-preserved c =
     let read = cell_read cells c.loop-row.row c.cell.result c.cell.ensures.cell ∙ sym c.is_true.ensures in
     elim c.if-is_true.branch [
       | then-is_true+in_ok-push w ↦ rows_more_yes (λ kept. kept) (map is_true cells) c.loop-row.row false c.loop-row.rows c.if-is_true.rows lt c.loop-row.invariant (read ∙ w.if-is_true.true) (w.rows-is ∙ w.in_ok-push.ensures.ok)
-      | else-is_true w ↦ rows_more_no (λ kept. kept) (map is_true cells) c.loop-row.row false c.if-is_true.rows lt (w.rows-is ∙ c.loop-row.invariant) (read ∙ w.if-is_true.false)
+      | else-is_true w ↦ grind (arith, rows_more_no)
     ]

@@ -1,6 +1,5 @@
 use Rattle.{
-  std.proofs.{Common.{◌∙◌, ◌<◌, ap, length, List, pos, Ok, arith, rules, w64, FitsSigned}, lemmas.{Option.{get_or_from_slice_get}, Int.{to_z-of_z}, Result.{err_from_is_err_and}}},
-  cell_core.specs.declared.cell.Label.{Label},
+  std.proofs.{Common.{◌∙◌, ◌<◌, ap, length, pos, Ok, arith, rules, w64, FitsSigned}, lemmas.{Option.{get_or_from_slice_get}, Int.{to_z-of_z}, Result.{err_from_is_err_and}}},
   pick_meaning.specs.{Faults.{then_pick}, Keys.{listed_pick}, Positions.{row_at}},
   indexers.{specs.Picks.{as_it_is, pick_of}, proofs.{AnswerLaws.{handed_on}, TurnLaws.{place_more, place_refused}}},
 }
@@ -12,8 +11,8 @@ returns-in_err-row_at-clause-picked c =
     let here = get_or_from_slice_get c.args.positions.now c.loop-k.k c.at.result.now (pos 0) c.at.ensures in
     let fits : FitsSigned w64 c.at.result.now = search rules in
     let p = err_from_is_err_and c.from_residual.result c.from_residual.ensures.1 in
-    rw (p.1, p.2) (handed_on as_it_is pick_of c.in_err-row_at.field-0.0 (row_at {K = List Label} c.args.count c.at.result.now) _
-    (λ f is. ap (λ r. then_pick r (λ rows. Ok (listed_pick rows))) (place_refused {K = List Label} c.args.count c.args.positions.now c.loop-k.places c.loop-k.k (pos 0) f _ lt (ap (row_at {K = List Label} c.args.count) here ∙ is) c.loop-k.invariant))
+    rw (p.1, p.2) (handed_on as_it_is pick_of c.in_err-row_at.field-0.0 (row_at c.args.count c.at.result.now) _
+    (λ f is. ap (λ r. then_pick r (λ rows. Ok (listed_pick rows))) (place_refused c.args.count c.args.positions.now c.loop-k.places c.loop-k.k (pos 0) f _ lt (ap (row_at c.args.count) here ∙ is) c.loop-k.invariant))
     (simp to_z-of_z at c.in_err-row_at.ensures))
 
 pub loop-k-preserved : goal.loop-k-preserved
@@ -21,4 +20,4 @@ loop-k-preserved c =
     let lt : c.loop-k.k < length c.args.positions.now = omega arith in
     let here = get_or_from_slice_get c.args.positions.now c.loop-k.k c.at.result.now (pos 0) c.at.ensures in
     let fits : FitsSigned w64 c.at.result.now = search rules in
-    place_more {K = List Label} c.args.count c.args.positions.now c.loop-k.places c.push.new.self c.in_ok-row_at.field-0 c.loop-k.k (pos 0) _ lt (ap (row_at {K = List Label} c.args.count) here ∙ (simp to_z-of_z at c.in_ok-row_at.ensures)) c.in_ok-push.ensures.ok c.loop-k.invariant
+    place_more c.args.count c.args.positions.now c.loop-k.places c.push.new.self c.in_ok-row_at.field-0 c.loop-k.k (pos 0) _ lt (grind (arith, to_z-of_z)) c.in_ok-push.ensures.ok c.loop-k.invariant

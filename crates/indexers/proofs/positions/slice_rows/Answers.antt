@@ -6,9 +6,7 @@ use Rattle.{
 use Rattle.indexers.proofs.positions.slice_rows.Goals as goal
 
 pub returns-then-step-gt0-clause-below : goal.returns-then-step-gt0-clause-below
-returns-then-step-gt0-clause-below c =
-    let fits = c.ranges.step in
-    simp to_z-of_z (forward_spaced c.rows_before-low.result c.rows_before-high.result c.args.count c.steps.result c.args.step (simp to_z-of_z at c.if-step-gt0.true) c.rows_before-high.ensures.within (simp to_z-of_z at c.steps.ensures))
+returns-then-step-gt0-clause-below c = search (to_z-of_z, forward_spaced)
 
 pub returns-clause-below : goal.returns-clause-below
 returns-clause-below c =

@@ -1,6 +1,5 @@
 use Rattle.{
-  std.proofs.{Common.{◌≡◌, ◌<◌, ◌≤◌, length, arith}, lemmas.List.{take_all, Elements.{All-push}}},
-  column_core.specs.Columns.{CellColumn},
+  std.proofs.{Common.{◌≡◌, ◌<◌, length, arith}, lemmas.List.Elements.{All-push}},
   key_columns.proofs.KeyLaws.{one_more_ref},
 }
 use Rattle.key_columns.proofs.columns.columns_at.Goals as goal
@@ -10,10 +9,5 @@ loop-k-preserved c =
     let lt : c.loop-k.k < length c.args.places.now = omega arith in
     record {
       columns = one_more_ref c.args.on.now _ _ _ _ _ _ lt c.at.ensures c.column.ensures.column c.in_ok-push.ensures.items c.loop-k.invariant.columns;
-      rows = rw c.in_ok-push.ensures.items (All-push (λ (d : CellColumn). length d.cells ≡ length c.args.on.now.labels) _ _ c.loop-k.invariant.rows c.column.ensures.rows);
+      rows = rw c.in_ok-push.ensures.items (All-push (λ d. length d.cells ≡ length c.args.on.now.labels) _ _ c.loop-k.invariant.rows c.column.ensures.rows);
     }
-
-pub returns-clause-columns : goal.returns-clause-columns
-returns-clause-columns c =
-    let end : length c.args.places.now ≤ c.loop-k.k = omega arith in
-    rw (take_all c.loop-k.k c.args.places.now end) at c.loop-k.invariant.columns

@@ -1,16 +1,15 @@
 use Rattle.{
   std.proofs.Common.{arith, ◌≡◌, ◌∙◌, ap, subst, sym},
   multi_index.{specs.Axes.{HaveLevels, nameless_axis, single_tuples}, proofs.TupleLaws.{levels_of_taken}},
-  label_align.{specs.Both.{tuples_of}, proofs.AxisLaws.{single_rows}},
+  label_align.proofs.AxisLaws.{single_rows},
 }
 use Rattle.label_align.proofs.axes.axis_of_rows.Goals as goal
 
 pub returns-then-both-eq1 : goal.returns-then-both-eq1
 returns-then-both-eq1 c =
-    let tuples = tuples_of c.args.both.now in
     let one : c.args.both.now.levels ≡ 1 = search in
     c.from_labels.ensures
-    ∙ (λ i. nameless_axis ((ap single_tuples c.in_ok-labels.ensures ∙ single_rows tuples c.args.rows.now (grind arith) c.requires.rows) i) (sym one i))
+    ∙ (λ i. nameless_axis ((ap single_tuples c.in_ok-labels.ensures ∙ single_rows _ _ (grind arith) c.requires.rows) i) (sym one i))
 
 pub from_tuples-requires-clause-alike : goal.from_tuples-requires-clause-alike
 from_tuples-requires-clause-alike c =

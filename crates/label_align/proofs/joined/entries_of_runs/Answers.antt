@@ -1,7 +1,7 @@
 use Rattle.{
   std.proofs.{lemmas.List.{drop-drop, Sums.{sum_by_more}}, Common.{◌≡◌, ◌∙◌, ◌<◌, List, ℕ, take, drop, length, ap, arith, slice_index_or}},
   align_meaning.specs.Joins.{lists_of},
-  label_align.{specs.{declared.runs.Run.{Run}, Runs.{no_run, run_entries, entries_in, rows_in, total}}, proofs.{JoinedLaws.{lists_more}, SideLaws.{run_more}}},
+  label_align.{specs.{declared.runs.Run.{Run}, Runs.{no_run, entries_in, rows_in, total}}, proofs.{JoinedLaws.{lists_more}, SideLaws.{run_more}}},
 }
 use Rattle.label_align.proofs.joined.entries_of_runs.Goals as goal
 
@@ -16,7 +16,7 @@ loop-run-preserved c =
     let more = sum_by_more rows_in runs k no_run lt in
     let here : drop c.loop-run.from rows ≡ drop (total (take k runs)) rows = grind arith in
     record {
-      made = lists_more c.loop-run.out c.push_key.new.out (run_entries count (take k runs) rows) (entries_in count run (drop (total (take k runs)) rows)) c.loop-run.invariant.made
+      made = lists_more c.loop-run.out c.push_key.new.out _ (entries_in count run (drop (total (take k runs)) rows)) c.loop-run.invariant.made
           (grind (arith, drop-drop))
           ∙ ap lists_of (grind (arith, run_more));
       from = omega arith;

@@ -1,18 +1,9 @@
 use Rattle.{
-  std.proofs.Common.{arith, ◌∙◌, ◌++◌, ap, sym, Ok},
+  std.proofs.Common.{◌∙◌, ◌++◌, ap, sym, Ok},
   multi_index.specs.Axes.{AxisValue, tuples_at},
-  label_align.proofs.{LawOfJoins.{law_of}, OuterLaws.{both_given}},
+  label_align.proofs.LawOfJoins.{law_of},
 }
 use Rattle.label_align.proofs.joins.outer.Goals as goal
-
-pub joined_rows-requires-clause-given : goal.joined_rows-requires-clause-given
-joined_rows-requires-clause-given c = both_given c.args.dict.now c.args.a.now.tuples c.args.b.now.tuples c.requires.given_a c.requires.given_b
-
-pub axis_of_rows-requires-clause-rows : goal.axis_of_rows-requires-clause-rows
-axis_of_rows-requires-clause-rows c = grind arith
-
-pub returns-clause-rows : goal.returns-clause-rows
-returns-clause-rows c = grind arith
 
 pub returns-clause-law : goal.returns-clause-law
 returns-clause-law c =

@@ -5,7 +5,7 @@ use Rattle.{
 use Rattle.label_align.proofs.targets.are_in_sequence.Goals as goal
 
 pub returns-then-codes-place : goal.returns-then-codes-place
-returns-then-codes-place c = grind (arith, get_or-range_with_len)
+returns-then-codes-place = grind (arith, get_or-range_with_len)
 
 pub returns : goal.returns
 returns c =

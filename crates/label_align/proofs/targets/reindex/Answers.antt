@@ -1,12 +1,12 @@
 use Rattle.{
-  std.proofs.{Common.{arith, ◌∙◌, sym, length}, lemmas.Option.{get_or_from_slice_get}},
+  std.proofs.{Common.{arith, ◌∙◌, sym}, lemmas.Option.{get_or_from_slice_get}},
   row_keys.proofs.PartnerLaws.{firsts_counted, left_is, right_is, left_below, right_below, buckets_counted},
   label_align.proofs.TargetLaws.{as_they_are, repeated, found, found_in_sequence},
 }
 use Rattle.label_align.proofs.targets.reindex.Goals as goal
 
 pub returns-then-has_tuples : goal.returns-then-has_tuples
-returns-then-has_tuples g c = grind (arith, as_they_are)
+returns-then-has_tuples = grind (arith, as_they_are)
 
 pub rows_by_code-requires-clause-known : goal.rows_by_code-requires-clause-known
 rows_by_code-requires-clause-known g c =
@@ -22,19 +22,19 @@ first_repeat-requires g c =
     let b = g.R.LevelRows.tuples c.args.target.now in
     let coded = c.deref-codes.ensures.value ∙ c.in_ok-numbers.ensures.codes in
     let first = c.deref-firsts.ensures.value ∙ c.in_ok-numbers.ensures.firsts in
-    left_below a b c.split_at.result.0.now (length c.in_ok-rows-2.rows) (search left_is)
+    left_below a b c.split_at.result.0.now _ (search left_is)
     (grind (arith, buckets_counted, firsts_counted))
 
 pub returns-in-Some : goal.returns-in-Some
 returns-in-Some g c =
     let a = c.args.a.now.tuples in
-    let b = g.R.LevelRows.tuples c.args.target.now in
+    let b = g.R.LevelRows.tuples _ in
     let coded = c.deref-codes.ensures.value ∙ c.in_ok-numbers.ensures.codes in
     let first = c.deref-firsts.ensures.value ∙ c.in_ok-numbers.ensures.firsts in
-    repeated a b c.in_ok-rows-2.rows c.split_at.result.0.now
+    repeated a b _ _
     (grind (arith, firsts_counted, left_is))
     (search left_is)
-    c.has_tuples.result c.in-Some.row c.tuple.result c.has_tuples.ensures c.if-has_tuples.false c.in-Some.ensures (sym (search get_or_from_slice_get))
+    c.has_tuples.result _ _ c.has_tuples.ensures c.if-has_tuples.false c.in-Some.ensures (sym (search get_or_from_slice_get))
 
 pub rows_of_codes-requires : goal.rows_of_codes-requires
 rows_of_codes-requires g c =
@@ -42,26 +42,26 @@ rows_of_codes-requires g c =
     let b = g.R.LevelRows.tuples c.args.target.now in
     let coded = c.deref-codes.ensures.value ∙ c.in_ok-numbers.ensures.codes in
     let first = c.deref-firsts.ensures.value ∙ c.in_ok-numbers.ensures.firsts in
-    right_below a b c.split_at.result.1.now (length c.in_ok-rows-2.rows) (search right_is)
+    right_below a b c.split_at.result.1.now _ (search right_is)
     (grind (arith, buckets_counted, firsts_counted))
 
 pub returns-then-are_in_sequence : goal.returns-then-are_in_sequence
 returns-then-are_in_sequence g c =
     let a = c.args.a.now.tuples in
-    let b = g.R.LevelRows.tuples c.args.target.now in
+    let b = g.R.LevelRows.tuples _ in
     let coded = c.deref-codes.ensures.value ∙ c.in_ok-numbers.ensures.codes in
     found_in_sequence a b c.split_at.result.0.now (search left_is)
-    (grind arith) c.has_tuples.result c.split_at.result.1.now c.in_ok-gaps.gaps c.has_tuples.ensures c.if-has_tuples.false
+    (grind arith) c.has_tuples.result c.split_at.result.1.now _ c.has_tuples.ensures c.if-has_tuples.false
     (search right_is)
     (grind arith)
 
 pub returns : goal.returns
 returns g c =
     let a = c.args.a.now.tuples in
-    let b = g.R.LevelRows.tuples c.args.target.now in
+    let b = g.R.LevelRows.tuples _ in
     let coded = c.deref-codes.ensures.value ∙ c.in_ok-numbers.ensures.codes in
     let first = c.deref-firsts.ensures.value ∙ c.in_ok-numbers.ensures.firsts in
-    found a b c.in_ok-rows-2.rows c.split_at.result.0.now
+    found a b _ _
     (grind (arith, firsts_counted, left_is))
     (search left_is)
-    c.has_tuples.result c.split_at.result.1.now c.in_ok-gaps-2.gaps c.has_tuples.ensures c.if-has_tuples.false c.in_default.ensures (search right_is) c.in_ok-gaps-2.ensures
+    c.has_tuples.result _ _ c.has_tuples.ensures c.if-has_tuples.false c.in_default.ensures (search right_is) c.in_ok-gaps-2.ensures

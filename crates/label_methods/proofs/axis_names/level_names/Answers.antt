@@ -1,5 +1,5 @@
 use Rattle.{
-  signatures.{proofs.{ScalarLaws.{scalars_are}, ToldLaws.{some_same}}, specs.Bound.{stands_at}},
+  signatures.proofs.{ScalarLaws.{scalars_are}, ToldLaws.{some_same}},
   column_core.proofs.CellRows.{map-map},
   std.proofs.Common.{arith, ◌≡◌, [], ◌∷◌, rules},
   label_methods.proofs.{LevelNameLaws.{single_name}, axis_names.level_names.Goals.{in-Some+in_ok-push_names-in-Some, in-None+in_ok-push-in-None}},
@@ -12,6 +12,6 @@ returns c = λ live texts.
       | in-Some+in_ok-push_names-in-Some w ↦ grind (arith, scalars_are, map-map, some_same)
       | in-None+in_ok-push-in-None w ↦
           let one : c.match-list_or_none.names.items ≡ w.name_of.result ∷ [] = search rules in
-          single_name texts (stands_at live texts c.args.bound.now 0) w.name_of.result c.match-list_or_none.names.items (w.in-None.ensures.value live texts)
+          single_name _ _ _ _ (w.in-None.ensures.value live texts)
           (cc (w.name_of.ensures texts, w.scalar_or_none.ensures live texts)) one
     ]

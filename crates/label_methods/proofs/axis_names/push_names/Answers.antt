@@ -12,16 +12,16 @@ loop-item-preserved c = λ texts.
       | in-Some+in_ok-push w ↦
           let pushed : c.match-scalar.names.items ≡ c.loop-item.names.items ++ Some w.label_of.result ∷ [] = search rules in
           let some : c.scalar.result ≡ Some w.in-Some.cell = search rules in
-          names_more texts c.args.items.now c.loop-item.item-index c.item-item.result w.in-Some.cell w.label_of.result c.loop-item.names.items c.match-scalar.names.items _ lt c.item-item.is
+          names_more _ _ _ _ _ _ _ _ _ lt c.item-item.is
           (λ live ts. ap (option_map (datum ts)) (sym some) ∙ c.scalar.ensures live ts) (w.label_of.ensures.seen texts) pushed (c.loop-item.invariant texts)
       | in_default w ↦
           let same : c.match-scalar.names.items ≡ c.loop-item.names.items = search rules in
           let none : c.scalar.result ≡ None = search rules in
-          rw same (names_same texts c.args.items.now c.loop-item.item-index c.item-item.result c.loop-item.names.items _ lt c.item-item.is
+          rw same (names_same _ _ _ _ _ _ lt c.item-item.is
           (λ live ts. ap (option_map (datum ts)) (sym none) ∙ c.scalar.ensures live ts) (c.loop-item.invariant texts))
     ]
 
 pub returns : goal.returns
 returns c = λ texts.
     let end : length c.args.items.now ≤ c.loop-item.item-index = omega arith in
-    names_all texts c.args.items.now c.loop-item.item-index c.loop-item.names.items _ end (c.loop-item.invariant texts)
+    names_all _ _ _ _ _ end (c.loop-item.invariant texts)

@@ -6,12 +6,12 @@ use Rattle.{
 use Rattle.label_methods.proofs.axis_names.renumber.Goals as goal
 
 pub returns-then-not-within_limits : goal.returns-then-not-within_limits
-returns-then-not-within_limits c = grind (arith, renumbered_beyond)
+returns-then-not-within_limits = grind (arith, renumbered_beyond)
 
 pub table_under_axis-requires-clause-rows : goal.table_under_axis-requires-clause-rows
-table_under_axis-requires-clause-rows c = grind (arith, range_rows)
+table_under_axis-requires-clause-rows = grind (arith, range_rows)
 
 pub returns : goal.returns
 returns c = λ texts settled.
     let within : within_limits (length c.args.on.now.labels) (length c.args.on.now.columns) ≡ true = search rules in
-    renumbered_made texts c.args.on.now c.in_ok-table_under_axis.field-0 c.in_ok-axis.axis c.rows-2.result c.in_ok-axis.ensures c.rows-2.ensures within settled c.in_ok-table_under_axis.ensures
+    renumbered_made _ _ _ _ _ c.in_ok-axis.ensures c.rows-2.ensures within settled c.in_ok-table_under_axis.ensures

@@ -6,16 +6,16 @@ use Rattle.{
 use Rattle.label_methods.proofs.cross_section.rows_without_level.Goals as goal
 
 pub chosen_blocks-requires-clause-columns : goal.chosen_blocks-requires-clause-columns
-chosen_blocks-requires-clause-columns c = grind (arith, places_inside)
+chosen_blocks-requires-clause-columns = grind (arith, places_inside)
 
 pub new-requires-clause-whole : goal.new-requires-clause-whole
 new-requires-clause-whole c =
     let t = c.args.on.now in
     rw (section_made t c.args.rows.now c.in_ok-columns.columns c.args.level c.columns.result c.shape.result c.axis.result.now c.in_ok-taken.taken c.in_ok-axis.axis c.in_ok-headings.headings c.in_ok-blocks.blocks
-    c.shape.ensures c.axis.ensures c.in_ok-taken.ensures c.in_ok-axis.ensures c.in_ok-headings.ensures c.in_ok-columns.ensures c.columns.ensures c.in_ok-blocks.ensures.columns) (section_whole t c.args.rows.now c.args.level c.requires.whole)
+    c.shape.ensures c.axis.ensures c.in_ok-taken.ensures c.in_ok-axis.ensures c.in_ok-headings.ensures c.in_ok-columns.ensures c.columns.ensures c.in_ok-blocks.ensures.columns) (section_whole t _ _ c.requires.whole)
 
 pub returns : goal.returns
 returns c =
     c.new.ensures
-    ∙ section_made c.args.on.now c.args.rows.now c.in_ok-columns.columns c.args.level c.columns.result c.shape.result c.axis.result.now c.in_ok-taken.taken c.in_ok-axis.axis c.in_ok-headings.headings c.in_ok-blocks.blocks
+    ∙ section_made _ _ _ _ _ _ _ _ _ _ _
     c.shape.ensures c.axis.ensures c.in_ok-taken.ensures c.in_ok-axis.ensures c.in_ok-headings.ensures c.in_ok-columns.ensures c.columns.ensures c.in_ok-blocks.ensures.columns

@@ -8,7 +8,7 @@ use Rattle.label_methods.proofs.indexing.cell_labels.Goals as goal
 pub loop-row-preserved : goal.loop-row-preserved
 loop-row-preserved c =
     let lt : c.loop-row.row < length c.args.column.now.cells = omega arith in
-    one_more_label c.args.column.now.cells c.loop-row.row c.cell.result c.label_of.result c.loop-row.labels.items c.push.new.self.items lt c.cell.ensures.cell c.label_of.ensures.label c.loop-row.invariant c.in_ok-push.ensures.items
+    one_more_label _ _ _ _ _ _ lt c.cell.ensures.cell c.label_of.ensures.label c.loop-row.invariant c.in_ok-push.ensures.items
 
 pub returns : goal.returns
-returns c = grind (arith, take_all)
+returns = grind (arith, take_all)

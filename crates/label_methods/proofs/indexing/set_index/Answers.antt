@@ -1,9 +1,9 @@
 use Rattle.{
-  std.proofs.{Common.{◌≡◌, ◌<◌, ◌≤◌, ◌∙◌, ap, sym, subst, refl, true, false, length, arith, rules}, lemmas.Result.{err_from_is_err_and}},
+  std.proofs.{Common.{◌≡◌, ◌<◌, ◌≤◌, ◌∙◌, ap, sym, refl, true, false, length, arith, rules}, lemmas.Result.{err_from_is_err_and}},
   table_meaning.specs.Table.{table_value},
   form_meaning.specs.Finish.{within_limits, limited},
   method_meaning.specs.Levels.{indexed_by},
-  selections.specs.Headings.{NamesRepeated, repeated_heading},
+  selections.specs.Headings.{repeated_heading},
   label_methods.proofs.{NamedLaws.{others_inside}, IndexingLaws.{kept_meant, index_repeated, index_beyond, without_level, beyond_levels, beyond_cells, index_whole, made_index, index_made}, indexing.set_index.Goals.{then-levels-eq0-via-then-levels-eq0, then-levels-eq0-via-else-levels-eq0+then-levels-gt4, then-levels-eq0-via-else-levels-eq0+else-levels-gt4+then-not-within_limits}},
 }
 use Rattle.label_methods.proofs.indexing.set_index.Goals as goal
@@ -12,7 +12,7 @@ pub headings_at-requires : goal.headings_at-requires
 headings_at-requires c = grind (arith, others_inside c.args.places.now c.in_ok-kept.kept c.columns.result)
 
 pub copied_columns-requires : goal.copied_columns-requires
-copied_columns-requires c = others_inside c.args.places.now c.in_ok-kept.kept c.columns.result (length c.args.on.now.columns) c.in_ok-kept.ensures c.columns.ensures
+copied_columns-requires c = others_inside _ _ _ _ c.in_ok-kept.ensures c.columns.ensures
 
 -- a heading that stands again
 pub returns-in_err-headings : goal.returns-in_err-headings
@@ -20,9 +20,9 @@ returns-in_err-headings c =
     let labels = c.as_slice.ensures.value ∙ c.in_ok-labels.ensures in
     let p = err_from_is_err_and c.from_residual-in_err-headings.result c.from_residual-in_err-headings.ensures.1 in
     rw (p.1, p.2)
-    (index_repeated c.args.dict.now c.args.on.now c.args.places.now c.in_ok-kept.kept c.in_err-headings.field-0.0 c.len.ensures.distinct c.requires.known.given
-    (kept_meant c.args.on.now c.args.places.now c.in_ok-kept.kept c.columns.result c.in_ok-kept.ensures c.columns.ensures)
-    (subst (λ hs. NamesRepeated c.in_err-headings.field-0.0 (repeated_heading hs)) labels c.in_err-headings.ensures.refused))
+    (index_repeated _ _ _ _ _ c.len.ensures.distinct c.requires.known.given
+    (kept_meant c.args.on.now _ _ _ c.in_ok-kept.ensures c.columns.ensures)
+    (grind arith))
 
 -- too many levels, or cells
 pub returns-then-levels-eq0 : goal.returns-then-levels-eq0
@@ -31,7 +31,7 @@ returns-then-levels-eq0 c =
     let t = c.args.on.now in
     let places = c.args.places.now in
     let labels = c.as_slice.ensures.value ∙ c.in_ok-labels.ensures in
-    let besides = kept_meant t places c.in_ok-kept.kept c.columns.result c.in_ok-kept.ensures c.columns.ensures in
+    let besides = kept_meant t _ _ _ c.in_ok-kept.ensures c.columns.ensures in
     let none = ap repeated_heading (sym labels) ∙ c.in_ok-headings.ensures.different in
     let rest = limited (indexed_by (table_value dict t) places) in
     elim c.then-levels-eq0.branch [
@@ -49,13 +49,12 @@ new-requires-clause-whole c =
     let t = c.args.on.now in
     let labels = c.as_slice.ensures.value ∙ c.in_ok-labels.ensures in
     let named = c.in_ok-headings.ensures.made ∙ (λ j. record { columns_name = c.columns_name.ensures j; labels = labels j }) in
-    index_whole t c.in_ok-axis.axis c.in_ok-headings.headings c.in_ok-blocks.blocks c.args.places.now c.in_ok-kept.kept c.requires.known.whole c.requires.shape
-    (others_inside c.args.places.now c.in_ok-kept.kept c.columns.result (length t.columns) c.in_ok-kept.ensures c.columns.ensures)
+    index_whole t _ _ _ _ _ c.requires.known.whole c.requires.shape
+    (others_inside _ _ _ _ c.in_ok-kept.ensures c.columns.ensures)
     (ap repeated_heading (sym labels) ∙ c.in_ok-headings.ensures.different) c.in_ok-axis.ensures named c.in_ok-blocks.ensures.columns
 
 pub returns : goal.returns
 returns c =
-    let dict = c.args.dict.now in
     let t = c.args.on.now in
     let places = c.args.places.now in
     let kept = c.in_ok-kept.kept in
@@ -64,6 +63,6 @@ returns c =
     let within : within_limits (length t.labels) (length kept) ≡ true = search rules in
     let some : 1 ≤ length places = omega arith in
     let few : length places ≤ 4 = omega (arith, c.len-levels.ensures, c.if-levels-gt4.false) in
-    index_made dict t c.new.result places kept c.len.ensures.distinct c.requires.known.given c.requires.shape
-    (kept_meant t places kept c.columns.result c.in_ok-kept.ensures c.columns.ensures) (ap repeated_heading (sym labels) ∙ c.in_ok-headings.ensures.different) some few within
-    (c.new.ensures ∙ made_index t c.in_ok-axis.axis c.in_ok-headings.headings c.in_ok-blocks.blocks places kept c.in_ok-axis.ensures named c.in_ok-blocks.ensures.columns)
+    index_made _ t _ _ _ c.len.ensures.distinct c.requires.known.given c.requires.shape
+    (kept_meant t _ _ _ c.in_ok-kept.ensures c.columns.ensures) (ap repeated_heading (sym labels) ∙ c.in_ok-headings.ensures.different) some few within
+    (c.new.ensures ∙ made_index t _ _ _ _ _ c.in_ok-axis.ensures named c.in_ok-blocks.ensures.columns)

@@ -7,16 +7,16 @@ use Rattle.label_methods.proofs.level_columns.column_of_kind.Goals as goal
 pub returns-in_err-push_held : goal.returns-in_err-push_held
 returns-in_err-push_held c = λ texts.
     let p = err_from_is_err_and c.from_residual.result c.from_residual.ensures.1 in
-    rw (p.1, p.2) (held_refused texts c.args.kind c.args.axis.now c.loop-row.row c.args.level c.label.result c.cell_of-cell.result c.loop-row.column c.in_err-push_held.field-0.0 _
+    rw (p.1, p.2) (held_refused _ _ c.args.axis.now _ _ _ _ _ _ _
     c.label.ensures c.cell_of-cell.ensures c.loop-row.invariant.kind c.in_err-push_held.ensures.err (c.loop-row.invariant.cells texts))
 
 pub loop-row-preserved : goal.loop-row-preserved
 loop-row-preserved c =
     record {
       kind = search;
-      cells = λ texts. held_step texts c.args.kind c.args.axis.now c.loop-row.row c.args.level c.label.result c.cell_of-cell.result c.loop-row.column c.push_held.new.column _
+      cells = λ texts. held_step _ _ c.args.axis.now _ _ _ _ _ c.push_held.new.column _
           c.label.ensures c.cell_of-cell.ensures c.loop-row.invariant.kind c.in_ok-push_held.ensures.ok (c.loop-row.invariant.cells texts);
     }
 
 pub returns : goal.returns
-returns c = λ texts. held_ends texts c.args.kind c.args.axis.now c.loop-row.row c.args.level c.loop-row.column (omega arith) c.loop-row.invariant.kind (c.loop-row.invariant.cells texts)
+returns c = λ texts. held_ends _ _ c.args.axis.now _ _ _ (omega arith) c.loop-row.invariant.kind (c.loop-row.invariant.cells texts)

@@ -1,5 +1,5 @@
 use Rattle.{
-  std.proofs.{Common.{◌∙◌, ◌++◌, ◌∷◌, [], ap, sym, subst, arith, All}, lemmas.{List.Elements.{All-append}, Result.{err_from_is_err_and}}},
+  std.proofs.{Common.{◌∙◌, ◌++◌, ◌∷◌, [], ap, arith}, lemmas.{List.Elements.{All-append}, Result.{err_from_is_err_and}}},
   frame_store.specs.Parts.{IsSingle, single_block, table_column},
   label_methods.proofs.LevelColumnLaws.{level_step, level_refused, levels_end},
 }
@@ -15,9 +15,9 @@ loop-level-preserved c =
     let more = c.in_ok-push.ensures.ok ∙ ap (λ b. c.loop-level.blocks ++ b ∷ []) c.into_block.ensures in
     let new = c.in_ok-column.column in
     record {
-      single = subst (All IsSingle) (sym more) (All-append IsSingle c.loop-level.blocks (single_block (table_column new) ∷ []) c.loop-level.invariant.single (grind arith));
-      columns = λ texts. level_step texts c.args.axis.now c.loop-level.level c.loop-level.blocks c.push.new.self new (omega arith) more (c.in_ok-column.ensures texts) (c.loop-level.invariant.columns texts);
+      single = rw more (All-append IsSingle c.loop-level.blocks (single_block (table_column new) ∷ []) c.loop-level.invariant.single (grind arith));
+      columns = λ texts. level_step _ c.args.axis.now _ _ _ new (omega arith) more (c.in_ok-column.ensures texts) (c.loop-level.invariant.columns texts);
     }
 
 pub returns-clause-columns : goal.returns-clause-columns
-returns-clause-columns c = λ texts. levels_end texts c.args.axis.now c.loop-level.level c.loop-level.blocks (omega arith) (c.loop-level.invariant.columns texts)
+returns-clause-columns c = grind (arith, levels_end)

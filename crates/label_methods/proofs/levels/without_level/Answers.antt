@@ -13,4 +13,4 @@ returns c = λ texts settled.
     let several : 2 ≤ length t.level_names = omega arith in
     subst (λ r. Makes texts c.under_within.result r)
     (cc (dropped_seen texts t c.in_ok-axis.axis c.args.level is, level_stays texts t c.args.level several))
-    (c.under_within.ensures texts (dropped_settled texts t c.in_ok-axis.axis c.args.level is settled))
+    (c.under_within.ensures texts (dropped_settled _ t _ _ is settled))

@@ -1,23 +1,19 @@
 use Rattle.{
   std.proofs.Common.{arith, ◌≡◌, length},
-  table_meaning.specs.Table.{table_value},
   frame_store.specs.Objects.{tables, table_at},
   label_methods.proofs.{AnswerLaws.{forms_so}, NamedLaws.{others_inside, others_meant}},
 }
 use Rattle.label_methods.proofs.named_columns.drop_columns.Goals as goal
 
 pub places_besides-requires : goal.places_besides-requires
-places_besides-requires c = grind arith
+places_besides-requires = grind arith
 
 pub columns_of-requires-clause-columns : goal.columns_of-requires-clause-columns
 columns_of-requires-clause-columns c =
-    let t = table_at (tables c.args.store.now) c.args.on.0 in
-    let count : c.columns.result ≡ length t.columns = grind arith in
     grind (arith, others_inside c.args.places.now c.in_ok-kept.kept c.columns.result)
 
 pub returns : goal.returns
 returns c =
     let t = table_at (tables c.args.store.now) c.args.on.0 in
-    let v = table_value c.args.dict.now t in
     let count : c.columns.result ≡ length t.columns = grind arith in
     forms_so _ _ _ _ _ (cc (others_meant c.args.dict.now t c.args.places.now c.in_ok-kept.kept c.columns.result c.in_ok-kept.ensures count)) c.columns_of.ensures

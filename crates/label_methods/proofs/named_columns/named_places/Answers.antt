@@ -3,7 +3,7 @@ use Rattle.{
   meaning.specs.{Cell.{datum}, Operator.{cell_label}},
   table_meaning.specs.Value.{scalar_in},
   form_meaning.specs.Select.{column_places},
-  frame_store.specs.{Objects.{tables, table_at, table_or}, World.{world}},
+  frame_store.specs.{Objects.{tables, table_or}, World.{world}},
   signatures.proofs.{ScalarLaws.{items_settled, scalars_are}, ToldLaws.{told_settled, some_same}},
   label_methods.proofs.{AnswerLaws.{known_table}, NamedLaws.{found_at, label_named}},
 }
@@ -20,9 +20,7 @@ place_of-requires-clause-cell c = λ more.
 
 pub returns-in-Some : goal.returns-in-Some
 returns-in-Some c =
-    let w = world c.args.store.now c.args.dict.now in
-    let cell = datum w.texts c.in-Some.cell in
-    found_at w.texts c.read-source.result (table_at w.tables c.args.on.0) c.place_of.result (λ t. column_places t (cell_label cell ∷ [])) _
+    found_at _ _ _ _ (λ t. column_places t (cell_label (datum (world c.args.store.now c.args.dict.now).texts c.in-Some.cell) ∷ [])) _
     (sym (ap table_or c.read-source.ensures.table))
     (grind (arith, label_named))
     c.place_of.ensures
@@ -33,7 +31,7 @@ places_of-requires-clause-known c = search (known_table (world c.args.store.now 
 
 pub places_of-requires-clause-items : goal.places_of-requires-clause-items
 places_of-requires-clause-items c =
-    items_settled c.args.bound.now 0 c.in-Some-list_or_none.items.now (tables c.args.store.now) c.args.dict.now c.in-Some-list_or_none.ensures.value c.requires.names.given
+    items_settled c.args.bound.now 0 _ _ _ c.in-Some-list_or_none.ensures.value c.requires.names.given
 
 pub returns-in-Some-list_or_none : goal.returns-in-Some-list_or_none
-returns-in-Some-list_or_none c = grind (arith, found_at, scalars_are)
+returns-in-Some-list_or_none = grind (arith, found_at, scalars_are)

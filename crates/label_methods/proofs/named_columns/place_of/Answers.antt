@@ -13,7 +13,7 @@ pub column_place-requires-clause-label : goal.column_place-requires-clause-label
 column_place-requires-clause-label c = search label_settled
 
 pub returns-in_err-place : goal.returns-in_err-place
-returns-in_err-place c = grind (arith, err_from_is_err_and)
+returns-in_err-place = grind (arith, err_from_is_err_and)
 
 pub returns : goal.returns
-returns c = grind (arith, place_found)
+returns = grind (arith, place_found)

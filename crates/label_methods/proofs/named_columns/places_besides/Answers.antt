@@ -6,4 +6,4 @@ use Rattle.{
 use Rattle.label_methods.proofs.named_columns.places_besides.Goals as goal
 
 pub loop-place-preserved : goal.loop-place-preserved
-loop-place-preserved c = grind (arith, nat_eq, get_or_default, then-not-index+in_ok-push, one_more_place, filter-append, other_same)
+loop-place-preserved = grind (arith, nat_eq, get_or_default, then-not-index+in_ok-push, one_more_place, filter-append, other_same)

@@ -9,7 +9,7 @@ column_places-requires-clause-settled c = search headings_part
 
 pub column_places-requires-clause-cells : goal.column_places-requires-clause-cells
 column_places-requires-clause-cells c = λ more.
-    c.in_ok-cells.ensures (c.args.dict.now ++ more) ∙ c.requires.items more ∙ sym (c.in_ok-cells.ensures c.args.dict.now)
+    c.in_ok-cells.ensures (c.args.dict.now ++ more) ∙ c.requires.items more ∙ sym (c.in_ok-cells.ensures _)
 
 pub returns : goal.returns
-returns c = grind arith
+returns = grind arith

@@ -12,16 +12,16 @@ loop-item-preserved c = λ texts.
       | in-Some+in_ok-push w ↦
           let pushed : c.match-scalar.cells ≡ c.loop-item.cells ++ w.in-Some.cell ∷ [] = search rules in
           let some : c.scalar.result ≡ Some w.in-Some.cell = search rules in
-          scalars_more texts c.args.items.now c.loop-item.item-index c.item-item.result w.in-Some.cell c.loop-item.cells c.match-scalar.cells _ lt c.item-item.is
+          scalars_more _ _ _ _ _ _ _ _ lt c.item-item.is
           (λ live ts. ap (option_map (datum ts)) (sym some) ∙ c.scalar.ensures live ts) pushed (c.loop-item.invariant texts)
       | in_default w ↦
           let same : c.match-scalar.cells ≡ c.loop-item.cells = search rules in
           let none : c.scalar.result ≡ None = search rules in
-          rw same (scalars_same texts c.args.items.now c.loop-item.item-index c.item-item.result c.loop-item.cells _ lt c.item-item.is
+          rw same (scalars_same _ _ _ _ _ _ lt c.item-item.is
           (λ live ts. ap (option_map (datum ts)) (sym none) ∙ c.scalar.ensures live ts) (c.loop-item.invariant texts))
     ]
 
 pub returns : goal.returns
 returns c = λ texts.
     let end : length c.args.items.now ≤ c.loop-item.item-index = omega arith in
-    scalars_all texts c.args.items.now c.loop-item.item-index c.loop-item.cells _ end (c.loop-item.invariant texts)
+    scalars_all _ _ _ _ _ end (c.loop-item.invariant texts)

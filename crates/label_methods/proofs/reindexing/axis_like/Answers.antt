@@ -13,10 +13,8 @@ loop-level-preserved c =
     record {
       tuples = grind arith;
       size = grind (arith, length-set);
-      names = one_more_name names c.loop-level.axis.names c.set_name.new.self.names level c.name.result None inside lt (grind (arith, get_or_from_slice_get)) c.loop-level.invariant.names (ap (λ a. a.names) c.set_name.ensures);
+      names = one_more_name _ _ _ _ _ None inside lt (grind (arith, get_or_from_slice_get)) c.loop-level.invariant.names (ap (λ a. a.names) c.set_name.ensures);
     }
 
 pub returns : goal.returns
-returns c =
-    let names = all_names c.args.like.now.names c.loop-level.axis.names c.loop-level.level c.loop-level.invariant.size (omega arith) c.loop-level.invariant.names in
-    grind arith
+returns = grind (arith, all_names)

@@ -8,10 +8,10 @@ use Rattle.label_methods.proofs.resetting.level_label.Goals as goal
 pub returns-in-Some-clause-given : goal.returns-in-Some-clause-given
 returns-in-Some-clause-given c =
     let at : slice_get c.args.on.now.level_names c.args.level ≡ Some (Some c.in-Some.name) = grind (arith, slice_get) in
-    heading_label c.args.dict.now (Some c.in-Some.name) c.in-Some.name refl (search (name_settled c.args.dict.now))
+    heading_label _ _ _ refl (search (name_settled c.args.dict.now))
 
 pub returns-in-Some-clause-label : goal.returns-in-Some-clause-label
-returns-in-Some-clause-label c = grind (arith, slice_get, level_named)
+returns-in-Some-clause-label = grind (arith, slice_get, level_named)
 
 pub returns-in-None-clause-label : goal.returns-in-None-clause-label
-returns-in-None-clause-label c = grind (arith, slice_get, level_named)
+returns-in-None-clause-label = grind (arith, slice_get, level_named)

@@ -1,5 +1,5 @@
 use Rattle.{
-  std.proofs.{lemmas.List.{map-append}, Common.{◌≡◌, ap, length, arith}},
+  std.proofs.{lemmas.List.{map-append}, Common.{arith}},
   frame_store.proofs.Settling.{seen_later, longer_twice},
   selections.proofs.PickedLaws.{one_more_place},
   label_methods.proofs.ResetLaws.{one_more_given, all_levels},
@@ -8,10 +8,7 @@ use Rattle.label_methods.proofs.resetting.level_labels.Goals as goal
 
 pub loop-level-preserved : goal.loop-level-preserved
 loop-level-preserved c =
-    let first = c.args.dict.now in
     let old = c.loop-level.dict in
-    let new = c.level_label.new.dict in
-    let l = c.in_ok-level_label.field-0 in
     let longer = c.in_ok-level_label.ensures.longer in
     record {
       longer = search longer_twice;
@@ -20,7 +17,4 @@ loop-level-preserved c =
     }
 
 pub returns-clause-labels : goal.returns-clause-labels
-returns-clause-labels c =
-    let count = ap (λ a. length a.names) c.axis.ensures in
-    let end : c.loop-level.level ≡ length c.args.on.now.level_names = omega (arith, count) in
-    search (all_levels c.loop-level.dict)
+returns-clause-labels = grind (arith, all_levels)

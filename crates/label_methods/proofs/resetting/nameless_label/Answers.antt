@@ -12,4 +12,4 @@ pub returns-in_ok-intern-in-None-clause-given : goal.returns-in_ok-intern-in-Non
 returns-in_ok-intern-in-None-clause-given c = grind (arith, text_settled c.intern.new.self)
 
 pub returns-in_ok-intern-in-None-clause-label : goal.returns-in_ok-intern-in-None-clause-label
-returns-in_ok-intern-in-None-clause-label c = grind (arith, text_seen)
+returns-in_ok-intern-in-None-clause-label = grind (arith, text_seen)

@@ -7,7 +7,7 @@ use Rattle.label_methods.proofs.resetting.reset_labels.Goals as goal
 
 pub returns-clause-given : goal.returns-clause-given
 returns-clause-given c =
-    labels_given c.level_labels.new.dict c.args.on.now c.in_ok-labels.labels.items c.push_headings.new.labels.items c.in_ok-labels.ensures.given
+    labels_given _ c.args.on.now _ _ c.in_ok-labels.ensures.given
     (search settled_later) c.in_ok-push_headings.ensures
 
 pub returns-clause-labels : goal.returns-clause-labels

@@ -6,21 +6,19 @@ use Rattle.{
 use Rattle.label_methods.proofs.resetting.reset_table.Goals as goal
 
 pub returns-in_err-headings : goal.returns-in_err-headings
-returns-in_err-headings c = grind (arith, err_from_is_err_and, parts_repeated)
+returns-in_err-headings = grind (arith, err_from_is_err_and, parts_repeated)
 
 pub returns-then-not-within_limits : goal.returns-then-not-within_limits
-returns-then-not-within_limits c = grind (arith, parts_beyond)
+returns-then-not-within_limits = grind (arith, parts_beyond)
 
 pub new-requires-clause-whole : goal.new-requires-clause-whole
 new-requires-clause-whole c =
-    let headed = c.in_ok-headings.ensures.made ∙ (λ j. record { columns_name = c.columns_name.ensures j; labels = c.args.labels.now }) in
-    parts_whole c.args.dict.now c.args.on.now c.rows-2.result c.in_ok-axis.axis c.in_ok-headings.headings c.args.labels.now c.args.blocks c.requires.columns c.rows-2.ensures c.requires.some
-    c.in_ok-headings.ensures.different c.in_ok-axis.ensures headed
+    parts_whole _ c.args.on.now _ _ _ _ _ c.requires.columns c.rows-2.ensures c.requires.some
+    c.in_ok-headings.ensures.different c.in_ok-axis.ensures (c.in_ok-headings.ensures.made ∙ (λ j. record { columns_name = c.columns_name.ensures j; labels = c.args.labels.now }))
 
 pub returns : goal.returns
 returns c =
-    let headed = c.in_ok-headings.ensures.made ∙ (λ j. record { columns_name = c.columns_name.ensures j; labels = c.args.labels.now }) in
     let within : within_limits (length c.args.on.now.labels) (length c.args.blocks) ≡ true = search rules in
-    parts_made c.args.dict.now c.args.on.now c.new.result c.rows-2.result c.args.labels.now c.args.blocks c.len.ensures.distinct c.requires.known.given c.requires.given c.requires.columns
+    parts_made _ _ _ _ _ _ c.len.ensures.distinct c.requires.known.given c.requires.given c.requires.columns
     c.in_ok-headings.ensures.different within c.rows-2.ensures
     (grind arith)

@@ -5,9 +5,7 @@ use Rattle.{
 use Rattle.label_methods.proofs.under.named_axis.Goals as goal
 
 pub loop-level-preserved : goal.loop-level-preserved
-loop-level-preserved c = grind (arith, length-set, next_name)
+loop-level-preserved = grind (arith, length-set, next_name)
 
 pub returns : goal.returns
-returns c =
-    let names = all_names c.args.names.now c.loop-level.named.names c.loop-level.level c.loop-level.invariant.size c.loop-level-test.false c.loop-level.invariant.names in
-    grind arith
+returns = grind (arith, all_names)

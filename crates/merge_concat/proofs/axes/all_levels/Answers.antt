@@ -6,7 +6,7 @@ use Rattle.{
 use Rattle.merge_concat.proofs.axes.all_levels.Goals as goal
 
 pub loop-level-init : goal.loop-level-init
-loop-level-init c = grind (arith, one_level)
+loop-level-init = grind (arith, one_level)
 
 pub loop-level-preserved : goal.loop-level-preserved
 loop-level-preserved c =
@@ -22,6 +22,4 @@ loop-level-preserved c =
     }
 
 pub returns : goal.returns
-returns c =
-    let none : c.loop-level.level ≡ 0 = omega (arith, c.loop-level-test.false) in
-    c.loop-level.invariant.made ∙ no_level c.loop-level.level (levels_of_first c.args.axes.now) (tuples_in c.args.axes.now) none
+returns = grind (arith, no_level)

@@ -14,6 +14,6 @@ loop-place-preserved c =
     let key = slice_index_or keys place (label.Bool false) in
     let in_keys : place < length keys = omega (arith, c.requires, c.loop-place-test.true) in
     let in_lists : place < length lists = omega (arith, length-map axes (λ axis. axis.now.tuples), c.loop-place-test.true) in
-    let many = c.len.ensures ∙ ap length (tuples_there axes place c.index-axes-place.result c.loop-place-test.true c.index-axes-place.is) in
+    let many = c.len.ensures ∙ ap length (tuples_there _ _ _ c.loop-place-test.true c.index-axes-place.is) in
     let next : suc place ≡ place + 1 = omega arith in
     grind (arith, keys_more)

@@ -5,13 +5,13 @@ use Rattle.{
 use Rattle.merge_concat.proofs.below.concat_parts.Goals as goal
 
 pub returns-in_default : goal.returns-in_default
-returns-in_default c texts = is_mixed c.args.missing texts c.args.parts.now (sym c.kind_of.ensures ∙ c.in_default.is)
+returns-in_default c texts = is_mixed _ texts c.args.parts.now (sym c.kind_of.ensures ∙ c.in_default.is)
 
 pub returns-in_default-count_of : goal.returns-in_default-count_of
-returns-in_default-count_of c texts = is_too_large c.args.missing texts c.args.parts.now c.in-Some.kind (sym c.kind_of.ensures ∙ c.in-Some.is) c.in_default-count_of.ensures
+returns-in_default-count_of c texts = is_too_large _ texts c.args.parts.now _ (sym c.kind_of.ensures ∙ c.in-Some.is) c.in_default-count_of.ensures
 
 pub column_of_kind-requires-clause-kind : goal.column_of_kind-requires-clause-kind
-column_of_kind-requires-clause-kind c = parts_at_kind c.args.missing c.in-Some.kind c.args.parts.now (sym c.kind_of.ensures ∙ c.in-Some.is)
+column_of_kind-requires-clause-kind = grind (arith, parts_at_kind)
 
 pub returns : goal.returns
-returns c texts = is_made c.args.missing texts c.args.parts.now c.in-Some.kind (sym c.kind_of.ensures ∙ c.in-Some.is) c.in_ok-column.column (omega (arith, c.in-Some-count_of.ensures)) c.in_ok-column.ensures
+returns c texts = is_made _ _ c.args.parts.now _ (sym c.kind_of.ensures ∙ c.in-Some.is) c.in_ok-column.column (omega (arith, c.in-Some-count_of.ensures)) c.in_ok-column.ensures

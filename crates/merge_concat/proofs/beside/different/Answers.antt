@@ -1,11 +1,13 @@
 use Rattle.{
-  std.proofs.Common.{arith, ◌∙◌, ◌++◌},
-  merge_concat.proofs.UnitedLaws.{different_at, different_there},
+  row_keys.proofs.RecodeLaws.{firsts_inside},
+  label_align.proofs.SameLaws.{tuple_decides, tuple_laws},
+  std.proofs.Common.{arith},
+  merge_concat.proofs.UnitedLaws.{different_at},
 }
 use Rattle.merge_concat.proofs.beside.different.Goals as goal
 
 pub tuples_at-requires : goal.tuples_at-requires
-tuples_at-requires c = different_there (c.args.axis.now.tuples ++ c.new-none.result) c.deref.result.now (c.deref.ensures.value ∙ c.in_ok-numbers.ensures.firsts)
+tuples_at-requires = grind (arith, firsts_inside, tuple_decides, tuple_laws)
 
 pub returns : goal.returns
-returns c = grind (arith, different_at)
+returns = grind (arith, different_at)

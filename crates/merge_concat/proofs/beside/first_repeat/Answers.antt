@@ -1,17 +1,11 @@
 use Rattle.{
-  std.proofs.{Common.{◌≡◌, ◌+◌, ◌<◌, suc, [], length, arith}, lemmas.List.{length-map}},
-  row_keys.specs.Keys.{same_tuple},
+  std.proofs.{Common.{◌≡◌, ◌+◌, ◌<◌, suc, length, arith}, lemmas.List.{length-map}},
   merge_concat.{specs.Axes.{tuples_of_each}, proofs.{AxisLaws.{tuples_there}, UnitedLaws.{none_more, told_at}}},
 }
 use Rattle.merge_concat.proofs.beside.first_repeat.Goals as goal
 
 pub returns-in-Some : goal.returns-in-Some
-returns-in-Some c =
-    let axes = c.args.axes.now in
-    let i = c.loop-axis.axis-index in
-    let lt : i < length (tuples_of_each axes) = omega (arith, length-map axes (λ axis. axis.now.tuples), c.loop-axis-test.true) in
-    told_at same_tuple (tuples_of_each axes) i [] c.in-Some.repeated lt c.loop-axis.invariant
-    (grind (arith, tuples_there))
+returns-in-Some = grind (arith, length-map, told_at, tuples_there)
 
 pub loop-axis-preserved : goal.loop-axis-preserved
 loop-axis-preserved c =

@@ -7,20 +7,13 @@ use Rattle.merge_concat.proofs.beside.have_same_labels.Goals as goal
 pub loop-other-preserved : goal.loop-other-preserved
 loop-other-preserved c =
     let first = c.first-item.result in
-    let others = take (length c.args.axes.now - 1) (drop 1 c.args.axes.now) in
-    grind (arith, list_all_more (has_labels_of first) others c.loop-other.other-index c.other-item.result c.loop-other-test.true, c.loop-other.invariant, c.other-item.is, labels_told first.now.tuples c.other-item.result.now.tuples c.same_labels.result c.same_labels.ensures, c.if-not-same_labels.false)
+    grind (arith, list_all_more (has_labels_of first) (take (length _ - 1) (drop 1 c.args.axes.now)) c.loop-other.other-index c.other-item.result c.loop-other-test.true, c.loop-other.invariant, c.other-item.is, labels_told first.now.tuples c.other-item.result.now.tuples c.same_labels.result c.same_labels.ensures, c.if-not-same_labels.false)
 
 pub returns-then-not-same_labels : goal.returns-then-not-same_labels
 returns-then-not-same_labels c =
-    let first = c.first-item.result in
-    let others = take (length c.args.axes.now - 1) (drop 1 c.args.axes.now) in
-    sym (equal_told c.args.axes.now first false c.in-len1-up.len_at_least c.first-item.is
-    (list_all_at (has_labels_of first) others c.loop-other.other-index c.other-item.result c.loop-other-test.true
-    (cc (c.other-item.is, labels_told first.now.tuples c.other-item.result.now.tuples c.same_labels.result c.same_labels.ensures, c.if-not-same_labels.true))))
+    sym (equal_told _ _ _ c.in-len1-up.len_at_least c.first-item.is
+    (list_all_at _ (take (length _ - 1) (drop 1 c.args.axes.now)) _ c.other-item.result c.loop-other-test.true
+    (cc (c.other-item.is, labels_told c.first-item.result.now.tuples c.other-item.result.now.tuples c.same_labels.result c.same_labels.ensures, c.if-not-same_labels.true))))
 
 pub returns : goal.returns
-returns c =
-    let first = c.first-item.result in
-    let others = take (length c.args.axes.now - 1) (drop 1 c.args.axes.now) in
-    sym (equal_told c.args.axes.now first true c.in-len1-up.len_at_least c.first-item.is
-    (grind (arith, has_labels_of, take_all)))
+returns = grind (arith, equal_told, has_labels_of, take_all)

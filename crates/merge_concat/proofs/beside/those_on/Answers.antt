@@ -6,16 +6,14 @@ use Rattle.merge_concat.proofs.beside.those_on.Goals as goal
 
 pub loop-row-preserved : goal.loop-row-preserved
 loop-row-preserved c =
-    let among = c.args.axis.now.tuples in
-    let tuples = c.args.tuples.now in
-    let lt : c.loop-row.row < length tuples = omega (arith, c.len-row-end.ensures, c.loop-row-test.true) in
+    let lt : c.loop-row.row < length c.args.tuples.now = omega (arith, c.len-row-end.ensures, c.loop-row-test.true) in
     elim c.if-not-is_empty.branch [
       | then-not-is_empty+in_ok-push w ↦
-          one_kept among tuples c.in_ok-partners.partners c.loop-row.row c.rows.result.now lt c.in_ok-partners.ensures c.rows.ensures c.loop-row.kept c.if-not-is_empty.kept w.at.result.now
+          one_kept _ _ _ _ _ lt c.in_ok-partners.ensures c.rows.ensures c.loop-row.kept _ _
           c.loop-row.invariant (sym c.is_empty.ensures ∙ w.if-not-is_empty.true) w.at.ensures
           (grind arith)
       | else-not-is_empty w ↦
           w.kept-is
-          ∙ none_kept among tuples c.in_ok-partners.partners c.loop-row.row c.rows.result.now lt c.in_ok-partners.ensures c.rows.ensures c.loop-row.kept
+          ∙ none_kept _ _ _ _ _ lt c.in_ok-partners.ensures c.rows.ensures c.loop-row.kept
           c.loop-row.invariant (sym c.is_empty.ensures ∙ w.if-not-is_empty.false)
     ]

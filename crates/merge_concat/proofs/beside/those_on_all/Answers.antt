@@ -1,5 +1,5 @@
 use Rattle.{
-  std.{proofs.{Common.{◌≡◌, ◌∙◌, ◌+◌, ◌<◌, ◌&&◌, List, [], length, take, ap, sym, arith}, lemmas.List.{length-map, Folds.{list_all_more}, Elements.{All-filter}}}, specs.List.{filter, list_any, list_all}},
+  std.{proofs.{Common.{◌≡◌, ◌∙◌, ◌<◌, ◌&&◌, List, [], length, take, ap, sym, arith}, lemmas.List.{length-map, Folds.{list_all_more}, Elements.{All-filter}}}, specs.List.{filter, list_any, list_all}},
   cell_core.specs.declared.cell.Label.{Label},
   row_keys.specs.Keys.{same_tuple},
   merge_concat.{specs.Axes.{tuples_of_each}, proofs.{AxisLaws.{tuples_there}, UnitedLaws.{both_pass}}},
@@ -10,7 +10,7 @@ use Rattle.merge_concat.proofs.beside.those_on_all.Goals as goal
 pub loop-other-init : goal.loop-other-init
 loop-other-init c = record {
   levels = grind arith;
-  kept = c.in_ok-kept.ensures ∙ sym (filter_all c.args.first.now.tuples);
+  kept = c.in_ok-kept.ensures ∙ sym (filter_all _);
 }
 
 pub loop-other-preserved : goal.loop-other-preserved
@@ -18,16 +18,14 @@ loop-other-preserved c =
     let others = c.args.others.now in
     let lists = tuples_of_each others in
     let i = c.loop-other.other-index in
-    let other = c.other-item.result.now.tuples in
     let lt : i < length lists = omega (arith, length-map others (λ axis. axis.now.tuples), c.loop-other-test.true) in
     let before = λ (t : List Label). list_all (list_any (same_tuple t)) (take i lists) in
-    let here = λ (t : List Label). list_any (same_tuple t) other in
-    let after = λ (t : List Label). list_all (list_any (same_tuple t)) (take (i + 1) lists) in
+    let here = λ (t : List Label). list_any (same_tuple t) c.other-item.result.now.tuples in
     record {
-      levels = rw c.in_ok-kept-2.ensures (All-filter here (λ t. length t ≡ c.levels-levels.result) c.loop-other.kept c.loop-other.invariant.levels);
+      levels = rw c.in_ok-kept-2.ensures (All-filter _ (λ t. length t ≡ c.levels-levels.result) _ c.loop-other.invariant.levels);
       kept = c.in_ok-kept-2.ensures
           ∙ ap (filter here) c.loop-other.invariant.kept
-          ∙ both_pass before here after
-          (λ t. list_all_more (list_any (same_tuple t)) lists i [] lt ∙ ap (λ l. before t && list_any (same_tuple t) l) (sym (search tuples_there)))
+          ∙ both_pass _ _ _
+          (λ t. list_all_more _ lists i [] lt ∙ ap (λ l. before t && list_any (same_tuple t) l) (sym (search tuples_there)))
           c.args.first.now.tuples;
     }

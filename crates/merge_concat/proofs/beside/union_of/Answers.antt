@@ -9,11 +9,10 @@ use Rattle.merge_concat.proofs.beside.union_of.Goals as goal
 
 pub returns : goal.returns
 returns c =
-    let axes = c.args.axes.now in
     IfOk-weaker c.different.result _ _
     (λ made h.
     h
     ∙ ap (λ axis. distinct same_tuple axis.tuples) c.in_ok-all.ensures
-    ∙ united_any axes c.first-item.result c.in-len1-up.len_at_least c.first-item.is
-    ∙ sym (ap (λ b. united same_tuple b (tuples_of_each axes)) c.if-inner.false))
+    ∙ united_any _ _ c.in-len1-up.len_at_least c.first-item.is
+    ∙ sym (ap (λ b. united same_tuple b (tuples_of_each c.args.axes.now)) c.if-inner.false))
     c.different.ensures

@@ -1,12 +1,10 @@
 use Rattle.{
   std.proofs.Common.{arith},
-  column_core.specs.Lanes.{lane_row},
   merge_concat.{specs.Growing.{cells_of_rows}, proofs.GrowLaws.{one_row_more}},
 }
 use Rattle.merge_concat.proofs.growing.with_rows.Goals as goal
 
 pub loop-row-preserved : goal.loop-row-preserved
 loop-row-preserved g c =
-    let lane = c.args.lane.now in
-    one_row_more g.T.Value.cell g.T.Value.kind (cells_of_rows g.T.Value.cell c.args.rows) _ _ _ _ (lane_row lane.values.now lane.present.now lane.start lane.stride lane.back) c.loop-row.row
+    one_row_more g.T.Value.cell g.T.Value.kind (cells_of_rows g.T.Value.cell c.args.rows) _ _ _ _ _ _
     (grind arith) c.loop-row.invariant

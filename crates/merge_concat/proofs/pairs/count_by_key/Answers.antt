@@ -21,4 +21,4 @@ returns-in_default-2 c =
     grind (arith, cases_lt)
 
 pub loop-code-preserved : goal.loop-code-preserved
-loop-code-preserved c = grind (arith, counted_more)
+loop-code-preserved = grind (arith, counted_more)

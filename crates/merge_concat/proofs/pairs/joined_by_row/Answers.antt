@@ -6,15 +6,12 @@ use Rattle.{
 use Rattle.merge_concat.proofs.pairs.joined_by_row.Goals as goal
 
 pub returns : goal.returns
-returns c = grind (arith, nat_eq, too_many, length-from)
+returns = grind (arith, nat_eq, too_many, length-from)
 
 pub returns-in-Some : goal.returns-in-Some
 returns-in-Some c =
-    let stays = c.args.stays in
-    let left = c.args.left.now.codes.now in
-    let rights = c.in_ok-rights.rights.codes.now in
     record {
-      pairs = pairs_from nat_eq stays 0 left rights;
+      pairs = pairs_from nat_eq c.args.stays 0 c.args.left.now.codes.now c.in_ok-rights.rights.codes.now;
       are = grind (arith, nat_eq, length-from);
       seen = grind arith;
     }

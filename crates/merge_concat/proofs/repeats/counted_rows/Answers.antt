@@ -12,8 +12,8 @@ loop-row-preserved c =
     let lt : c.loop-row.row < length codes = omega arith in
     let room : code < length counts = omega (arith, c.code-code.ensures.below, c.loop-row.invariant.0) in
     let read : c.index.result.now ≡ slice_index counts code = search get_or_read in
-    counts_more codes counts c.args.side.now.count c.loop-row.row code c.saturating_add.result lt c.code-code.ensures.code c.code-code.ensures.below
+    counts_more _ _ _ _ _ _ lt c.code-code.ensures.code c.code-code.ensures.below
     (c.saturating_add.ensures ∙ ap (λ n. min (n + 1) 255) read) c.loop-row.invariant
 
 pub returns : goal.returns
-returns c = grind (arith, take_all)
+returns = grind (arith, take_all)

@@ -1,14 +1,11 @@
 use Rattle.{
   label_methods.proofs.AnswerLaws.{forms_so},
-  std.proofs.Common.{arith, ◌∙◌, sym},
+  std.proofs.Common.{◌∙◌, sym},
   method_meaning.specs.Calls.{merge_call},
   frame_store.specs.{Objects.{tables}, World.{world, arguments_in}},
   merge_forms.proofs.CallLaws.{frame_called, merge_called, other_called},
 }
 use Rattle.merge_forms.proofs.calling.method.Goals as goal
-
-pub merge_call-requires-clause-live : goal.merge_call-requires-clause-live
-merge_call-requires-clause-live c = grind (arith, frame_called)
 
 pub merge_call-requires-clause-shape : goal.merge_call-requires-clause-shape
 merge_call-requires-clause-shape c = (frame_called (tables c.args.store.now) c.args.on c.args.chain.now c.in-Some.id (sym c.merge_of.ensures ∙ c.in-Some.is)).1
@@ -21,5 +18,4 @@ returns-in-Some c =
 
 pub returns-in-None : goal.returns-in-None
 returns-in-None c =
-    let w = world c.args.store.now c.args.dict.now in
-    forms_so _ _ _ _ _ (other_called w _ _ _ c.requires.chain (sym c.merge_of.ensures ∙ c.in-None.is)) c.method.ensures
+    forms_so _ _ _ _ _ (other_called (world c.args.store.now c.args.dict.now) _ _ _ c.requires.chain (sym c.merge_of.ensures ∙ c.in-None.is)) c.method.ensures

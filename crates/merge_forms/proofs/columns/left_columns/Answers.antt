@@ -9,12 +9,8 @@ use Rattle.merge_forms.proofs.columns.left_columns.Goals as goal
 
 pub loop-place-preserved : goal.loop-place-preserved
 loop-place-preserved c =
-    let f = left_column_on Na c.args.l.now.columns c.args.r.now.columns (keys_value c.args.keys.now) c.args.pairs.now.left c.args.pairs.now.right in
     record {
       single = grind (arith, single_on);
-      columns = one_more_in_range f _ _ _ _
+      columns = one_more_in_range (left_column_on Na c.args.l.now.columns c.args.r.now.columns (keys_value c.args.keys.now) c.args.pairs.now.left c.args.pairs.now.right) _ _ _ _
           (ap block_column c.into_block.ensures ∙ c.in_ok-column.ensures) (grind (arith, map-append)) c.loop-place.invariant.columns;
     }
-
-pub returns-clause-columns : goal.returns-clause-columns
-returns-clause-columns c = grind arith

@@ -1,10 +1,9 @@
 use Rattle.{
   std.proofs.Common.{◌∙◌, ap, map},
   table_meaning.specs.Table.{table_value},
-  frame_store.proofs.Settling.{longer_twice},
   label_methods.proofs.NamedLaws.{others_inside, others_meant, all_are},
   selections.proofs.PickedLaws.{places_inside},
-  merge_forms.{specs.{Keys.{keys_value}, Headings.{label_beside}}, proofs.{HeadingLaws.{labels_meant, labels_given}, TableLaws.{rights_inside}}},
+  merge_forms.{specs.Headings.{label_beside}, proofs.{HeadingLaws.{labels_meant, labels_given}, TableLaws.{rights_inside}}},
 }
 use Rattle.merge_forms.proofs.headings.merged_labels.Goals as goal
 
@@ -12,16 +11,13 @@ pub heading_set-requires-clause-places : goal.heading_set-requires-clause-places
 heading_set-requires-clause-places c = others_inside _ _ _ _ c.in_ok-lefts.ensures c.columns-2.ensures
 
 pub heading_set-requires-2-clause-places : goal.heading_set-requires-2-clause-places
-heading_set-requires-2-clause-places c = rights_inside _ c.args.r.now (keys_value c.args.keys.now) _ c.requires.rights
+heading_set-requires-2-clause-places c = search rights_inside
 
 pub labels_beside-requires-clause-places : goal.labels_beside-requires-clause-places
 labels_beside-requires-clause-places c = places_inside _ _ _ c.in_ok-all.ensures c.columns.ensures
 
 pub labels_beside-requires-2-clause-places : goal.labels_beside-requires-2-clause-places
-labels_beside-requires-2-clause-places c = rights_inside _ c.args.r.now (keys_value c.args.keys.now) _ c.requires.rights
-
-pub returns-clause-longer : goal.returns-clause-longer
-returns-clause-longer c = longer_twice _ _ _ c.in_ok-labels.ensures.longer c.in_ok-own.ensures.longer
+labels_beside-requires-2-clause-places c = search rights_inside
 
 pub returns-clause-given : goal.returns-clause-given
 returns-clause-given c =
@@ -30,9 +26,8 @@ returns-clause-given c =
 
 pub returns-clause-labels : goal.returns-clause-labels
 returns-clause-labels c =
-    let none = ap (λ keys. map (label_beside (table_value c.labels_beside.new.dict c.args.r.now) c.args.r.now keys _ c.in_ok-of_left.of_left.keys) c.args.rights.now) c.new-none.ensures in
     labels_meant _ _ _ _ _ _ c.len.ensures.distinct c.requires.left.given c.requires.right.given
     _ _ _ _ _ _ _ _
     c.in_ok-of_right.ensures c.in_ok-of_left.ensures (others_meant _ c.args.l.now _ _ _ c.in_ok-lefts.ensures c.columns-2.ensures) c.requires.rights (all_are _ c.args.l.now _ _ c.in_ok-all.ensures c.columns.ensures)
-    c.in_ok-labels.ensures.longer c.in_ok-own.ensures.longer c.in_ok-labels.ensures.given c.in_ok-labels.ensures.labels (c.in_ok-own.ensures.labels ∙ none)
+    c.in_ok-labels.ensures.longer c.in_ok-own.ensures.longer c.in_ok-labels.ensures.given c.in_ok-labels.ensures.labels (c.in_ok-own.ensures.labels ∙ (ap (λ keys. map (label_beside (table_value c.labels_beside.new.dict c.args.r.now) c.args.r.now keys _ c.in_ok-of_left.of_left.keys) c.args.rights.now) c.new-none.ensures))
     (cc (c.in_ok-extend_from_slice.ensures.items, c.as_slice.ensures.value))

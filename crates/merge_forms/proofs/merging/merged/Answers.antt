@@ -1,22 +1,14 @@
 use Rattle.{
   std.proofs.{Common.{arith, ◌∙◌, ap, option_map}, lemmas.Result.{err_from_is_err_and}},
-  table_meaning.specs.Table.{table_value},
   method_meaning.specs.Merge.{validate_in},
   frame_store.specs.{Objects.{tables}, World.{world}},
   label_methods.proofs.AnswerLaws.{known_table},
-  merge_forms.{specs.Keys.{keys_seen, keys_checked, cell_labels}, proofs.CallLaws.{told_given, told_some, read_is, shape_read, right_shape, keys_refused}},
+  merge_forms.{specs.Keys.{keys_seen, cell_labels}, proofs.CallLaws.{told_given, told_some, read_is, shape_read, right_shape, keys_refused}},
 }
-use Rattle.method_meaning.specs.Merge as meant
 use Rattle.merge_forms.proofs.merging.merged.Goals as goal
-
-pub frame-requires : goal.frame-requires
-frame-requires c = grind arith
 
 pub read-r-requires : goal.read-r-requires
 read-r-requires c = c.frame.ensures.live (tables c.args.store.now) c.requires.call.live
-
-pub text-requires : goal.text-requires
-text-requires c = grind arith
 
 pub keys_of_merge-requires-clause-left : goal.keys_of_merge-requires-clause-left
 keys_of_merge-requires-clause-left c = known_table _ _ _ c.read-l.ensures.table c.read-l.ensures.whole c.requires.settled
@@ -45,12 +37,9 @@ pub returns-in_err-keys-clause-answer : goal.returns-in_err-keys-clause-answer
 returns-in_err-keys-clause-answer c =
     let w = world c.args.store.now c.args.dict.now in
     let dict = c.args.dict.now in
-    let L = table_value dict c.read-l.result in
-    let R = table_value dict c.read-r.result in
-    let told = option_map (cell_labels dict) c.in_ok-told.told in
     let p = err_from_is_err_and c.from_residual-in_err-keys.result c.from_residual-in_err-keys.ensures.1 in
-    rw (p.1, p.2) (keys_refused keys_seen dict (keys_checked L R told) (meant.merged_rows L R c.how_named-how.result c.once_in-once.result) _ c.in_err-keys.field-0.0
-    (read_is w c.args.bound.now c.requires.call c.args.on c.frame.result c.read-l.result c.read-r.result c.text.result.now c.how_named-how.result c.once_in-once.result told c.read-l.ensures.table c.read-r.ensures.table (c.frame.ensures.table w.tables w.texts) (c.text.ensures w.tables) c.how_named-how.ensures
+    rw (p.1, p.2) (keys_refused keys_seen dict _ _ _ _
+    (read_is w c.args.bound.now c.requires.call c.args.on c.frame.result c.read-l.result c.read-r.result c.text.result.now c.how_named-how.result c.once_in-once.result (option_map (cell_labels dict) c.in_ok-told.told) c.read-l.ensures.table c.read-r.ensures.table (c.frame.ensures.table w.tables w.texts) (c.text.ensures w.tables) c.how_named-how.ensures
     (c.in_ok-told.ensures w.tables w.texts) (grind arith)) c.in_err-keys.ensures.answer)
 
 pub returns-clause-answer : goal.returns-clause-answer

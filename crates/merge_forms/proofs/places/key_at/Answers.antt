@@ -5,17 +5,13 @@ use Rattle.{
 use Rattle.merge_forms.proofs.places.key_at.Goals as goal
 
 pub returns-then-column-at-clause-key : goal.returns-then-column-at-clause-key
-returns-then-column-at-clause-key c = grind (arith, key_met)
+returns-then-column-at-clause-key = grind (arith, key_met)
 
 pub returns-then-column-at-clause-place : goal.returns-then-column-at-clause-place
-returns-then-column-at-clause-place c = grind (arith, key_place)
-
-pub returns-then-column-at-clause-found : goal.returns-then-column-at-clause-found
-returns-then-column-at-clause-found c = grind arith
+returns-then-column-at-clause-place = grind (arith, key_place)
 
 pub loop-place-preserved : goal.loop-place-preserved
-loop-place-preserved c = grind (arith, key_passed)
+loop-place-preserved = grind (arith, key_passed)
 
 pub returns-clause-key : goal.returns-clause-key
-returns-clause-key c =
-    no_key _ _ _ (omega arith) c.loop-place.invariant
+returns-clause-key = grind (arith, no_key)

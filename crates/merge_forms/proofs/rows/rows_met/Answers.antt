@@ -1,23 +1,9 @@
 use Rattle.{
-  std.proofs.Common.{arith, ◌∙◌, ap, map},
-  frame_store.specs.Parts.{table_column},
-  key_columns.proofs.KeyLaws.{keys_are, keys_counted, rows_alike},
+  std.proofs.Common.{arith, ◌∙◌},
+  key_columns.proofs.KeyLaws.{keys_are, keys_counted},
   merge_forms.proofs.RowLaws.{both_fit, joins_meet, joins_inside},
 }
 use Rattle.merge_forms.proofs.rows.rows_met.Goals as goal
-
-pub of-left-requires-clause-some : goal.of-left-requires-clause-some
-of-left-requires-clause-some c = rw (keys_counted c.args.l.now _ _ (ap (map table_column) c.deref-of_left.ensures.value ∙ c.in_ok-lefts.ensures.columns)) c.requires.keys.paired.some
-
-pub of-left-requires-clause-alike : goal.of-left-requires-clause-alike
-of-left-requires-clause-alike c = rows_alike _ _ _ _ c.deref-of_left.ensures.value c.rows.ensures c.in_ok-lefts.ensures.rows
-
-pub of-right-requires-clause-some : goal.of-right-requires-clause-some
-of-right-requires-clause-some c =
-    rw (keys_counted c.args.r.now _ _ (ap (map table_column) c.deref-of_right.ensures.value ∙ c.in_ok-rights.ensures.columns), c.requires.keys.paired.same) c.requires.keys.paired.some
-
-pub of-right-requires-clause-alike : goal.of-right-requires-clause-alike
-of-right-requires-clause-alike c = rows_alike _ _ _ _ c.deref-of_right.ensures.value c.rows-2.ensures c.in_ok-rights.ensures.rows
 
 pub join_rows-requires : goal.join_rows-requires
 join_rows-requires c =
@@ -25,9 +11,6 @@ join_rows-requires c =
     (keys_counted c.args.l.now _ _ (cc (c.of-left.ensures.columns, c.deref-of_left.ensures.value, c.in_ok-lefts.ensures.columns)))
     (keys_counted c.args.r.now _ _ (grind arith) ∙ c.requires.keys.paired.same) c.requires.keys.few in
     record { alike = fit.0; few = fit.1 }
-
-pub met-requires : goal.met-requires
-met-requires c = grind arith
 
 pub returns : goal.returns
 returns c =

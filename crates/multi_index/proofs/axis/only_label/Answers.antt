@@ -6,5 +6,4 @@ use Rattle.multi_index.proofs.axis.only_label.Goals as goal
 
 pub returns-in-Some : goal.returns-in-Some
 returns-in-Some c =
-    let one = subst (λ b. IfSome b (λ tuple. length tuple.now ≡ 1)) c.in-Some.is c.requires in
-    cc (c.in-Some.is, only_label_is c.in-Some.tuple.now c.at.result one c.at.ensures)
+    cc (c.in-Some.is, only_label_is c.in-Some.tuple.now c.at.result (subst (λ b. IfSome b (λ tuple. length tuple.now ≡ 1)) c.in-Some.is c.requires) c.at.ensures)

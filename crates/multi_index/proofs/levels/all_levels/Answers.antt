@@ -5,4 +5,4 @@ use Rattle.{
 use Rattle.multi_index.proofs.levels.all_levels.Goals as goal
 
 pub loop-level-preserved : goal.loop-level-preserved
-loop-level-preserved c = grind (arith, one_level_more)
+loop-level-preserved = grind (arith, one_level_more)

@@ -15,10 +15,9 @@ loop-level-preserved c =
 pub returns-clause-room : goal.returns-clause-room
 returns-clause-room c =
     let names = c.args.axis.now.names in
-    let few : length names ≤ 3 = omega (arith, c.requires) in
     let whole : c.loop-level.level ≤ length names = omega (arith, c.levels-level-end.ensures.count) in
     let short : length (take c.loop-level.level names) ≤ 3 = omega (arith, length-take-le c.loop-level.level names whole) in
     ap length c.loop-level.invariant ∙ four_long c.args.outer None (take c.loop-level.level names) short
 
 pub returns-clause-names : goal.returns-clause-names
-returns-clause-names c = grind (arith, end_written)
+returns-clause-names = grind (arith, end_written)

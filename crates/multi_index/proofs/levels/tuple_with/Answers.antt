@@ -15,4 +15,4 @@ loop-level-preserved c =
     grind (arith, next_written, get_or_default)
 
 pub returns : goal.returns
-returns c = grind (arith, end_written)
+returns = grind (arith, end_written)

@@ -13,4 +13,4 @@ loop-row-preserved c =
     added_next c.args.outer c.loop-row.row labels tuples c.loop-row.tuples c.push.new.self c.tuple_with.result _ lt' lt c.tuple_with.ensures c.loop-row.invariant c.in_ok-push.ensures.ok
 
 pub returns : goal.returns
-returns c = grind (arith, take_all)
+returns = grind (arith, take_all)

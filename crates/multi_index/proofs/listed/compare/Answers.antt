@@ -28,4 +28,4 @@ pub returns : goal.returns
 returns c = stands_equal (order_in c.args.dict.now) c.args.tuple.now c.args.bound.now c.loop-level.level _ (omega arith) c.loop-level.invariant
 
 pub returns-then-level-len : goal.returns-then-level-len
-returns-then-level-len c = grind (arith, stands_short)
+returns-then-level-len = grind (arith, stands_short)

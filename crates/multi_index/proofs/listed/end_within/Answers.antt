@@ -7,15 +7,13 @@ use Rattle.{
 use Rattle.multi_index.proofs.listed.end_within.Goals as goal
 
 pub loop-row-preserved : goal.loop-row-preserved
-loop-row-preserved c = grind (arith, below_more, get_or_from_slice_get)
+loop-row-preserved = grind (arith, below_more, get_or_from_slice_get)
 
 pub returns-then-is_gt : goal.returns-then-is_gt
 returns-then-is_gt c =
-    let cmp = leading_cmp (order_in c.args.dict.now) in
-    let tuples = c.args.tuples.now in
     rw c.in-Some.is
-    (ends_at c.args.dict.now tuples c.requires c.in-Some.bound.now c.loop-row.row (omega arith) c.loop-row.invariant
-    (λ d lt. ap (λ t. is_gt (cmp t c.in-Some.bound.now)) (search get_or_from_slice_get) ∙ ap is_gt (sym c.compare.ensures) ∙ sym c.is_gt.ensures ∙ c.if-is_gt.true))
+    (ends_at c.args.dict.now c.args.tuples.now c.requires c.in-Some.bound.now c.loop-row.row (omega arith) c.loop-row.invariant
+    (λ d lt. ap (λ t. is_gt ((leading_cmp (order_in c.args.dict.now)) t c.in-Some.bound.now)) (search get_or_from_slice_get) ∙ ap is_gt (sym c.compare.ensures) ∙ sym c.is_gt.ensures ∙ c.if-is_gt.true))
 
 pub returns : goal.returns
-returns c = grind arith
+returns = grind arith

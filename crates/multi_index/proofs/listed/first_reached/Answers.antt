@@ -7,15 +7,13 @@ use Rattle.{
 use Rattle.multi_index.proofs.listed.first_reached.Goals as goal
 
 pub loop-row-preserved : goal.loop-row-preserved
-loop-row-preserved c = grind (arith, below_more, get_or_from_slice_get)
+loop-row-preserved = grind (arith, below_more, get_or_from_slice_get)
 
 pub returns-then-not-is_lt : goal.returns-then-not-is_lt
 returns-then-not-is_lt c =
-    let cmp = leading_cmp (order_in c.args.dict.now) in
-    let tuples = c.args.tuples.now in
     rw c.in-Some.is
-    (begins_at c.args.dict.now tuples c.requires c.in-Some.bound.now c.loop-row.row (omega arith) c.loop-row.invariant
-    (λ d lt. ap (λ t. is_lt (cmp t c.in-Some.bound.now)) (search get_or_from_slice_get) ∙ ap is_lt (sym c.compare.ensures) ∙ sym c.is_lt.ensures ∙ c.if-not-is_lt.true))
+    (begins_at c.args.dict.now c.args.tuples.now c.requires c.in-Some.bound.now c.loop-row.row (omega arith) c.loop-row.invariant
+    (λ d lt. ap (λ t. is_lt ((leading_cmp (order_in c.args.dict.now)) t c.in-Some.bound.now)) (search get_or_from_slice_get) ∙ ap is_lt (sym c.compare.ensures) ∙ sym c.is_lt.ensures ∙ c.if-not-is_lt.true))
 
 pub returns : goal.returns
-returns c = grind arith
+returns = grind arith

@@ -25,7 +25,7 @@ loop-level-preserved c =
     grind (arith, leads_more)
 
 pub returns : goal.returns
-returns c = grind (arith, leads_all)
+returns = grind (arith, leads_all)
 
 pub returns-then-len : goal.returns-then-len
 returns-then-len c = leads_short same_number c.args.leading.now c.args.tuple.now (omega arith)

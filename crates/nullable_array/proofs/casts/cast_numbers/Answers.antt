@@ -1,15 +1,14 @@
 use Rattle.{
-  std.{proofs.Common.{ap, sym, ◌∙◌, Ok, option_map}, specs.Fmt.{signed_decimal}},
+  std.{proofs.Common.{arith, ap, sym, ◌∙◌, Ok, option_map}, specs.Fmt.{signed_decimal}},
   cell_core.specs.declared.cell.Kind.TheVariants.{Int64, Boolean, Text as string},
   meaning.specs.Cast.{truth_of_number},
-  column_core.{specs.{Lanes.{lane_row}, Columns.{CellColumn, column_value, number_cell, truth_cell, text_value, number_given}}, proofs.ColumnLaws.{given-plain}},
-  nullable_array.{specs.Casts.{partial_cast}, proofs.{ColumnAnswers.{total_cast_column, kept_cast_column, cast_answer, given_at}, CastLaws.{number_cast, decimal_cast, number_truth_cast}}},
+  column_core.{specs.{Lanes.{lane_row}, Columns.{number_cell, truth_cell, text_value, number_given}}, proofs.ColumnLaws.{given-plain}},
+  nullable_array.{specs.Casts.{partial_cast}, proofs.{ColumnAnswers.{total_cast_column, kept_cast_column, cast_answer, given_at}, CastLaws.{number_truth_cast}}},
 }
 use Rattle.nullable_array.proofs.casts.cast_numbers.Goals as goal
 
 pub returns-in_ok-copied_lane-in-Int64-clause-answer : goal.returns-in_ok-copied_lane-in-Int64-clause-answer
-returns-in_ok-copied_lane-in-Int64-clause-answer c =
-    kept_cast_column c.args.dict.now c.args.kind Int64 c.in-Int64.is number_cell _ _ (number_cast c.args.dict.now) ∙ ap (λ (col : CellColumn). Ok (column_value c.args.dict.now col)) (sym c.in_ok-copied_lane-in-Int64.ensures)
+returns-in_ok-copied_lane-in-Int64-clause-answer c = cc (kept_cast_column c.args.dict.now c.args.kind Int64 c.in-Int64.is number_cell _ _ (grind arith), c.in_ok-copied_lane-in-Int64.ensures)
 
 pub returns-in_ok-copied_lane-in-Int64-clause-given : goal.returns-in_ok-copied_lane-in-Int64-clause-given
 returns-in_ok-copied_lane-in-Int64-clause-given c = given-plain c.args.dict.now Int64 number_cell _ _ _ (number_given c.args.dict.now) c.in_ok-copied_lane-in-Int64.ensures
@@ -24,4 +23,4 @@ returns-in-Boolean-clause-answer c =
 
 pub returns-in_ok-text_column-in-Text-clause-answer : goal.returns-in_ok-text_column-in-Text-clause-answer
 returns-in_ok-text_column-in-Text-clause-answer c =
-    total_cast_column c.args.dict.now c.args.kind string c.in-Text.is Int64 number_cell _ _ (λ x. text_value (option_map signed_decimal x)) (decimal_cast c.args.dict.now) ∙ ap Ok (sym c.in_ok-text_column-in-Text.ensures.cells)
+    total_cast_column c.args.dict.now c.args.kind string c.in-Text.is Int64 number_cell _ _ (λ x. text_value (option_map signed_decimal x)) (grind arith) ∙ ap Ok (sym c.in_ok-text_column-in-Text.ensures.cells)

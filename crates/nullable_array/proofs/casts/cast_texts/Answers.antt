@@ -1,18 +1,14 @@
 use Rattle.{
-  std.proofs.Common.{ap, sym, subst, ◌∙◌, Ok},
+  std.proofs.Common.{arith},
   cell_core.specs.declared.cell.Kind.TheVariants.{Int64, Boolean, Text as string},
-  meaning.specs.{Cell.{text_of, AreGiven}, Cast.{whole_number, truth_value}},
-  column_core.specs.{Lanes.{lane_row}, Columns.{CellColumn, column_value, number_cell, truth_cell, text_cell}},
-  nullable_array.{specs.Casts.{partial_cast}, proofs.{ColumnAnswers.{kept_cast_column, cast_answer, given_at}, CastLaws.{text_cast, text_number_cast, text_truth_cast}}},
+  meaning.specs.{Cell.{text_of}, Cast.{whole_number, truth_value}},
+  column_core.specs.{Lanes.{lane_row}, Columns.{number_cell, truth_cell, text_cell}},
+  nullable_array.{specs.Casts.{partial_cast}, proofs.{ColumnAnswers.{kept_cast_column, cast_answer, given_at}, CastLaws.{text_number_cast, text_truth_cast}}},
 }
 use Rattle.nullable_array.proofs.casts.cast_texts.Goals as goal
 
 pub returns-in_ok-copied_lane-in-Text-clause-answer : goal.returns-in_ok-copied_lane-in-Text-clause-answer
-returns-in_ok-copied_lane-in-Text-clause-answer c =
-    kept_cast_column c.args.dict.now c.args.kind string c.in-Text.is text_cell _ _ (text_cast c.args.dict.now) ∙ ap (λ (col : CellColumn). Ok (column_value c.args.dict.now col)) (sym c.in_ok-copied_lane-in-Text.ensures)
-
-pub returns-in_ok-copied_lane-in-Text-clause-given : goal.returns-in_ok-copied_lane-in-Text-clause-given
-returns-in_ok-copied_lane-in-Text-clause-given c = subst (λ (col : CellColumn). AreGiven c.args.dict.now col.cells) (sym c.in_ok-copied_lane-in-Text.ensures) c.requires
+returns-in_ok-copied_lane-in-Text-clause-answer c = cc (kept_cast_column c.args.dict.now c.args.kind string c.in-Text.is text_cell _ _ (grind arith), c.in_ok-copied_lane-in-Text.ensures)
 
 pub returns-in-Int64-clause-given : goal.returns-in-Int64-clause-given
 returns-in-Int64-clause-given c = given_at c.convert.result c.args.dict.now c.convert.ensures.given

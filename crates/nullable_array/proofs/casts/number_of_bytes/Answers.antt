@@ -1,12 +1,5 @@
-use Rattle.{
-  std.proofs.Common.{ap, ◌∙◌},
-  meaning.specs.Cast.{numeral_value},
-  nullable_array.proofs.CastLaws.{numeral_no_text},
-}
+use Rattle.nullable_array.proofs.CastLaws.{numeral_no_text}
 use Rattle.nullable_array.proofs.casts.number_of_bytes.Goals as goal
-
-pub returns-in-Ok : goal.returns-in-Ok
-returns-in-Ok c = c.number_of_numeral.ensures ∙ ap numeral_value c.in-Ok.ensures.cases.0
 
 pub returns-in-Err : goal.returns-in-Err
 returns-in-Err c = numeral_no_text c.args.bytes.now c.in-Err.ensures.cases.0

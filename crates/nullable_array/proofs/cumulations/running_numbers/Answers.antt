@@ -2,8 +2,8 @@ use Rattle.{
   std.proofs.Common.{ap, sym, ◌∙◌, Ok},
   cell_core.specs.declared.cell.Kind.TheVariants.{Int64},
   meaning.specs.Cumulate.{cumulate_column},
-  nullable_array.{specs.{declared.ops.Cumulation.{Cumulation}, Folds.{cumulation_of}}, proofs.RunningLaws.{number_sums, number_leasts, number_greatests}},
-  column_core.{specs.Columns.{CellColumn, column_value, column_with, number_cell, number_given}, proofs.ColumnLaws.{given-plain}},
+  nullable_array.{specs.Folds.{cumulation_of}, proofs.RunningLaws.{number_sums, number_leasts, number_greatests}},
+  column_core.{specs.Columns.{column_value, column_with, number_cell, number_given}, proofs.ColumnLaws.{given-plain}},
 }
 use Rattle.nullable_array.proofs.cumulations.running_numbers.Goals as goal
 
@@ -14,8 +14,8 @@ pub returns-in_ok-run-in-Sum-clause-answer : goal.returns-in_ok-run-in-Sum-claus
 returns-in_ok-run-in-Sum-clause-answer g c = λ texts.
     let count = g.A.Source.count_of c.args.a.now in
     let row = g.A.Source.row_of c.args.a.now in
-    ap (λ (o : Cumulation). cumulate_column (cumulation_of o) (column_value texts (column_with Int64 number_cell count row))) c.in-Sum.is
-    ∙ number_sums texts count row ∙ ap (λ (col : CellColumn). Ok (column_value texts col)) (sym c.in_ok-run-in-Sum.ensures)
+    ap (λ o. cumulate_column (cumulation_of o) (column_value texts (column_with Int64 number_cell count row))) c.in-Sum.is
+    ∙ number_sums texts count row ∙ ap (λ col. Ok (column_value texts col)) (sym c.in_ok-run-in-Sum.ensures)
 
 pub returns-in_ok-run-in-Min-clause-given : goal.returns-in_ok-run-in-Min-clause-given
 returns-in_ok-run-in-Min-clause-given g c = λ texts. given-plain texts Int64 number_cell _ _ _ (number_given texts) c.in_ok-run-in-Min.ensures
@@ -24,8 +24,8 @@ pub returns-in_ok-run-in-Min-clause-answer : goal.returns-in_ok-run-in-Min-claus
 returns-in_ok-run-in-Min-clause-answer g c = λ texts.
     let count = g.A.Source.count_of c.args.a.now in
     let row = g.A.Source.row_of c.args.a.now in
-    ap (λ (o : Cumulation). cumulate_column (cumulation_of o) (column_value texts (column_with Int64 number_cell count row))) c.in-Min.is
-    ∙ number_leasts texts count row ∙ ap (λ (col : CellColumn). Ok (column_value texts col)) (sym c.in_ok-run-in-Min.ensures)
+    ap (λ o. cumulate_column (cumulation_of o) (column_value texts (column_with Int64 number_cell count row))) c.in-Min.is
+    ∙ number_leasts texts count row ∙ ap (λ col. Ok (column_value texts col)) (sym c.in_ok-run-in-Min.ensures)
 
 pub returns-in_ok-run-in-Max-clause-given : goal.returns-in_ok-run-in-Max-clause-given
 returns-in_ok-run-in-Max-clause-given g c = λ texts. given-plain texts Int64 number_cell _ _ _ (number_given texts) c.in_ok-run-in-Max.ensures
@@ -34,5 +34,5 @@ pub returns-in_ok-run-in-Max-clause-answer : goal.returns-in_ok-run-in-Max-claus
 returns-in_ok-run-in-Max-clause-answer g c = λ texts.
     let count = g.A.Source.count_of c.args.a.now in
     let row = g.A.Source.row_of c.args.a.now in
-    ap (λ (o : Cumulation). cumulate_column (cumulation_of o) (column_value texts (column_with Int64 number_cell count row))) c.in-Max.is
-    ∙ number_greatests texts count row ∙ ap (λ (col : CellColumn). Ok (column_value texts col)) (sym c.in_ok-run-in-Max.ensures)
+    ap (λ o. cumulate_column (cumulation_of o) (column_value texts (column_with Int64 number_cell count row))) c.in-Max.is
+    ∙ number_greatests texts count row ∙ ap (λ col. Ok (column_value texts col)) (sym c.in_ok-run-in-Max.ensures)

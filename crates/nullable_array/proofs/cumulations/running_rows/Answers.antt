@@ -1,6 +1,6 @@
 use Rattle.{
-  std.proofs.{Common.{◌≡◌, ◌+◌, ap, sym, ◌∙◌, arith, Some, None, is_some, cond}, lemmas.Grind.{common_steps}},
-  nullable_array.{specs.Folds.{step_row, folded, running_row}, proofs.{FoldLaws.{folded_more}, PairRows.{row_pushed}}},
+  std.proofs.{Common.{◌≡◌, ◌+◌, ap, arith, Some, None, is_some}, lemmas.Grind.{common_steps}},
+  nullable_array.{specs.Folds.{folded, running_row}, proofs.{FoldLaws.{folded_more}, PairRows.{row_pushed}}},
 }
 use Rattle.nullable_array.proofs.cumulations.running_rows.Goals as goal
 
@@ -11,9 +11,9 @@ loop-row-preserved g c =
     let i = c.loop-row.row in
     let so_far = c.loop-row.invariant in
     let more : c.next-so_far.result ≡ folded step None (i + 1) row
-    = c.next-so_far.ensures ∙ ap (λ o. step_row step c.loop-row.so_far o) c.get-x.ensures ∙ ap (λ s. step_row step s (row i)) so_far.so_far ∙ sym (folded_more step None i row) in
+    = cc (c.next-so_far.ensures, c.get-x.ensures, so_far.so_far, folded_more step None i row) in
     let value : running_row step row i ≡ c.kept-value.result
-    = sym (c.kept-value.ensures ∙ ap (λ b. cond b c.next-so_far.result None) (c.is_some-is_present.ensures ∙ ap is_some c.get-x.ensures) ∙ ap (λ s. cond (is_some (row i)) s None) more) in
+    = cc (c.kept-value.ensures, c.is_some-is_present.ensures, c.get-x.ensures) in
     record {
       values = grind (arith, common_steps);
       present = grind (arith, common_steps);

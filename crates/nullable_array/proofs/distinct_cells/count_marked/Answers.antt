@@ -1,13 +1,12 @@
 use mir.Val.{bool_byte}
 use Rattle.{
-  std.proofs.Common.{◌≡◌, ◌∙◌, Bool, true, false, cond, refl, arith},
+  std.proofs.Common.{◌≡◌, ◌∙◌, Bool, cond, arith},
   nullable_array.proofs.PlaceLaws.{marked_step, one_at_most, all_counted},
 }
 use Rattle.nullable_array.proofs.distinct_cells.count_marked.Goals as goal
 
 byte : (b : Bool) → bool_byte b ≡ cond b 1 0
-byte true = refl
-byte false = refl
+byte = grind arith
 
 pub loop-row-preserved : goal.loop-row-preserved
 loop-row-preserved g c =
@@ -15,14 +14,9 @@ loop-row-preserved g c =
     let row = g.A.Source.row_of c.args.a.now in
     let one = c.from-count.ensures ∙ byte c.in_ok-added.added in
     let step = marked_step _ c.loop-row.marks c.mark.new.marks row c.loop-row.row c.loop-row.count c.from-count.result c.get.result c.in_ok-added.added c.in_ok-added.ensures c.get.ensures so_far.marked so_far.count one in
-    record {
-      marked = step.0;
-      count = step.1;
-      few = one_at_most c.in_ok-added.added c.from-count.result c.loop-row.count c.loop-row.row one so_far.few;
-    }
+    search one_at_most
 
 pub returns : goal.returns
 returns g c =
-    let row = g.A.Source.row_of c.args.a.now in
     let all : c.loop-row.row ≡ g.A.Source.count_of c.args.a.now = omega arith in
-    all_counted row _ c.loop-row.row c.loop-row.count all c.loop-row.invariant.count
+    all_counted (g.A.Source.row_of c.args.a.now) _ c.loop-row.row c.loop-row.count all c.loop-row.invariant.count

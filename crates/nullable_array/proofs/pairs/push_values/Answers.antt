@@ -13,11 +13,10 @@ loop-row-preserved g c =
     let y = c.value-y.result in
     let row = c.loop-row.row in
     let so_far = c.loop-row.invariant in
-    let made = c.value-value.ensures ∙ ap (λ p. value x p y c.flag-in-loop-row.result) c.flag.ensures ∙ ap (λ q. value x (g.A.Side.flag_at a row) y q) c.flag-in-loop-row.ensures in
     record {
       many = grind (arith, common_steps);
       counted = grind (arith, common_steps);
       room = grind (arith, common_steps);
       valued = rw c.push_reserved.ensures.items
-          (value_pushed (g.A.Side.value_at a) (g.A.Side.flag_at a) (g.B.Side.value_at b) (g.B.Side.flag_at b) value row c.loop-row.values.items x y c.value-value.result so_far.valued so_far.many c.value-x.ensures c.value-y.ensures made);
+          (value_pushed (g.A.Side.value_at a) (g.A.Side.flag_at a) (g.B.Side.value_at b) (g.B.Side.flag_at b) value row c.loop-row.values.items x y c.value-value.result so_far.valued so_far.many c.value-x.ensures c.value-y.ensures (c.value-value.ensures ∙ ap (λ p. value x p y c.flag-in-loop-row.result) c.flag.ensures ∙ ap (λ q. value x (g.A.Side.flag_at a row) y q) c.flag-in-loop-row.ensures));
     }

@@ -1,9 +1,8 @@
 use Rattle.{
-  std.{proofs.{Common.{◌≡◌, map, true, false, ◌||◌, ◌&&◌, refl, ap, sym, subst, ◌∙◌, pos, ◌+ℤ◌, rules, FitsSigned}, Math.Facts.{to_z-of_z}}, specs.{Int.{int_wrap, w64}, Ordering.{int_cmp}}},
-  cell_core.specs.declared.cell.Cell.{Cell},
-  meaning.specs.{Cell.{datum, IsGiven, int_cell, truth_cell as truth_value_cell}, Column.{tabulate}, Reduce.{reduction_cell, number_in, is_true}},
+  std.{proofs.{Common.{arith, ◌≡◌, map, true, false, ◌||◌, ◌&&◌, refl, ap, sym, ◌∙◌, pos, ◌+ℤ◌, rules, FitsSigned}, Math.Facts.{to_z-of_z}}, specs.{Int.{int_wrap, w64}, Ordering.{int_cmp}}},
+  meaning.specs.{Cell.{datum, int_cell, truth_cell as truth_value_cell}, Column.{tabulate}, Reduce.{reduction_cell, number_in, is_true}},
   nullable_array.{specs.{declared.ops.Reduction.{Reduction}, Folds.{reduction_of, sum_step, is_not_zero}}, proofs.FoldLaws.{folded_seen, least_seen, greatest_seen}},
-  column_core.specs.Columns.{number_cell, number_given},
+  column_core.specs.Columns.{number_cell},
 }
 use Rattle.nullable_array.proofs.reductions.reduced_numbers.Goals as goal
 
@@ -11,7 +10,7 @@ pub returns-in-Sum-clause-value : goal.returns-in-Sum-clause-value
 returns-in-Sum-clause-value g c = λ texts.
     let n = g.A.Source.count_of c.args.a.now in
     let row = g.A.Source.row_of c.args.a.now in
-    let back = λ (r : Reduction) (is : c.args.op ≡ r). ap (λ (o : Reduction). reduction_cell (reduction_of o) (map (datum texts) (tabulate n (λ k. number_cell (row k))))) (sym is) in
+    let back = λ (r : Reduction) (is : c.args.op ≡ r). ap (λ o. reduction_cell (reduction_of o) (map (datum texts) (tabulate n (λ k. number_cell (row k))))) (sym is) in
     let fits : FitsSigned w64 c.fold_rows.result = search rules in
     ap (datum texts) (c.cell_of_number.ensures.cell) ∙ ap int_cell (to_z-of_z fits) ∙ ap int_cell (c.fold_rows.ensures ∙ sym (folded_seen texts number_cell (λ total x. int_wrap w64 (total +ℤ number_in x)) (sum_step) (λ s. s) refl (λ x. refl) (λ s x. refl) (pos 0) n row)) ∙ back _ c.in-Sum.is
 
@@ -19,46 +18,34 @@ pub returns-in-Min-clause-value : goal.returns-in-Min-clause-value
 returns-in-Min-clause-value g c = λ texts.
     let n = g.A.Source.count_of c.args.a.now in
     let row = g.A.Source.row_of c.args.a.now in
-    let back = λ (r : Reduction) (is : c.args.op ≡ r). ap (λ (o : Reduction). reduction_cell (reduction_of o) (map (datum texts) (tabulate n (λ k. number_cell (row k))))) (sym is) in
-    ap (datum texts) (c.cell_of_number-in-Min.ensures.cell ∙ ap number_cell c.fold_rows-in-Min.ensures) ∙ sym (least_seen texts number_cell int_cmp refl (λ x. refl) (λ b x. refl) (λ x y. refl) n row) ∙ back _ c.in-Min.is
+    let back = λ (r : Reduction) (is : c.args.op ≡ r). ap (λ o. reduction_cell (reduction_of o) (map (datum texts) (tabulate n (λ k. number_cell (row k))))) (sym is) in
+    ap (datum texts) (grind arith) ∙ sym (least_seen texts number_cell int_cmp refl (λ x. refl) (λ b x. refl) (λ x y. refl) n row) ∙ back _ c.in-Min.is
 
 pub returns-in-Max-clause-value : goal.returns-in-Max-clause-value
 returns-in-Max-clause-value g c = λ texts.
     let n = g.A.Source.count_of c.args.a.now in
     let row = g.A.Source.row_of c.args.a.now in
-    let back = λ (r : Reduction) (is : c.args.op ≡ r). ap (λ (o : Reduction). reduction_cell (reduction_of o) (map (datum texts) (tabulate n (λ k. number_cell (row k))))) (sym is) in
-    ap (datum texts) (c.cell_of_number-in-Max.ensures.cell ∙ ap number_cell c.fold_rows-in-Max.ensures) ∙ sym (greatest_seen texts number_cell int_cmp refl (λ x. refl) (λ b x. refl) (λ x y. refl) n row) ∙ back _ c.in-Max.is
+    let back = λ (r : Reduction) (is : c.args.op ≡ r). ap (λ o. reduction_cell (reduction_of o) (map (datum texts) (tabulate n (λ k. number_cell (row k))))) (sym is) in
+    ap (datum texts) (grind arith) ∙ sym (greatest_seen texts number_cell int_cmp refl (λ x. refl) (λ b x. refl) (λ x y. refl) n row) ∙ back _ c.in-Max.is
 
 pub returns-in-Any-clause-value : goal.returns-in-Any-clause-value
 returns-in-Any-clause-value g c = λ texts.
     let n = g.A.Source.count_of c.args.a.now in
     let row = g.A.Source.row_of c.args.a.now in
-    let back = λ (r : Reduction) (is : c.args.op ≡ r). ap (λ (o : Reduction). reduction_cell (reduction_of o) (map (datum texts) (tabulate n (λ k. number_cell (row k))))) (sym is) in
+    let back = λ (r : Reduction) (is : c.args.op ≡ r). ap (λ o. reduction_cell (reduction_of o) (map (datum texts) (tabulate n (λ k. number_cell (row k))))) (sym is) in
     ap truth_value_cell (c.fold_until.ensures ∙ sym (folded_seen texts number_cell (λ found x. found || is_true x) (λ s x. s || is_not_zero x) (λ s. s) refl (λ x. refl) (λ s x. refl) false n row)) ∙ back _ c.in-Any.is
 
 pub returns-in-All-clause-value : goal.returns-in-All-clause-value
 returns-in-All-clause-value g c = λ texts.
     let n = g.A.Source.count_of c.args.a.now in
     let row = g.A.Source.row_of c.args.a.now in
-    let back = λ (r : Reduction) (is : c.args.op ≡ r). ap (λ (o : Reduction). reduction_cell (reduction_of o) (map (datum texts) (tabulate n (λ k. number_cell (row k))))) (sym is) in
+    let back = λ (r : Reduction) (is : c.args.op ≡ r). ap (λ o. reduction_cell (reduction_of o) (map (datum texts) (tabulate n (λ k. number_cell (row k))))) (sym is) in
     ap truth_value_cell (c.fold_until-in-All.ensures ∙ sym (folded_seen texts number_cell (λ found x. found && is_true x) (λ s x. s && is_not_zero x) (λ s. s) refl (λ x. refl) (λ s x. refl) true n row)) ∙ back _ c.in-All.is
 
 pub returns-in-Count-clause-value : goal.returns-in-Count-clause-value
 returns-in-Count-clause-value g c = λ texts.
     let n = g.A.Source.count_of c.args.a.now in
     let row = g.A.Source.row_of c.args.a.now in
-    let back = λ (r : Reduction) (is : c.args.op ≡ r). ap (λ (o : Reduction). reduction_cell (reduction_of o) (map (datum texts) (tabulate n (λ k. number_cell (row k))))) (sym is) in
+    let back = λ (r : Reduction) (is : c.args.op ≡ r). ap (λ o. reduction_cell (reduction_of o) (map (datum texts) (tabulate n (λ k. number_cell (row k))))) (sym is) in
     let fits : FitsSigned w64 c.fold_rows-in-Count.result = search rules in
     ap (datum texts) (c.cell_of_number-in-Count.ensures.cell) ∙ ap int_cell (to_z-of_z fits) ∙ ap int_cell (c.fold_rows-in-Count.ensures ∙ sym (folded_seen texts number_cell (λ m x. int_wrap w64 (m +ℤ pos 1)) (λ s x. sum_step s (pos 1)) (λ s. s) refl (λ x. refl) (λ s x. refl) (pos 0) n row)) ∙ back _ c.in-Count.is
-
-pub returns-in-Min-clause-given : goal.returns-in-Min-clause-given
-returns-in-Min-clause-given g c = λ texts. subst (λ (x : Cell). IsGiven texts x) (sym c.cell_of_number-in-Min.ensures.cell) (number_given texts _)
-
-pub returns-in-Max-clause-given : goal.returns-in-Max-clause-given
-returns-in-Max-clause-given g c = λ texts. subst (λ (x : Cell). IsGiven texts x) (sym c.cell_of_number-in-Max.ensures.cell) (number_given texts _)
-
-pub returns-in-Sum-clause-given : goal.returns-in-Sum-clause-given
-returns-in-Sum-clause-given g c = λ texts. subst (λ (x : Cell). IsGiven texts x) (sym c.cell_of_number.ensures.cell) tt
-
-pub returns-in-Count-clause-given : goal.returns-in-Count-clause-given
-returns-in-Count-clause-given g c = λ texts. subst (λ (x : Cell). IsGiven texts x) (sym c.cell_of_number-in-Count.ensures.cell) tt

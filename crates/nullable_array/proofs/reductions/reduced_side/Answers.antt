@@ -1,9 +1,8 @@
 use Rattle.{
-  std.{proofs.Common.{◌≡◌, map, refl, ap, sym, subst, ◌∙◌}, specs.Ordering.{int_cmp}},
-  cell_core.specs.declared.cell.Cell.{Cell},
-  meaning.specs.{Cell.{datum, IsGiven}, Column.{tabulate}, Reduce.{reduction_cell}},
+  std.{proofs.Common.{arith, ◌≡◌, map, refl, ap, sym, ◌∙◌}, specs.Ordering.{int_cmp}},
+  meaning.specs.{Cell.{datum}, Column.{tabulate}, Reduce.{reduction_cell}},
   nullable_array.{specs.{declared.ops.Reduction.{Reduction}, Folds.{reduction_of}}, proofs.FoldLaws.{least_seen, greatest_seen}},
-  column_core.specs.Columns.{number_cell, number_given},
+  column_core.specs.Columns.{number_cell},
 }
 use Rattle.nullable_array.proofs.reductions.reduced_side.Goals as goal
 
@@ -11,18 +10,12 @@ pub returns-in-Min-clause-value : goal.returns-in-Min-clause-value
 returns-in-Min-clause-value g c = λ texts.
     let n = g.A.Source.count_of c.args.a.now in
     let row = g.A.Source.row_of c.args.a.now in
-    let back = λ (r : Reduction) (is : c.args.op ≡ r). ap (λ (o : Reduction). reduction_cell (reduction_of o) (map (datum texts) (tabulate n (λ k. number_cell (row k))))) (sym is) in
+    let back = λ (r : Reduction) (is : c.args.op ≡ r). ap (λ o. reduction_cell (reduction_of o) (map (datum texts) (tabulate n (λ k. number_cell (row k))))) (sym is) in
     ap (datum texts) (c.cell_of_number.ensures.cell ∙ ap number_cell c.least_number.ensures) ∙ sym (least_seen texts number_cell int_cmp refl (λ x. refl) (λ b x. refl) (λ x y. refl) n row) ∙ back _ c.in-Min.is
 
 pub returns-in-Max-clause-value : goal.returns-in-Max-clause-value
 returns-in-Max-clause-value g c = λ texts.
     let n = g.A.Source.count_of c.args.a.now in
     let row = g.A.Source.row_of c.args.a.now in
-    let back = λ (r : Reduction) (is : c.args.op ≡ r). ap (λ (o : Reduction). reduction_cell (reduction_of o) (map (datum texts) (tabulate n (λ k. number_cell (row k))))) (sym is) in
-    ap (datum texts) (c.cell_of_number-in-Max.ensures.cell ∙ ap number_cell c.greatest_number.ensures) ∙ sym (greatest_seen texts number_cell int_cmp refl (λ x. refl) (λ b x. refl) (λ x y. refl) n row) ∙ back _ c.in-Max.is
-
-pub returns-in-Min-clause-given : goal.returns-in-Min-clause-given
-returns-in-Min-clause-given g c = λ texts. subst (λ (x : Cell). IsGiven texts x) (sym c.cell_of_number.ensures.cell) (number_given texts _)
-
-pub returns-in-Max-clause-given : goal.returns-in-Max-clause-given
-returns-in-Max-clause-given g c = λ texts. subst (λ (x : Cell). IsGiven texts x) (sym c.cell_of_number-in-Max.ensures.cell) (number_given texts _)
+    let back = λ (r : Reduction) (is : c.args.op ≡ r). ap (λ o. reduction_cell (reduction_of o) (map (datum texts) (tabulate n (λ k. number_cell (row k))))) (sym is) in
+    ap (datum texts) (grind arith) ∙ sym (greatest_seen texts number_cell int_cmp refl (λ x. refl) (λ b x. refl) (λ x y. refl) n row) ∙ back _ c.in-Max.is

@@ -1,5 +1,5 @@
 use Rattle.{
-  std.proofs.Common.{◌≡◌, ◌<◌, ℕ, List, Option, length, subst, ap, ◌∙◌, arith},
+  std.proofs.Common.{◌≡◌, ◌<◌, length, subst, arith},
   column_core.specs.Rows.{IsTextRow},
   nullable_array.proofs.TextRows.{longer_trans, text_written},
 }
@@ -12,16 +12,12 @@ loop-row-preserved g c =
     let first = c.args.dict.now in
     let before = c.loop-row.dict in
     let after = c.text_row.new.dict in
-    let x = g.A.Source.row_of c.args.a.now i in
-    let y = g.B.Source.row_of c.args.b.now i in
     let hv : i < length c.loop-row.values = omega arith in
     let hp : i < length c.loop-row.present = omega arith in
-    let below : i < g.A.Source.count_of c.args.a.now = omega arith in
-    let written : g.O.TextOp.written op before c.get.result c.get-in-loop-row.result ≡ g.O.TextOp.written op first x y
-    = ap (λ o. g.O.TextOp.written op before o c.get-in-loop-row.result) c.get.ensures ∙ ap (λ o. g.O.TextOp.written op before x o) c.get-in-loop-row.ensures
-    ∙ g.met.O.TextOp.stays op first before x y c.loop-row.invariant.longer (c.requires.given i below) in
+    let written : g.O.TextOp.written op before c.get.result c.get-in-loop-row.result ≡ g.O.TextOp.written op first (g.A.Source.row_of c.args.a.now i) (g.B.Source.row_of c.args.b.now i)
+    = grind arith in
     record {
-      longer = longer_trans first before after c.loop-row.invariant.longer c.text_row.ensures.keeps;
+      longer = search longer_trans;
       written = rw (c.unwrap_or.ensures, c.is_some.ensures) (text_written before after (λ k. g.O.TextOp.written op first (g.A.Source.row_of c.args.a.now k) (g.B.Source.row_of c.args.b.now k)) i c.loop-row.values c.loop-row.present c.in_ok-id.id (record { 0 = 0 }) c.text_row.ensures.keeps c.loop-row.invariant.written hv hp
-          (subst (λ (t : Option (List ℕ)). IsTextRow after t c.in_ok-id.id) written c.in_ok-id.ensures.row));
+          (subst (λ t. IsTextRow after t c.in_ok-id.id) written c.in_ok-id.ensures.row));
     }

@@ -1,7 +1,5 @@
 use Rattle.{
   std.proofs.Common.{◌≡◌, length, arith},
-  column_core.specs.{Lanes.{option_at}, Columns.{column_with, text_cell}},
-  cell_core.specs.declared.cell.Kind.TheVariants.{Text as string},
   nullable_array.proofs.TextRows.{column_made, texts_made, texts_given},
 }
 use Rattle.nullable_array.proofs.texts.text_column.Goals as goal
@@ -12,8 +10,7 @@ returns-clause-cells g c =
     let hv : length c.fill_texts.new.values ≡ c.in_ok-values.values.len = omega arith in
     let hp : length c.fill_texts.new.present ≡ c.in_ok-present.present.len = omega arith in
     let hc : count ≡ c.in_ok-values.values.len = omega (arith, c.in_ok-values.ensures.len) in
-    let is : c.column.result ≡ column_with string text_cell count (option_at c.fill_texts.new.values c.fill_texts.new.present) = column_made count _ _ c.fill_texts.new.values _ c.fill_texts.new.present _ c.column.result hc hv hp c.column.ensures in
-    texts_made _ _ count c.fill_texts.new.values c.fill_texts.new.present c.column.result c.in_ok-fill_texts.ensures.written is
+    texts_made _ _ count c.fill_texts.new.values c.fill_texts.new.present c.column.result c.in_ok-fill_texts.ensures.written (column_made count _ _ c.fill_texts.new.values _ c.fill_texts.new.present _ c.column.result hc hv hp c.column.ensures)
 
 pub returns-clause-given : goal.returns-clause-given
 returns-clause-given g c =
@@ -21,5 +18,4 @@ returns-clause-given g c =
     let hv : length c.fill_texts.new.values ≡ c.in_ok-values.values.len = omega arith in
     let hp : length c.fill_texts.new.present ≡ c.in_ok-present.present.len = omega arith in
     let hc : count ≡ c.in_ok-values.values.len = omega (arith, c.in_ok-values.ensures.len) in
-    let is : c.column.result ≡ column_with string text_cell count (option_at c.fill_texts.new.values c.fill_texts.new.present) = column_made count _ _ c.fill_texts.new.values _ c.fill_texts.new.present _ c.column.result hc hv hp c.column.ensures in
-    texts_given _ _ count c.fill_texts.new.values c.fill_texts.new.present c.column.result c.in_ok-fill_texts.ensures.written is
+    texts_given _ _ count c.fill_texts.new.values c.fill_texts.new.present c.column.result c.in_ok-fill_texts.ensures.written (column_made count _ _ c.fill_texts.new.values _ c.fill_texts.new.present _ c.column.result hc hv hp c.column.ensures)

@@ -8,7 +8,7 @@ use Rattle.row_keys.proofs.codes.pair_codes.Goals as goal
 
 pub returns-clause-codes : goal.returns-clause-codes
 returns-clause-codes g c =
-    let keys = g.R.KeyRows.keys c.args.rows.now in
+    let keys = g.R.KeyRows.keys _ in
     let numbers = c.in-Some.pairs.numbers.items in
     let made = c.in_ok-made.made in
     let stand : StandFor (same_pair same_number) (Na, 0) keys numbers = search rules in
@@ -16,7 +16,7 @@ returns-clause-codes g c =
 
 pub returns-clause-firsts : goal.returns-clause-firsts
 returns-clause-firsts g c =
-    let keys = g.R.KeyRows.keys c.args.rows.now in
+    let keys = g.R.KeyRows.keys _ in
     let numbers = c.in-Some.pairs.numbers.items in
     let made = c.in_ok-made.made in
     let stand : StandFor (same_pair same_number) (Na, 0) keys numbers = search rules in

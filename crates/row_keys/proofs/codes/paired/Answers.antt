@@ -23,7 +23,6 @@ loop-row-preserved g c =
     let keys = g.R.KeyRows.keys c.args.rows.now in
     let labels = c.args.labels.now.numbers.items in
     let row = c.loop-row.row in
-    let scale = c.args.room.scale in
     let first : c.index.result.now ≡ slice_index labels row = grind (arith, common_steps) in
     let second : c.key-second.result.1 ≡ (slice_index_or keys row (Na, 0)).1 = cc (get_at keys row (Na, 0) c.key-second.result c.key-second.ensures) in
     grind (arith, row_more, pair_number)
@@ -31,17 +30,15 @@ loop-row-preserved g c =
 pub invariant_of-result : goal.invariant_of-result
 invariant_of-result g c =
     let keys = g.R.KeyRows.keys c.args.rows.now in
-    let labels = c.args.labels.now.numbers.items in
     let end : c.loop-row.row ≡ length keys = omega (arith, c.loop-row-test.false, c.count-count.ensures, c.loop-row.auto.row-end) in
     record {
-      up_to = pairs_below keys labels c.args.labels.now.most c.args.second c.args.room.scale c.args.room.most c.requires.labels c.args.labels.now.up_to c.requires.second c.requires.scale c.requires.most c.loop-row.numbers.items
+      up_to = pairs_below _ _ _ _ _ _ c.requires.labels c.args.labels.now.up_to c.requires.second c.requires.scale c.requires.most _
           (cc c.loop-row.invariant);
     }
 
 pub returns : goal.returns
 returns g c =
     let keys = g.R.KeyRows.keys c.args.rows.now in
-    let labels = c.args.labels.now.numbers.items in
     let end : c.loop-row.row ≡ length keys = omega (arith, c.loop-row-test.false, c.count-count.ensures, c.loop-row.auto.row-end) in
-    pairs_stand keys labels c.args.labels.now.most c.args.second c.args.room.scale c.args.room.most c.requires.labels c.args.labels.now.up_to c.requires.second c.requires.scale c.requires.most c.loop-row.numbers.items
+    pairs_stand _ _ _ _ _ _ c.requires.labels c.args.labels.now.up_to c.requires.second c.requires.scale c.requires.most _
     (cc c.loop-row.invariant)

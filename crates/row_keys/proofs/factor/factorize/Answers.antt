@@ -5,22 +5,21 @@ use Rattle.{
 use Rattle.row_keys.proofs.factor.factorize.Goals as goal
 
 pub loop-row-init : goal.loop-row-init
-loop-row-init g c = grind (arith, unseen, unseen-nil)
+loop-row-init = grind (arith, unseen, unseen-nil)
 
 pub loop-row-preserved : goal.loop-row-preserved
 loop-row-preserved g c =
-    let keys = g.R.KeyRows.keys c.args.rows.now in
     let k = c.key.result in
     let i = c.loop-row.row in
     let old = c.loop-row.firsts.items in
-    let lt : i < length keys = omega (arith, c.loop-row-test.true, c.count-count.ensures) in
+    let lt : i < length (g.R.KeyRows.keys _) = omega (arith, c.loop-row-test.true, c.count-count.ensures) in
     let grown : c.if-new.firsts.items ≡ cond c.in_ok-code.new (old ++ i ∷ []) old
     = elim c.if-new.branch [
       | then-new+in_ok-push-2 w ↦ grind arith
       | else-new w ↦ grind (arith, added_none)
     ] in
-    one_noted g.K.PartialEq.eq g.met.K.Eq.laws keys i k c.loop-row.seen.keys c.loop-row.codes.items old lt (get_is keys i k c.key.ensures) c.loop-row.invariant
-    c.insert_full.new.self.keys c.push.new.self.items c.if-new.firsts.items c.in_ok-code.code c.in_ok-code.new c.in_ok-code.ensures.keys c.in_ok-code.ensures.added c.in_ok-code.ensures.index c.in_ok-push.ensures.items grown
+    one_noted _ g.met.K.Eq.laws _ i k _ _ old lt (get_is _ i k c.key.ensures) c.loop-row.invariant
+    c.insert_full.new.self.keys _ _ _ _ c.in_ok-code.ensures.keys c.in_ok-code.ensures.added c.in_ok-code.ensures.index c.in_ok-push.ensures.items grown
 
 pub returns-clause-keys : goal.returns-clause-keys
 returns-clause-keys g c =

@@ -1,5 +1,5 @@
 use Rattle.{
-  std.{proofs.Common.{◌≡◌, ◌+◌, ◌-◌, ◌<◌, ◌++◌, length, map, ◌∙◌, arith, All}, specs.List.{zip}},
+  std.{proofs.Common.{◌≡◌, ◌+◌, ◌-◌, ◌<◌, ◌++◌, length, map, arith, All}, specs.List.{zip}},
   cell_core.specs.contracts.cell.LabelEq.TheImpl.Laws.{laws-law},
   index_core.specs.Labels.{same_number},
   row_keys.{specs.Keys.{label_in}, proofs.RecodeLaws.{last_level, one_level, drop_none}},
@@ -9,13 +9,11 @@ use Rattle.row_keys.proofs.levels.numbered.Goals as goal
 
 pub loop-level-init : goal.loop-level-init
 loop-level-init g c =
-    let rows = g.A.LevelRows.tuples c.args.left.now ++ g.B.LevelRows.tuples c.args.right.now in
     let last = c.args.levels - 1 in
-    let all : All (λ t. length t ≡ last + 1) rows = grind arith in
-    let seen = c.deref.ensures.value ∙ c.in_ok-labels.ensures in
+    let all : All (λ t. length t ≡ last + 1) (g.A.LevelRows.tuples _ ++ g.B.LevelRows.tuples _) = grind arith in
     record {
       inside = omega (arith, c.requires.some);
-      numbered = last_level same_number laws-law label.Na last rows c.in_ok-numbers.numbers.codes.items c.in_ok-numbers.numbers.firsts.items all (grind arith);
+      numbered = last_level same_number laws-law label.Na last _ _ _ all (grind arith);
     }
 
 pub loop-level-preserved : goal.loop-level-preserved
@@ -28,7 +26,7 @@ loop-level-preserved g c =
     let all : All (λ t. here < length t) rows = grind arith in
     record {
       inside = omega (arith, c.loop-level.invariant.inside);
-      numbered = one_level same_number laws-law label.Na here rows c.loop-level.numbers.codes.items c.in_ok-numbers-2.numbers.codes.items c.in_ok-numbers-2.numbers.firsts.items all
+      numbered = one_level same_number laws-law label.Na _ _ c.loop-level.numbers.codes.items _ _ all
           (grind arith)
           (grind arith);
     }

@@ -5,7 +5,7 @@ use Rattle.{
 use Rattle.row_keys.proofs.numbers.codes_by_leader.Goals as goal
 
 pub loop-row-init : goal.loop-row-init
-loop-row-init c = grind (arith, unseen, unseen-nil, nat_eq)
+loop-row-init = grind (arith, unseen, unseen-nil, nat_eq)
 
 pub loop-row-preserved : goal.loop-row-preserved
 loop-row-preserved c =
@@ -18,13 +18,13 @@ loop-row-preserved c =
     elim c.if-leader-row.branch as (λ b. AreCoded c.args.leaders.now (c.loop-row.row + 1) c.if-leader-row.codes.items c.if-leader-row.firsts.items) [
       | then-leader-row+in_ok-push+in_ok-push-2 w ↦
           let many : w.len.result ≡ length firsts = search rules in
-          new_coded leaders c.requires row leader codes firsts lt refl c.loop-row.invariant w.if-leader-row.true c.if-leader-row.codes.items c.if-leader-row.firsts.items
+          new_coded _ c.requires _ _ _ _ lt refl c.loop-row.invariant w.if-leader-row.true c.if-leader-row.codes.items _
           (grind arith)
           (grind arith)
       | else-leader-row+in_ok-push-3 w ↦
-          let inside = code_inside leaders c.requires row leader codes firsts lt refl c.loop-row.invariant w.if-leader-row.false in
+          let inside = code_inside _ c.requires _ _ _ _ lt refl c.loop-row.invariant w.if-leader-row.false in
           let read : w.index-code.result.now ≡ slice_index codes leader = search get_or_read in
-          led_coded leaders c.requires row leader codes firsts lt refl c.loop-row.invariant w.if-leader-row.false c.if-leader-row.codes.items c.if-leader-row.firsts.items w.index-code.result.now read
+          led_coded _ c.requires row _ _ _ lt refl c.loop-row.invariant w.if-leader-row.false c.if-leader-row.codes.items _ _ read
           (grind arith)
           (ap (λ v. v.items) w.firsts-is)
     ]

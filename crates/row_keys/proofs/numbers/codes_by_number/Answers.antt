@@ -1,15 +1,11 @@
 use Rattle.{
-  std.proofs.Common.{nat_eq, rules},
+  std.proofs.Common.{arith, nat_eq, rules},
   row_keys.{specs.Numbers.{AreLeaders}, proofs.{StandLaws.{codes_stand}, LeaderLaws.{leaders_stand, leaders_back}}},
 }
 use Rattle.row_keys.proofs.numbers.codes_by_number.Goals as goal
 
 pub codes_by_leader-requires : goal.codes_by_leader-requires
-codes_by_leader-requires c =
-    let numbers = c.args.numbers.now in
-    let leaders = c.in-Some.leaders.items in
-    let are : AreLeaders numbers leaders = search rules in
-    rw c.as_slice.ensures.value (leaders_back numbers leaders are)
+codes_by_leader-requires = grind (arith, leaders_back)
 
 pub returns-clause-codes : goal.returns-clause-codes
 returns-clause-codes c =

@@ -17,8 +17,4 @@ loop-row-preserved c =
     let read : c.index.result.now ≡ slice_index table n = grind (arith, common_steps) in
     let made : leader ≡ min (slice_index table n) row = grind arith in
     let leads : leader ≡ first_with numbers n = search table_leads in
-    record {
-      long = search length-set;
-      table = grind (arith, table_more);
-      leaders = leaders_more numbers c.loop-row.leaders.items c.push.new.self.items row leader lt c.loop-row.invariant.leaders leads c.in_ok-push.ensures.items;
-    }
+    grind (arith, length-set, table_more, leaders_more)

@@ -10,10 +10,7 @@ loop-level-preserved c =
     let size : length tuple ≡ c.levels-levels.result = grind arith in
     let inside : c.loop-level.level < length tuple = omega arith in
     let room : c.loop-level.level < length c.loop-level.labels = omega (arith, c.loop-level.invariant.room, c.levels-levels.ensures.few) in
-    record {
-      room = search length-set;
-      so_far = one_label_more c.loop-level.labels tuple c.loop-level.level c.label.result room inside (search label_there) c.loop-level.invariant.so_far;
-    }
+    search (length-set, one_label_more, label_there)
 
 pub returns : goal.returns
-returns c = grind (arith, tuple_there, take_all)
+returns = grind (arith, tuple_there, take_all)

@@ -16,11 +16,10 @@ number_of-requires g c =
 
 pub loop-row-preserved : goal.loop-row-preserved
 loop-row-preserved g c =
-    let keys = g.R.KeyRows.keys c.args.rows.now in
-    let lt : c.loop-row.row < length keys = omega (arith, c.loop-row-test.true, c.count-count.ensures) in
+    let lt : c.loop-row.row < length (g.R.KeyRows.keys c.args.rows.now) = omega (arith, c.loop-row-test.true, c.count-count.ensures) in
     let fits : SFits w64 c.args.span.low = search rules in
     let is : c.number_of.result ≡ number_in c.args.class c.args.span.low c.key.result = cc (c.number_of.ensures, to_z-of_z w64 c.args.span.low fits) in
-    numbers_more (number_in c.args.class c.args.span.low) keys c.loop-row.row c.number_of.result c.key.result c.loop-row.numbers.items c.push.new.self.items lt (search get_is) is c.loop-row.invariant c.in_ok-push.ensures.items
+    numbers_more _ _ _ _ _ _ _ lt (search get_is) is c.loop-row.invariant c.in_ok-push.ensures.items
 
 pub invariant_of-result : goal.invariant_of-result
 invariant_of-result g c =
@@ -32,4 +31,4 @@ pub returns : goal.returns
 returns g c =
     let keys = g.R.KeyRows.keys c.args.rows.now in
     let end : length keys ≤ c.loop-row.row = omega (arith, c.loop-row-test.false, c.count-count.ensures) in
-    labels_stand c.args.class c.args.span.low c.args.span.high keys c.loop-row.numbers.items c.loop-row.row end c.requires.spanned c.loop-row.invariant
+    search labels_stand

@@ -6,11 +6,8 @@ use Rattle.row_keys.proofs.values.span_of.Goals as goal
 
 pub loop-row-preserved : goal.loop-row-preserved
 loop-row-preserved g c =
-    let keys = g.R.KeyRows.keys c.args.rows.now in
-    let span = c.loop-row.span in
-    let wider = c.in_ok-span.span in
-    let lt : c.loop-row.row < length keys = omega arith in
-    spanned_more c.args.class keys c.loop-row.row c.key.result span.low span.high wider.low wider.high lt (search get_is) c.in_ok-span.ensures.low c.in_ok-span.ensures.high c.in_ok-span.ensures.label c.loop-row.invariant
+    let lt : c.loop-row.row < length (g.R.KeyRows.keys c.args.rows.now) = omega arith in
+    spanned_more _ _ _ _ _ _ _ _ lt (search get_is) c.in_ok-span.ensures.low c.in_ok-span.ensures.high c.in_ok-span.ensures.label c.loop-row.invariant
 
 pub returns : goal.returns
-returns g c = search (rules, take_all)
+returns = search (rules, take_all)

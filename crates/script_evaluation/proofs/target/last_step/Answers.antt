@@ -1,5 +1,5 @@
 use Rattle.{
-  std.{proofs.Common.{refl, ◌∙◌, ap, None}, specs.Prelude.{Err, option_map}},
+  std.{proofs.Common.{arith, refl, ◌∙◌, ap, None}, specs.Prelude.{Err, option_map}},
   table_meaning.specs.Value.{key_given},
   select_meaning.specs.Select.{plain, through},
   script_meaning.specs.{Reading.{gives}, Expression.{Target, target_of}},
@@ -7,31 +7,25 @@ use Rattle.{
   script_evaluation.{specs.Evaluates.{subscript_in}, proofs.{Evaluations.{evaluates_by, stops, makes}, Parts.{key_known}, Trees.{step_of-Access}}},
   script_work.{specs.Work.{world_of, state_in}, proofs.Rides.{both_then}},
 }
-use Rattle.frame_store.specs.declared.arguments.Selector.TheVariants as selector
-use Rattle.frame_store.specs.declared.arguments.Subscript.TheVariants as subscript
 use Rattle.script_evaluation.proofs.target.last_step.Goals as goal
 
 pub returns-in_err-key-in-Item : goal.returns-in_err-key-in-Item
 returns-in_err-key-in-Item g c =
-    let s = c.args.work.now in
     evaluates_by (stops (λ fs t g. let t : Target = record { way = plain; first = key_given g; second = None } in gives t) c.in_err-key-in-Item.ensures c.from_residual.result c.from_residual.ensures.1)
-    (λ fs. ap (λ y. target_of fs (state_in s) (step_of y)) c.in-Item.is)
+    (λ fs. grind arith)
 
 pub returns-in_ok-key-in-Item : goal.returns-in_ok-key-in-Item
 returns-in_ok-key-in-Item g c =
-    let s = c.args.work.now in
-    let w = world_of c.given.new.work in
     let x = c.in_ok-key-in-Item.ensures in
-    let key = c.in_ok-key-in-Item.key in
-    evaluates_by (makes (λ g. let t : Target = record { way = plain; first = key_given g; second = None } in t) key (selector.Plain, subscript.Key key, None) x (key_known w key x.found, tt) refl)
-    (λ fs. ap (λ y. target_of fs (state_in s) (step_of y)) c.in-Item.is)
+    evaluates_by (makes (λ g. let t : Target = record { way = plain; first = key_given g; second = None } in t) _ _ x (key_known (world_of c.given.new.work) c.in_ok-key-in-Item.key x.found, tt) refl)
+    (λ fs. grind arith)
 
 pub returns-in_err-first-in-Access : goal.returns-in_err-first-in-Access
 returns-in_err-first-in-Access g c =
     let s = c.args.work.now in
     let y = c.in-Access in
     evaluates_by (stops (λ fs t q. let t : Target = record { way = through (accessor_of y.by); first = q.0; second = q.1 } in gives t) c.in_err-first-in-Access.ensures c.from_residual-in_err-first-in-Access.result c.from_residual-in_err-first-in-Access.ensures.1)
-    (λ fs. ap (λ z. target_of fs (state_in s) (step_of z)) y.is ∙ ap (target_of fs (state_in s)) (step_of-Access y.by y.first y.second)
+    (λ fs. ap (λ z. target_of fs (state_in s) (step_of z)) y.is ∙ ap (target_of fs (state_in s)) (step_of-Access _ y.first _)
     ∙ both_then Err _ _ (λ g h. let t : Target = record { way = through (accessor_of y.by); first = g; second = h } in gives t))
 
 pub returns-in_ok-first-in-Access : goal.returns-in_ok-first-in-Access
@@ -42,7 +36,7 @@ returns-in_ok-first-in-Access g c =
     let x = c.in_ok-first-in-Access.ensures in
     let first = c.in_ok-first-in-Access.first in
     let second = c.in_ok-first-in-Access.second in
-    evaluates_by (makes (λ q. let t : Target = record { way = through (accessor_of y.by); first = q.0; second = q.1 } in t) (first, second) (c.selector_of.result, first, second) x x.found
+    evaluates_by (makes (λ q. let t : Target = record { way = through (accessor_of y.by); first = q.0; second = q.1 } in t) _ _ x x.found
     (ap (λ way. let t : Target = record { way = way; first = subscript_in w first; second = option_map (subscript_in w) second } in t) c.selector_of.ensures))
-    (λ fs. ap (λ z. target_of fs (state_in s) (step_of z)) y.is ∙ ap (target_of fs (state_in s)) (step_of-Access y.by y.first y.second)
+    (λ fs. ap (λ z. target_of fs (state_in s) (step_of z)) y.is ∙ ap (target_of fs (state_in s)) (step_of-Access _ y.first _)
     ∙ both_then Err _ _ (λ g h. let t : Target = record { way = through (accessor_of y.by); first = g; second = h } in gives t))

@@ -9,13 +9,12 @@ use Rattle.script_session.proofs.statements.bind.Goals as goal
 
 pub returns-in_err-value-clause-answers : goal.returns-in_err-value-clause-answers
 returns-in_err-value-clause-answers g c =
-    let s = c.args.work.now in
     let f = c.in_err-value.field-0.0 in
     let p = err_from_is_err_and c.from_residual.result c.from_residual.ensures.1 in
-    rw (p.1, p.2) (λ held. step_halts (world_of c.evaluate.new.work).texts _ _ _ _ f (halts_first (world_of c.evaluate.new.work).texts _ _ _ _ refusal (λ v. at_once (done (with_value (state_in s) c.args.name.now (named_by (expr_of c.args.expr.now)) v) [] false)) f (c.in_err-value.ensures.reads held)))
+    rw (p.1, p.2) (λ held. step_halts (world_of c.evaluate.new.work).texts _ _ _ _ f (halts_first (world_of c.evaluate.new.work).texts _ _ _ _ refusal (λ v. at_once (done (with_value (state_in c.args.work.now) c.args.name.now (named_by (expr_of c.args.expr.now)) v) [] false)) f (c.in_err-value.ensures.reads held)))
 
 pub returns-in_err-set_name-clause-kept : goal.returns-in_err-set_name-clause-kept
-returns-in_err-set_name-clause-kept g c = grind (arith, err_from_is_err_and, keeps_both, keeps_same)
+returns-in_err-set_name-clause-kept = grind (arith, err_from_is_err_and, keeps_both, keeps_same)
 
 pub returns-clause-answers : goal.returns-clause-answers
 returns-clause-answers g c =
@@ -32,9 +31,8 @@ returns-clause-answers g c =
 
 pub returns-in_err-set_name-clause-answers : goal.returns-in_err-set_name-clause-answers
 returns-in_err-set_name-clause-answers g c =
-    let s = c.args.work.now in
     let p = err_from_is_err_and c.from_residual-in_err-set_name.result c.from_residual-in_err-set_name.ensures.1 in
-    rw (p.1, p.2) (λ held. spends_then refusal (λ v. at_once (done (with_value (state_in s) c.args.name.now (named_by (expr_of c.args.expr.now)) v) [] false)) (goes_spends (c.in_ok-value.ensures.reads held)))
+    rw (p.1, p.2) (λ held. spends_then refusal (λ v. at_once (done (with_value (state_in c.args.work.now) c.args.name.now (named_by (expr_of c.args.expr.now)) v) [] false)) (goes_spends (c.in_ok-value.ensures.reads held)))
 
 pub set_name-requires : goal.set_name-requires
-set_name-requires g c = grind arith
+set_name-requires = grind arith

@@ -11,23 +11,17 @@ use Rattle.{
 use Rattle.script_session.proofs.statements.drop_column.Goals as goal
 
 pub returns-in_err-on-clause-answers : goal.returns-in_err-on-clause-answers
-returns-in_err-on-clause-answers g c =
-    let s = c.args.work.now in
-    let n = c.args.name.now in
-    let f = c.in_err-on.field-0.0 in
-    let p = err_from_is_err_and c.from_residual.result c.from_residual.ensures.1 in
-    grind (arith, step_halts, halts_first, unnamed_fault)
+returns-in_err-on-clause-answers = grind (arith, step_halts, halts_first, unnamed_fault)
 
 pub returns-in_err-label-clause-answers : goal.returns-in_err-label-clause-answers
 returns-in_err-label-clause-answers g c =
     let s = c.args.work.now in
     let n = c.args.name.now in
     let f = c.in_err-label.field-0.0 in
-    let value = ap (λ o. value_of_name n (option_map (entry_in (world_of s)) o)) c.in_ok-on.ensures.found in
     let p = err_from_is_err_and c.from_residual-in_err-label.result c.from_residual-in_err-label.ensures.1 in
     rw (p.1, p.2) (λ held.
     let fs = files_in c.args.names.now held in
-    step_halts (world_of c.evaluate.new.work).texts _ _ _ _ f (halts_by refusal (world_of c.evaluate.new.work).texts _ _ _ f (ap (λ r. then_answer (at_once r) (λ v. then_answer (value_of fs (state_in s) (expr_of c.args.key.now)) (λ k. at_once (set_answer (state_in s) (Some n) (removal_result v k))))) value
+    step_halts (world_of c.evaluate.new.work).texts _ _ _ _ f (halts_by refusal (world_of c.evaluate.new.work).texts _ _ _ f (ap (λ r. then_answer (at_once r) (λ v. then_answer (value_of fs (state_in s) (expr_of c.args.key.now)) (λ k. at_once (set_answer (state_in s) (Some n) (removal_result v k))))) (ap (λ o. value_of_name n (option_map (entry_in (world_of s)) o)) c.in_ok-on.ensures.found)
     ∙ then_gives refusal _ (λ v. then_answer (value_of fs (state_in s) (expr_of c.args.key.now)) (λ k. at_once (set_answer (state_in s) (Some n) (removal_result v k)))))
     (halts_first (world_of c.evaluate.new.work).texts _ _ _ _ refusal (λ k. at_once (set_answer (state_in s) (Some n) (removal_result _ k))) f (c.in_err-label.ensures.reads held))))
 
@@ -82,18 +76,12 @@ returns-in-Err-clause-answers g c =
     let u = c.remove.new.self in
     let n = c.args.name.now in
     let on = c.in_ok-on.on in
-    let x = c.in_ok-label.ensures in
     let label = entry_in (world_of w) c.in_ok-label.label in
     let table = removal_result (entry_in (world_of w) on) label in
-    let here = sym (state_kept s w x.names x.kept) in
-    let of = ap (λ b. value_at b n) x.names ∙ c.in_ok-on.ensures.found in
-    let sets = subst (λ r. Sets r on table (world_of w) (world_of u)) c.in-Err.is c.remove.ensures.sets in
     λ held.
-    let fs = files_in c.args.names.now held in
-    let value = ap (λ o. value_of_name n (option_map (entry_in (world_of s)) o)) c.in_ok-on.ensures.found ∙ ap (λ e. Ok e) (sym (value_seen (world_of s) (world_of w) s.settled w.settled x.kept on c.in_ok-on.ensures.known)) in
     let meant = goes_by (grind (arith, then_gives, refusal))
-    (goes_value refusal (λ k. at_once (set_answer (state_in s) (Some n) (removal_result (entry_in (world_of w) on) k))) _ _ (x.reads held) refl) in
-    set_refused _ (state_in s) (Some n) on table (removal_result_fault (entry_in (world_of w) on) label) c.in-Err.fault false c.marked.result (world_of w) (world_of u) meant refl c.marked.ensures refl sets
+    (goes_value refusal (λ k. at_once (set_answer (state_in s) (Some n) (removal_result (entry_in (world_of w) on) k))) _ _ (c.in_ok-label.ensures.reads held) refl) in
+    set_refused _ (state_in s) (Some n) on table (removal_result_fault (entry_in (world_of w) on) label) c.in-Err.fault false c.marked.result (world_of w) (world_of u) meant refl c.marked.ensures refl (subst (λ r. Sets r on table (world_of w) (world_of u)) c.in-Err.is c.remove.ensures.sets)
 
 pub returns-in-Err-clause-kept : goal.returns-in-Err-clause-kept
 returns-in-Err-clause-kept g c =
@@ -111,4 +99,4 @@ returns-in-Err-clause-kept g c =
     search (keeps_both, set_failed)
 
 pub remove-requires-clause-label : goal.remove-requires-clause-label
-remove-requires-clause-label g c = grind arith
+remove-requires-clause-label = grind arith

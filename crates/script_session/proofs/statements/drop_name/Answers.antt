@@ -5,4 +5,4 @@ use Rattle.{
 use Rattle.script_session.proofs.statements.drop_name.Goals as goal
 
 pub returns-clause-answers : goal.returns-clause-answers
-returns-clause-answers c = grind (arith, then_gives)
+returns-clause-answers = grind (arith, then_gives)

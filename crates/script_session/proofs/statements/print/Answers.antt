@@ -9,10 +9,9 @@ use Rattle.script_session.proofs.statements.print.Goals as goal
 
 pub returns-in_err-value-clause-answers : goal.returns-in_err-value-clause-answers
 returns-in_err-value-clause-answers g c =
-    let s = c.args.work.now in
     let f = c.in_err-value.field-0.0 in
     let p = err_from_is_err_and c.from_residual.result c.from_residual.ensures.1 in
-    rw (p.1, p.2) (λ held. step_halts (world_of c.evaluate.new.work).texts _ _ _ _ f (halts_first (world_of c.evaluate.new.work).texts _ _ _ _ refusal (λ v. at_once (done (state_in s) (entry_text v ++ c.args.end.now) false)) f (c.in_err-value.ensures.reads held)))
+    rw (p.1, p.2) (λ held. step_halts (world_of c.evaluate.new.work).texts _ _ _ _ f (halts_first (world_of c.evaluate.new.work).texts _ _ _ _ refusal (λ v. at_once (done (state_in c.args.work.now) (entry_text v ++ c.args.end.now) false)) f (c.in_err-value.ensures.reads held)))
 
 pub returns-clause-answers : goal.returns-clause-answers
 returns-clause-answers g c =
@@ -25,9 +24,8 @@ returns-clause-answers g c =
 
 pub returns-in_err-printed-clause-answers : goal.returns-in_err-printed-clause-answers
 returns-in_err-printed-clause-answers g c =
-    let s = c.args.work.now in
     let p = err_from_is_err_and c.from_residual-in_err-printed.result c.from_residual-in_err-printed.ensures.1 in
-    rw (p.1, p.2) (λ held. spends_then refusal (λ v. at_once (done (state_in s) (entry_text v ++ c.args.end.now) false)) (goes_spends (c.in_ok-value.ensures.reads held)))
+    rw (p.1, p.2) (λ held. spends_then refusal (λ v. at_once (done (state_in c.args.work.now) (entry_text v ++ c.args.end.now) false)) (goes_spends (c.in_ok-value.ensures.reads held)))
 
 pub printed-requires : goal.printed-requires
-printed-requires g c = grind arith
+printed-requires = grind arith

@@ -1,32 +1,28 @@
 use Rattle.{
-  std.proofs.Common.{◌<◌, ◌≡◌, length, rules},
+  std.proofs.Common.{arith, ◌≡◌, length, rules},
   script_tokens.{specs.View.{token_of, tokens_of}, proofs.LexLaws.{lexed_stops, lexed_pushed, lexed_shorter, lexed_end, Lexes-unique, IsUtf8-after_lexed}},
 }
 use Rattle.script_tokens.proofs.lexing.tokens.Goals as goal
 
 pub returns-in_default-clause-found : goal.returns-in_default-clause-found
-returns-in_default-clause-found c =
-    let some : 0 < length c.lexing.rest.now = search rules in
-    lexed_stops c.args.piece.now c.lexing.rest.now (tokens_of c.lexing.tokens.items) c.lexing.invariant.so_far some (rw c.in_default.is at c.in_ok-token.ensures)
+returns-in_default-clause-found = grind (arith, lexed_stops)
 
 pub lexing-smaller : goal.lexing-smaller
-lexing-smaller c = lexed_shorter c.lexing.rest.now c.in-Some.after.now _ (token_of c.in-Some.token) (rw c.in-Some.is at c.in_ok-token.ensures) c.skip-rest.ensures
+lexing-smaller c = grind (arith, lexed_shorter)
 
 pub lexing-preserved : goal.lexing-preserved
 lexing-preserved c =
     let is = rw c.in-Some.is at c.in_ok-token.ensures in
     record {
-      so_far = lexed_pushed c.args.piece.now c.lexing.rest.now c.in-Some.after.now _ c.lexing.tokens.items _ c.in-Some.token c.lexing.invariant.so_far
+      so_far = lexed_pushed _ _ _ _ _ _ _ c.lexing.invariant.so_far
           is c.in_ok-push.ensures.items c.skip-rest.ensures;
       utf8 = IsUtf8-after_lexed c.lexing.rest.now c.in-Some.after.now _ (token_of c.in-Some.token) c.lexing.invariant.utf8 is c.skip-rest.ensures;
     }
 
 pub returns-clause-found : goal.returns-clause-found
-returns-clause-found c =
-    let none : length c.lexing.rest.now ≡ 0 = search rules in
-    lexed_end c.args.piece.now c.lexing.rest.now (tokens_of c.lexing.tokens.items) c.lexing.invariant.so_far none
+returns-clause-found = grind (arith, lexed_end)
 
 pub returns-clause-only : goal.returns-clause-only
 returns-clause-only c =
     let none : length c.lexing.rest.now ≡ 0 = search rules in
-    λ ts is. Lexes-unique (tokens_of c.lexing.tokens.items) ts c.args.piece.now (lexed_end c.args.piece.now c.lexing.rest.now (tokens_of c.lexing.tokens.items) c.lexing.invariant.so_far none) is
+    λ ts is. Lexes-unique (tokens_of c.lexing.tokens.items) ts c.args.piece.now (search lexed_end) is

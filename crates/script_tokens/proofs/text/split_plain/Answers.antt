@@ -8,4 +8,4 @@ pub split_at-requires : goal.split_at-requires
 split_at-requires c = omega (arith, prefix_len-le (is_plain c.args.quote) c.args.bytes.now, c.plain_len.ensures)
 
 pub returns : goal.returns
-returns c = run_at (is_plain c.args.quote) c.args.bytes.now _ _ c.plain_len.result c.plain_len.ensures c.split_at.ensures.front c.split_at.ensures.back
+returns c = search run_at

@@ -9,4 +9,4 @@ pub split_at-requires : goal.split_at-requires
 split_at-requires c = omega (arith, prefix_len-le is_digit c.args.bytes.now)
 
 pub returns : goal.returns
-returns c = run_at is_digit c.args.bytes.now _ _ c.digits_len.result c.digits_len.ensures c.split_at.ensures.front c.split_at.ensures.back
+returns c = search run_at

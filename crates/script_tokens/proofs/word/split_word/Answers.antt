@@ -9,4 +9,4 @@ pub split_at-requires : goal.split_at-requires
 split_at-requires c = omega (arith, prefix_len-le continues_word c.args.bytes.now)
 
 pub returns : goal.returns
-returns c = run_at continues_word c.args.bytes.now _ _ c.word_len.result c.word_len.ensures c.split_at.ensures.front c.split_at.ensures.back
+returns c = search run_at

@@ -5,7 +5,7 @@ use Rattle.{
 use Rattle.script_work.proofs.names.bind.Goals as goal
 
 pub returns-clause-bound : goal.returns-clause-bound
-returns-clause-bound c = grind (arith, bound_entries)
+returns-clause-bound = grind (arith, bound_entries)
 
 pub returns-clause-left : goal.returns-clause-left
-returns-clause-left c = grind (arith, left_entry)
+returns-clause-left = grind (arith, left_entry)

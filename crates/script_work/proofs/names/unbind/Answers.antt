@@ -5,7 +5,7 @@ use Rattle.{
 use Rattle.script_work.proofs.names.unbind.Goals as goal
 
 pub returns-clause-unbound : goal.returns-clause-unbound
-returns-clause-unbound c = ap bindings_of c.shift_remove.ensures.entries ∙ bindings_of-remove_entry c.args.names.now.entries c.args.name.now
+returns-clause-unbound c = ap bindings_of c.shift_remove.ensures.entries ∙ bindings_of-remove_entry _ c.args.name.now
 
 pub returns-clause-left : goal.returns-clause-left
 returns-clause-left c = search value_at-bindings_of

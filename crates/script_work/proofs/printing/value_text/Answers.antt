@@ -1,6 +1,5 @@
 use Rattle.{
   std.proofs.Common.{arith, sym, ◌∙◌},
-  cell_core.specs.declared.grid.Shape.TheVariants.{Series, Frame},
   frame_store.specs.Objects.{tables},
   script_work.proofs.Printed.{object_text},
 }
@@ -9,11 +8,11 @@ use Rattle.script_work.proofs.printing.value_text.Goals as goal
 pub returns-in-Series : goal.returns-in-Series
 returns-in-Series c =
     let e = c.read-table.ensures in
-    let meant = object_text c.args.dict.now (tables c.args.store.now) c.args.value c.in-Object.id c.read-table.result Series c.in-Object.is e.table e.whole e.levels (sym c.in-Series.is ∙ c.shape.ensures) in
+    let meant = object_text c.args.dict.now (tables c.args.store.now) _ _ _ _ c.in-Object.is e.table e.whole e.levels (sym c.in-Series.is ∙ c.shape.ensures) in
     grind arith
 
 pub returns-in-Frame : goal.returns-in-Frame
 returns-in-Frame c =
     let e = c.read-table.ensures in
-    let meant = object_text c.args.dict.now (tables c.args.store.now) c.args.value c.in-Object.id c.read-table.result Frame c.in-Object.is e.table e.whole e.levels (sym c.in-Frame.is ∙ c.shape.ensures) in
+    let meant = object_text c.args.dict.now (tables c.args.store.now) _ _ _ _ c.in-Object.is e.table e.whole e.levels (sym c.in-Frame.is ∙ c.shape.ensures) in
     grind arith

@@ -10,10 +10,7 @@ loop-id-preserved-then-not-has c =
     let bs = bindings_of c.args.names.now.values.entries in
     let unnamed = sym c.has.ensures ∙ c.if-not-has.true in
     let before = subst (λ ts. AreNoted bs ts (tables c.loop-id.store)) c.in-Some.ensures.items c.loop-id.invariant.noted in
-    record {
-      noted = search noted_ended;
-      kept = kept_ended bs c.in-Some.id (tables c.args.store.now) _ _ c.loop-id.invariant.kept unnamed c.end.ensures;
-    }
+    search (noted_ended, kept_ended)
 
 pub loop-id-preserved : goal.loop-id-preserved
 loop-id-preserved c =

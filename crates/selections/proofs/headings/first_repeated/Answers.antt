@@ -13,8 +13,8 @@ loop-place-preserved-then-not-branch c =
     let same : c.loop-place.place ≡ p + 1 = omega arith in
     let later : (q : Option Label) → list_any (same_heading q) c.loop-place.later.keys ≡ list_any (same_heading q) (drop (p + 1) hs) = grind arith in
     record {
-      later = λ q. later_step hs c.loop-place.later.keys c.insert.new.self.keys p None q lt later c.in_ok-insert.ensures.keys;
-      repeated = repeated_here hs c.loop-place.later.keys p None c.loop-place.repeated lt later (grind arith) (grind arith);
+      later = λ q. later_step hs _ _ p _ q lt later c.in_ok-insert.ensures.keys;
+      repeated = repeated_here hs _ p _ c.loop-place.repeated lt later (grind arith) (grind arith);
     }
 
 pub loop-place-preserved : goal.loop-place-preserved
@@ -25,6 +25,6 @@ loop-place-preserved c =
     let same : c.loop-place.place ≡ p + 1 = omega arith in
     let later : (q : Option Label) → list_any (same_heading q) c.loop-place.later.keys ≡ list_any (same_heading q) (drop (p + 1) hs) = grind arith in
     record {
-      later = λ q. later_step hs c.loop-place.later.keys c.insert.new.self.keys p None q lt later c.in_ok-insert.ensures.keys;
-      repeated = repeated_later hs c.loop-place.later.keys p None c.loop-place.repeated lt later (grind arith) (grind arith);
+      later = λ q. later_step hs _ _ p _ q lt later c.in_ok-insert.ensures.keys;
+      repeated = repeated_later hs _ p None _ lt later (grind arith) (grind arith);
     }

@@ -5,7 +5,7 @@ use Rattle.{
 use Rattle.selections.proofs.keys.full_labels.Goals as goal
 
 pub returns-then-items-levels-clause-labels : goal.returns-then-items-levels-clause-labels
-returns-then-items-levels-clause-labels c = grind (arith, count_items)
+returns-then-items-levels-clause-labels = grind (arith, count_items)
 
 pub returns-clause-labels : goal.returns-clause-labels
-returns-clause-labels c = grind (arith, count_items)
+returns-clause-labels = grind (arith, count_items)

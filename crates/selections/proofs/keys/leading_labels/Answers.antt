@@ -5,7 +5,7 @@ use Rattle.{
 use Rattle.selections.proofs.keys.leading_labels.Goals as goal
 
 pub returns-then-items-eq0-clause-labels : goal.returns-then-items-eq0-clause-labels
-returns-then-items-eq0-clause-labels c = grind (arith, count_items)
+returns-then-items-eq0-clause-labels = grind (arith, count_items)
 
 pub returns-clause-labels : goal.returns-clause-labels
-returns-clause-labels c = grind (arith, count_items)
+returns-clause-labels = grind (arith, count_items)

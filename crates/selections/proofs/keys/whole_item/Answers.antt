@@ -5,4 +5,4 @@ use Rattle.{
 use Rattle.selections.proofs.keys.whole_item.Goals as goal
 
 pub returns-else-levels-eq1-clause-labels : goal.returns-else-levels-eq1-clause-labels
-returns-else-levels-eq1-clause-labels c = grind (arith, item_of-Row)
+returns-else-levels-eq1-clause-labels = grind (arith, item_of-Row)

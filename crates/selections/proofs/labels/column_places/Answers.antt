@@ -1,5 +1,5 @@
 use Rattle.{
-  std.{proofs.{Common.{◌∙◌, ◌<◌, ap, length, sym, Some, None, arith}, lemmas.List.Elements.{All-push}}, specs.Option.{option_copied}},
+  std.{proofs.{Common.{◌∙◌, ◌<◌, ap, length, sym, arith}, lemmas.List.Elements.{All-push}}, specs.Option.{option_copied}},
   selections.proofs.PlaceLaws.{listed_settled, looked_up, looked_inside, places_more, place_refused},
 }
 use Rattle.selections.proofs.labels.column_places.Goals as goal
@@ -10,8 +10,8 @@ returns-in_default-clause-answer c =
     let t = c.args.on.now in
     let label = c.label_of-label.result in
     let lt : c.loop-k.k < length c.args.cells.now = omega arith in
-    let settled = listed_settled dict c.args.cells.now c.loop-k.k c.at.result.now label c.at.ensures c.label_of-label.ensures.seen c.requires.cells in
-    let none = looked_up dict c.in_ok-first.first.entries t label None c.len.ensures.distinct c.requires.settled settled c.in_ok-first.ensures c.in_default.ensures.value in
+    let settled = listed_settled _ _ _ _ _ c.at.ensures c.label_of-label.ensures.seen c.requires.cells in
+    let none = looked_up _ _ t _ _ c.len.ensures.distinct c.requires.settled settled c.in_ok-first.ensures c.in_default.ensures.value in
     rw c.missing.ensures (
       search (place_refused, c.label_of-label.ensures.seen),
       search,
@@ -23,10 +23,10 @@ loop-k-preserved c =
     let t = c.args.on.now in
     let label = c.label_of-label.result in
     let lt : c.loop-k.k < length c.args.cells.now = omega arith in
-    let settled = listed_settled dict c.args.cells.now c.loop-k.k c.at.result.now label c.at.ensures c.label_of-label.ensures.seen c.requires.cells in
+    let settled = listed_settled _ _ _ _ _ c.at.ensures c.label_of-label.ensures.seen c.requires.cells in
     let is = ap option_copied (sym c.in-Some.is) ∙ c.get.ensures.value in
-    let here = looked_up dict c.in_ok-first.first.entries t label (Some c.in-Some.place.now) c.len.ensures.distinct c.requires.settled settled c.in_ok-first.ensures is in
+    let here = looked_up _ _ t _ _ c.len.ensures.distinct c.requires.settled settled c.in_ok-first.ensures is in
     record {
       places = search (places_more, c.loop-k.k, c.push.new.self, c.at.ensures, c.label_of-label.ensures.seen, c.in_ok-push.ensures.ok);
-      inside = rw c.in_ok-push.ensures.ok (All-push (λ place. place < length t.columns) c.loop-k.places c.in-Some.place.now c.loop-k.invariant.inside (looked_inside c.in_ok-first.first.entries t label c.in-Some.place.now c.requires.whole c.in_ok-first.ensures is));
+      inside = rw c.in_ok-push.ensures.ok (All-push (λ place. place < length t.columns) c.loop-k.places _ c.loop-k.invariant.inside (looked_inside _ t _ _ c.requires.whole c.in_ok-first.ensures is));
     }

@@ -7,4 +7,4 @@ use Rattle.selections.proofs.labels.headings_at.Goals as goal
 pub loop-k-preserved : goal.loop-k-preserved
 loop-k-preserved c =
     let lt : c.loop-k.k < length c.args.places.now = omega arith in
-    headings_more c.args.on.now c.args.places.now c.loop-k.k c.at.result.now c.heading.result c.loop-k.headings.items c.push.new.self.items lt c.at.ensures c.heading.ensures.value c.loop-k.invariant c.in_ok-push.ensures.items
+    headings_more c.args.on.now _ _ _ _ _ _ lt c.at.ensures c.heading.ensures.value c.loop-k.invariant c.in_ok-push.ensures.items

@@ -6,8 +6,8 @@ use Rattle.selections.proofs.new_objects.copied.Goals as goal
 
 pub headed_by-requires-clause-name : goal.headed_by-requires-clause-name
 headed_by-requires-clause-name c =
-    own_name c.args.dict.now c.read-source.result c.in_ok-headings.headings c.in_ok-headings.ensures (search object_settled)
+    own_name _ c.read-source.result _ c.in_ok-headings.ensures (search object_settled)
 
 pub headed_by-requires-clause-labels : goal.headed_by-requires-clause-labels
 headed_by-requires-clause-labels c =
-    own_labels c.args.dict.now c.read-source.result c.in_ok-headings.headings c.in_ok-headings.ensures (search object_settled)
+    own_labels _ c.read-source.result _ c.in_ok-headings.ensures (search object_settled)

@@ -5,4 +5,4 @@ use Rattle.{
 use Rattle.selections.proofs.new_objects.places_below.Goals as goal
 
 pub loop-place-preserved : goal.loop-place-preserved
-loop-place-preserved c = grind (arith, one_more_place)
+loop-place-preserved = grind (arith, one_more_place)

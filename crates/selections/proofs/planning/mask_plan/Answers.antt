@@ -15,4 +15,4 @@ returns-clause-plan c =
     (grind arith)
 
 pub returns-clause-whole : goal.returns-clause-whole
-returns-clause-whole c = grind arith
+returns-clause-whole = grind arith

@@ -19,4 +19,4 @@ returns-in_ok-push-in-Scalar-clause-plan c =
     grind (arith, column_planned c.args.dict.now c.args.on.now c.whole_columns.result c.whole_columns.ensures.rows (label_datum c.args.dict.now c.label_of.result) c.in_ok-place-in-Scalar.place c.in_ok-place-in-Scalar.ensures.answer columns c.whole_columns.ensures.form)
 
 pub returns-in_ok-push-in-Scalar-clause-whole : goal.returns-in_ok-push-in-Scalar-clause-whole
-returns-in_ok-push-in-Scalar-clause-whole c = grind arith
+returns-in_ok-push-in-Scalar-clause-whole = grind arith

@@ -8,15 +8,15 @@ use Rattle.selections.proofs.reaching.at_rows.Goals as goal
 pub returns-in_err-rows-clause-rows : goal.returns-in_err-rows-clause-rows
 returns-in_err-rows-clause-rows c = λ live settled.
     let p = err_from_is_err_and c.from_residual-in_err-rows.result c.from_residual-in_err-rows.ensures.1 in
-    rw (p.1, p.2) (at_refused c.args.dict.now c.args.on.now c.axis-axis.result.now c.levels.result (λ texts. subscript_of live texts c.args.key.now) c.in_ok-label.label c.copy.result (grind arith) c.axis-axis.ensures
+    rw (p.1, p.2) (at_refused _ c.args.on.now _ _ (λ texts. subscript_of live texts c.args.key.now) _ _ (grind arith) c.axis-axis.ensures
     (c.in_ok-label.ensures.labels live) c.copy.ensures settled c.in_err-rows.field-0.0 c.in_err-rows.ensures.rows)
 
 pub returns-then-rows-clause-rows : goal.returns-then-rows-clause-rows
 returns-then-rows-clause-rows c = λ live settled.
-    at_found c.args.dict.now c.args.on.now c.axis-axis.result.now c.levels.result (λ texts. subscript_of live texts c.args.key.now) c.in_ok-label.label c.copy.result (grind arith) c.axis-axis.ensures
+    at_found _ c.args.on.now _ _ (λ texts. subscript_of live texts c.args.key.now) _ _ (grind arith) c.axis-axis.ensures
     (c.in_ok-label.ensures.labels live) c.copy.ensures settled c.in_ok-rows.rows c.if-rows.true c.in_ok-rows.ensures.rows
 
 pub returns-else-rows-clause-rows : goal.returns-else-rows-clause-rows
 returns-else-rows-clause-rows c = λ live settled.
-    at_repeated c.args.dict.now c.args.on.now c.axis-axis.result.now c.levels.result (λ texts. subscript_of live texts c.args.key.now) c.in_ok-label.label c.copy.result (grind arith) c.axis-axis.ensures
+    at_repeated _ c.args.on.now _ _ (λ texts. subscript_of live texts c.args.key.now) _ _ (grind arith) c.axis-axis.ensures
     (c.in_ok-label.ensures.labels live) c.copy.ensures settled c.in_ok-rows.rows c.if-rows.false c.in_ok-rows.ensures.rows

@@ -1,7 +1,4 @@
-use Rattle.{
-  std.proofs.Common.{length},
-  selections.proofs.SeenKeys.{labels_found, labels_within, labels_left},
-}
+use Rattle.selections.proofs.SeenKeys.{labels_found, labels_within, labels_left}
 use Rattle.selections.proofs.reaching.labelled.Goals as goal
 
 pub returns-clause-rows : goal.returns-clause-rows
@@ -11,4 +8,4 @@ pub returns-clause-within : goal.returns-clause-within
 returns-clause-within c = search labels_within
 
 pub returns-clause-left : goal.returns-clause-left
-returns-clause-left c = labels_left c.args.dict.now (length c.args.axis.now.names) c.args.axis.now.tuples c.args.key.now c.loc_places.result c.found.result c.requires.some c.found.ensures c.loc_places.ensures.picked
+returns-clause-left c = labels_left c.args.dict.now _ _ c.args.key.now c.loc_places.result c.found.result c.requires.some c.found.ensures c.loc_places.ensures.picked

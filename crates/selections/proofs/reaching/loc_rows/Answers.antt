@@ -13,6 +13,6 @@ pub returns-clause-rows : goal.returns-clause-rows
 returns-clause-rows c =
     let live = tables c.args.store.now in
     let count = c.levels-levels.ensures.count ∙ ap (λ (a : AxisValue). length a.names) c.axis-axis.ensures in
-    loc_found c.args.dict.now c.args.on.now c.axis-axis.result.now c.levels-levels.result (λ texts. subscript_of live texts c.args.key.now) c.in_ok-key.key c.labelled.result count c.axis-axis.ensures
+    loc_found _ c.args.on.now _ _ (λ texts. subscript_of live texts c.args.key.now) _ _ count c.axis-axis.ensures
     (grind arith)
     (c.in_ok-key.ensures.key live) c.requires.key.given c.labelled.ensures.rows

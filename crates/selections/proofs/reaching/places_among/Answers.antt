@@ -5,7 +5,7 @@ use Rattle.{
 use Rattle.selections.proofs.reaching.places_among.Goals as goal
 
 pub returns-clause-places : goal.returns-clause-places
-returns-clause-places c = grind (arith, places_found)
+returns-clause-places = grind (arith, places_found)
 
 pub returns-clause-within : goal.returns-clause-within
 returns-clause-within c = search places_within

@@ -1,7 +1,7 @@
 use Rattle.{
   std.proofs.Common.{arith},
   frame_store.specs.{Objects.{tables}, Arguments.{subscript_of}},
-  selections.{specs.Reaches.{accessor_of}, proofs.ReachLaws.{two_found}},
+  selections.proofs.ReachLaws.{two_found},
 }
 use Rattle.selections.proofs.reaching.rows_by_two.Goals as goal
 
@@ -17,5 +17,5 @@ pub returns-clause-rows : goal.returns-clause-rows
 returns-clause-rows c =
     let live = tables c.args.store.now in
     let dict = c.args.dict.now in
-    two_found dict c.args.on.now (accessor_of c.args.by) c.levels.result (subscript_of live dict c.args.first.now) (subscript_of live dict c.args.second.now) c.levels.ensures
-    (subscript_of live dict c.in_ok-key.key) c.rows_by.result (c.in_ok-key.ensures.key live dict) c.rows_by.ensures.rows
+    two_found _ _ _ _ _ _ c.levels.ensures
+    (subscript_of live dict c.in_ok-key.key) _ (c.in_ok-key.ensures.key live dict) c.rows_by.ensures.rows

@@ -8,14 +8,14 @@ use Rattle.{
 use Rattle.selections.proofs.selecting.columns_of.Goals as goal
 
 pub take_frame-requires-clause-plan : goal.take_frame-requires-clause-plan
-take_frame-requires-clause-plan c = grind arith
+take_frame-requires-clause-plan = grind arith
 
 pub returns : goal.returns
 returns c =
     let dict = c.args.dict.now in
     let t = table_at (tables c.args.store.now) c.args.on.0 in
     let plan = c.whole_columns-plan.result in
-    let at = read_is _ c.read.result c.read.ensures.table in
+    let at = read_is _ _ c.read.ensures.table in
     let all = subst (λ (n : NumberedTable). TakesAll n plan.rows) at c.whole_columns-plan.ensures.rows in
     let taken = cut (table_value dict t) (rows_in plan.rows) plan.columns in
     let below = subst (λ (l : List ℕ). All (λ place. place < length t.columns) l) (search) c.requires.columns in

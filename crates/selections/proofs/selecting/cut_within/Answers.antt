@@ -1,5 +1,5 @@
 use Rattle.{
-  std.proofs.Common.{rules, ◌≡◌, ap, sym, subst, true, length, Err},
+  std.proofs.Common.{arith, rules, ◌≡◌, sym, subst, true, length, Err},
   table_meaning.specs.Settled.{IsSettled},
   form_meaning.specs.Finish.{within_limits},
   frame_store.{specs.{Shown.{shown}, declared.fault.OpFault.TheVariants.{NoMemory}}, proofs.Settling.{longer_self}},
@@ -10,9 +10,9 @@ use Rattle.selections.proofs.selecting.cut_within.Goals as goal
 pub returns-in_err-id : goal.returns-in_err-id
 returns-in_err-id c = λ texts settled given.
     let refused : c.from_residual.result ≡ Err NoMemory = search rules in
-    rw refused (ap (shown texts) c.in_err-id.ensures.err, longer_self texts, subst (IsSettled shown texts) (sym c.in_err-id.ensures.err) settled)
+    rw refused (grind arith, longer_self _, subst (IsSettled shown texts) (sym c.in_err-id.ensures.err) settled)
 
 pub returns : goal.returns
 returns c = λ texts settled given.
     let within : within_limits (length (rows_in c.args.rows.now)) (length c.args.columns.now) ≡ true = search rules in
-    taken_answers texts c.args.store.now c.make_taken.new.store c.args.on.0 c.in_ok-id.id c.args.shape c.args.headings c.args.rows.now c.args.columns.now c.requires.live c.in_ok-id.ensures.fresh c.in_ok-id.ensures.ok within settled given
+    taken_answers texts c.args.store.now c.make_taken.new.store c.args.on.0 c.in_ok-id.id c.args.shape c.args.headings c.args.rows.now _ c.requires.live c.in_ok-id.ensures.fresh c.in_ok-id.ensures.ok within settled given

@@ -14,12 +14,12 @@ returns-then-ne-clause-kind c = λ texts.
     rw c.wrong_kind.ensures (search (kinds_refused, other_kind, kind_later))
 
 pub loop-k-preserved : goal.loop-k-preserved
-loop-k-preserved c = grind (arith, first_kind, kind_later, first_is, kinds_more, same_next)
+loop-k-preserved = grind (arith, first_kind, kind_later, first_is, kinds_more, same_next)
 
 pub returns-clause-kind : goal.returns-clause-kind
 returns-clause-kind c = λ texts.
     let end : c.loop-k.k ≡ length c.args.columns.now = omega arith in
-    kinds_done texts c.args.on.now c.args.columns.now c.loop-k.k c.loop-k.kind end c.loop-k.invariant.kind c.loop-k.invariant.all
+    kinds_done _ _ _ _ _ end c.loop-k.invariant.kind c.loop-k.invariant.all
 
 pub returns-clause-each : goal.returns-clause-each
 returns-clause-each c =

@@ -1,5 +1,5 @@
 use Rattle.{
-  std.{proofs.Common.{arith, ◌≡◌, subst, []}, specs.Prelude.{slice_index_or, Some}},
+  std.{proofs.Common.{arith, ◌≡◌, subst}, specs.Prelude.{Some}},
   multi_index.specs.Axes.{AxisValue, HaveLevels, label_at},
   selections.proofs.SeriesLaws.{label_first, name_of_one, name_of_several},
 }
@@ -10,9 +10,9 @@ returns-then-levels-eq1 c = λ texts.
     let tuples = c.args.on.now.labels in
     let alike = subst (λ (a : AxisValue). HaveLevels c.levels.result a.tuples) c.axis-axis.ensures c.levels.ensures.alike in
     let at = subst (λ (a : AxisValue). label_at a c.args.row 0 ≡ Some c.label.result) c.axis-axis.ensures c.label.ensures in
-    name_of_one texts (slice_index_or tuples c.args.row []) c.label.result (grind arith) (search label_first)
+    name_of_one _ _ _ (grind arith) (search label_first)
 
 pub returns-else-levels-eq1 : goal.returns-else-levels-eq1
 returns-else-levels-eq1 c = λ texts.
     let alike = subst (λ (a : AxisValue). HaveLevels c.levels.result a.tuples) c.axis-axis.ensures c.levels.ensures.alike in
-    name_of_several texts (slice_index_or c.args.on.now.labels c.args.row []) (λ one. c.if-levels-eq1.false (grind arith))
+    name_of_several texts _ (λ one. c.if-levels-eq1.false (grind arith))

@@ -16,7 +16,7 @@ returns-in_err-plan c =
     c.in-Object.is c.read.ensures.table c.in_err-plan.field-0.0 c.requires.settled c.in_err-plan.ensures.plan)
 
 pub carry_out-requires-clause-plan : goal.carry_out-requires-clause-plan
-carry_out-requires-clause-plan c = grind arith
+carry_out-requires-clause-plan = grind arith
 
 pub returns : goal.returns
 returns c =

@@ -8,16 +8,16 @@ use Rattle.{
 use Rattle.selections.proofs.selecting.take_column.Goals as goal
 
 pub at-requires : goal.at-requires
-at-requires c = grind arith
+at-requires = grind arith
 
 pub heading-requires : goal.heading-requires
 heading-requires c =
     let columns = c.args.plan.now.columns in
-    let below = subst (λ (t : NumberedTable). All (λ place. place < length t.columns) columns) (sym (read_is _ c.read-source.result c.read-source.ensures.table)) c.requires.plan.columns in
-    place_inside columns (length c.read-source.result.columns) 0 c.at.result.now below (grind arith) c.at.ensures
+    let below = subst (λ (t : NumberedTable). All (λ place. place < length t.columns) columns) (sym (read_is _ _ c.read-source.ensures.table)) c.requires.plan.columns in
+    place_inside _ _ 0 _ below (grind arith) c.at.ensures
 
 pub cut_within-requires-clause-taken : goal.cut_within-requires-clause-taken
-cut_within-requires-clause-taken c = grind arith
+cut_within-requires-clause-taken = grind arith
 
 pub returns : goal.returns
 returns c = λ texts settled.
@@ -25,6 +25,6 @@ returns c = λ texts settled.
     let t = table_at (tables c.args.store.now) c.args.on.0 in
     let one = c.requires.plan.one_column c.requires.single in
     let made : c.push.new.self ≡ record { columns_name = None; labels = c.heading.result ∷ [] } = search rules in
-    let headed = single_heading c.read-source.result t plan.columns c.at.result.now c.heading.result c.push.new.self (search read_is) (search only_place) c.heading.ensures.value made in
+    let headed = single_heading c.read-source.result t plan.columns _ _ c.push.new.self (search read_is) (search only_place) c.heading.ensures.value made in
     subst (λ (v : Table). Forms c.cut_within.result (limited v) (world c.args.store.now texts) (world c.cut_within.new.store texts)) (series_shown texts plan.rows plan.columns t c.push.new.self headed)
-    (c.cut_within.ensures texts settled (series_given texts t plan.columns c.push.new.self headed (table_is_settled texts (tables c.args.store.now) c.args.on.0 c.requires.live settled)))
+    (c.cut_within.ensures texts settled (series_given _ t _ _ headed (table_is_settled _ _ _ c.requires.live settled)))

@@ -15,5 +15,4 @@ new-requires-clause-whole c =
     let columns = columns_at c.args.rows.now c.args.columns.now c.args.on.now in
     let axis = c.in_ok-axis.ensures ∙ ap (λ (a : AxisValue). without_leading a c.args.levels) (c.in_ok-taken.ensures ∙ ap (λ (a : AxisValue). taken_axis a c.args.rows.now) c.axis.ensures) in
     subst (λ (cs : List (ColumnOf Cell)). IsWhole (table_with shape c.in_ok-axis.axis headings cs)) (sym c.in_ok-blocks.ensures.columns)
-    (subst (λ (a : AxisValue). IsWhole (table_with shape a headings columns)) (sym axis)
-    (grind (arith, chosen_whole, length-map)))
+    (grind (arith, chosen_whole, length-map))

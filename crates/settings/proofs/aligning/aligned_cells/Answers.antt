@@ -7,27 +7,23 @@ use Rattle.{
 use Rattle.settings.proofs.aligning.aligned_cells.Goals as goal
 
 pub returns-in_err-rows-clause-cells : goal.returns-in_err-rows-clause-cells
-returns-in_err-rows-clause-cells c = grind (arith, err_from_is_err_and, refused_then)
+returns-in_err-rows-clause-cells = grind (arith, err_from_is_err_and, refused_then)
 
 pub cells_at-requires : goal.cells_at-requires
-cells_at-requires c = grind arith
+cells_at-requires = grind arith
 
 pub returns-clause-cells : goal.returns-clause-cells
 returns-clause-cells c =
-    let texts = c.args.dict.now in
-    let s = c.args.series.now in
     let column = c.column.result in
     let made : CellColumn = record { kind = column.kind; cells = c.in_ok-cells_at.field-0 } in
-    grind (arith, c.in_ok-rows.ensures.rows, taken_column texts s c.in_ok-rows.rows column made c.column.ensures.column refl c.in_ok-cells_at.ensures)
+    grind (arith, c.in_ok-rows.ensures.rows, taken_column c.args.dict.now c.args.series.now c.in_ok-rows.rows column made c.column.ensures.column refl c.in_ok-cells_at.ensures)
 
 pub returns-clause-count : goal.returns-clause-count
-returns-clause-count c = grind (arith, length-map)
+returns-clause-count = grind (arith, length-map)
 
 pub returns-clause-given : goal.returns-clause-given
 returns-clause-given c =
-    let texts = c.args.dict.now in
-    let s = c.args.series.now in
     let below : All (IsPlaceOf (length c.column.result.cells)) c.in_ok-rows.rows = grind arith in
-    subst (AreGiven texts) (sym c.in_ok-cells_at.ensures)
-    (taken_given texts c.column.result.cells c.in_ok-rows.rows
+    subst (AreGiven c.args.dict.now) (sym c.in_ok-cells_at.ensures)
+    (taken_given _ _ _
     (search (column_is_given, has_column)) below)

@@ -12,40 +12,35 @@ use Rattle.settings.proofs.aligning.aligned_column.Goals as goal
 pub returns-then-same_rows-clause-column : goal.returns-then-same_rows-clause-column
 returns-then-same_rows-clause-column c =
     let texts = c.args.dict.now in
-    let labels = c.args.labels.now in
     let s = c.args.series.now in
-    let same : same_tuples (labels_value texts labels.tuples) (labels_value texts s.labels) ≡ true = grind arith in
-    own_column (length labels.names) (labels_value texts labels.tuples) (table_value texts s) same (search (first_column, length-map, own_cells))
-    ∙ ap Ok (series_column texts s c.column.result c.in_ok-to_column.field-0 c.column.ensures.column c.in_ok-to_column.ensures)
+    let same : same_tuples (labels_value texts c.args.labels.now.tuples) (labels_value texts s.labels) ≡ true = grind arith in
+    own_column _ _ (table_value texts s) same (search (first_column, length-map, own_cells))
+    ∙ ap Ok (series_column _ s _ _ c.column.ensures.column c.in_ok-to_column.ensures)
 
 pub returns-then-same_rows-clause-count : goal.returns-then-same_rows-clause-count
-returns-then-same_rows-clause-count c = grind (arith, length-map, as_many)
+returns-then-same_rows-clause-count = grind (arith, length-map, as_many)
 
 pub returns-then-same_rows-clause-given : goal.returns-then-same_rows-clause-given
 returns-then-same_rows-clause-given c =
     let s = c.args.series.now in
-    column_is_given c.args.dict.now s 0 c.column.result c.in_ok-to_column.field-0 c.requires.series.given (has_column s c.requires.series.whole c.requires.single) c.column.ensures.column c.in_ok-to_column.ensures
+    column_is_given _ s 0 _ _ c.requires.series.given (has_column s c.requires.series.whole c.requires.single) c.column.ensures.column c.in_ok-to_column.ensures
 
 pub returns-in_err-rows-clause-column : goal.returns-in_err-rows-clause-column
-returns-in_err-rows-clause-column c = grind (arith, err_from_is_err_and, refused_then)
+returns-in_err-rows-clause-column = grind (arith, err_from_is_err_and, refused_then)
 
 pub take-requires : goal.take-requires
-take-requires c = grind arith
+take-requires = grind arith
 
 pub returns-clause-column : goal.returns-clause-column
 returns-clause-column c =
-    let texts = c.args.dict.now in
-    let s = c.args.series.now in
-    grind (arith, c.in_ok-rows.ensures.rows, taken_column texts s c.in_ok-rows.rows c.column-2.result c.in_ok-take.field-0 c.column-2.ensures.column c.in_ok-take.ensures.kind c.in_ok-take.ensures.cells)
+    grind (arith, c.in_ok-rows.ensures.rows, taken_column c.args.dict.now c.args.series.now c.in_ok-rows.rows c.column-2.result c.in_ok-take.field-0 c.column-2.ensures.column c.in_ok-take.ensures.kind c.in_ok-take.ensures.cells)
 
 pub returns-clause-count : goal.returns-clause-count
-returns-clause-count c = grind (arith, length-map)
+returns-clause-count = grind (arith, length-map)
 
 pub returns-clause-given : goal.returns-clause-given
 returns-clause-given c =
-    let texts = c.args.dict.now in
-    let s = c.args.series.now in
     let below : All (IsPlaceOf (length c.column-2.result.cells)) c.in_ok-rows.rows = grind arith in
-    subst (AreGiven texts) (sym c.in_ok-take.ensures.cells)
-    (taken_given texts c.column-2.result.cells c.in_ok-rows.rows
+    subst (AreGiven c.args.dict.now) (sym c.in_ok-take.ensures.cells)
+    (taken_given _ _ _
     (search (column_is_given, has_column)) below)

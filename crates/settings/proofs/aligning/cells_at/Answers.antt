@@ -5,12 +5,12 @@ use Rattle.{
 use Rattle.settings.proofs.aligning.cells_at.Goals as goal
 
 pub cell_or_na-requires : goal.cell_or_na-requires
-cell_or_na-requires c = grind (arith, place_there)
+cell_or_na-requires = grind (arith, place_there)
 
 pub loop-k-preserved : goal.loop-k-preserved
 loop-k-preserved c =
     let lt : c.loop-k.k < length c.args.rows.now = omega arith in
-    gap_more c.args.column.cells c.args.rows.now c.loop-k.k c.at.result.now c.cell_or_na.result c.loop-k.cells c.push.new.self lt c.at.ensures c.cell_or_na.ensures c.loop-k.invariant c.in_ok-push.ensures.ok
+    gap_more _ _ _ _ _ _ _ lt c.at.ensures c.cell_or_na.ensures c.loop-k.invariant c.in_ok-push.ensures.ok
 
 pub returns : goal.returns
 returns c =

@@ -8,10 +8,10 @@ pub target_of-requires-clause-table : goal.target_of-requires-clause-table
 target_of-requires-clause-table c = search
 
 pub returns-in_err-target-clause-change : goal.returns-in_err-target-clause-change
-returns-in_err-target-clause-change c = grind (arith, err_from_is_err_and, changes_so)
+returns-in_err-target-clause-change = grind (arith, err_from_is_err_and, changes_so)
 
 pub cells_change-requires-clause-table : goal.cells_change-requires-clause-table
 cells_change-requires-clause-table c = search
 
 pub returns-clause-change : goal.returns-clause-change
-returns-clause-change c = grind (arith, changes_so)
+returns-clause-change = grind (arith, changes_so)

@@ -11,21 +11,19 @@ pub setting_for-requires-clause-known : goal.setting_for-requires-clause-known
 setting_for-requires-clause-known c = search object_settled
 
 pub carry_out-requires-clause-ends : goal.carry_out-requires-clause-ends
-carry_out-requires-clause-ends c = grind arith
+carry_out-requires-clause-ends = grind arith
 
 pub returns-in_err-carry_out : goal.returns-in_err-carry_out
 returns-in_err-carry_out c =
     let texts = c.args.dict.now in
     let live = tables c.args.store.now in
-    let w = world c.args.store.now texts in
     let p = err_from_is_err_and c.from_residual-in_err-carry_out.result c.from_residual-in_err-carry_out.ensures.1 in
-    rw (p.1, p.2) (set_left texts live (tables c.carry_out.new.store) c.args.on (assign_result (entry_of live texts c.args.on) (way_of c.args.by) (subscript_of live texts c.args.first.now) (second_in w c.args.second) (new_value live texts c.args.value)) c.requires.settled c.in_err-carry_out.ensures.err)
+    rw (p.1, p.2) (set_left texts live (tables c.carry_out.new.store) c.args.on (assign_result (entry_of live texts c.args.on) (way_of c.args.by) (subscript_of live texts c.args.first.now) (second_in (world c.args.store.now texts) c.args.second) (new_value live texts c.args.value)) c.requires.settled c.in_err-carry_out.ensures.err)
 
 pub returns : goal.returns
 returns c =
     let texts = c.args.dict.now in
     let live = tables c.args.store.now in
-    let w = world c.args.store.now texts in
     assign_set texts live (tables c.carry_out.new.store) c.args.on c.in-Object.id c.read.result c.in_ok-setting.setting (moved_object c.args.value) (way_of c.args.by) (subscript_of live texts c.args.first.now)
-    (second_in w c.args.second) (new_value live texts c.args.value) c.in-Object.is c.read.ensures.table c.requires.settled c.in_ok-setting.ensures.setting
+    (second_in (world c.args.store.now texts) c.args.second) (new_value live texts c.args.value) c.in-Object.is c.read.ensures.table c.requires.settled c.in_ok-setting.ensures.setting
     (grind arith)

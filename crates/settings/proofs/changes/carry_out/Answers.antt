@@ -7,8 +7,7 @@ use Rattle.settings.proofs.changes.carry_out.Goals as goal
 
 pub end-requires : goal.end-requires
 end-requires c =
-    let old = tables c.args.store.now in
-    others_kept old (tables c.carry_change.new.store) c.args.on (changed (table_at old c.args.on.0) c.in-Change.change) c.args.ends c.requires.ends c.in_ok-carry_change-in-Change.ensures.ok
+    others_kept _ _ _ _ _ c.requires.ends c.in_ok-carry_change-in-Change.ensures.ok
 
 pub returns-in_ok-carry_change-in-Change-clause-ok : goal.returns-in_ok-carry_change-in-Change-clause-ok
 returns-in_ok-carry_change-in-Change-clause-ok c =

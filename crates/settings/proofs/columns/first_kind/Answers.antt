@@ -7,12 +7,12 @@ use Rattle.settings.proofs.columns.first_kind.Goals as goal
 pub returns-in-Some : goal.returns-in-Some
 returns-in-Some c = λ texts.
     let lt : c.loop-k.k < length c.args.cells.now = omega arith in
-    kind_met texts c.args.cells.now c.loop-k.k c.at.result.now c.in-Some.kind _ lt c.at.ensures c.in-Some.ensures.first (c.loop-k.invariant texts)
+    kind_met _ _ _ _ _ _ lt c.at.ensures c.in-Some.ensures.first (c.loop-k.invariant texts)
 
 pub loop-k-preserved : goal.loop-k-preserved
 loop-k-preserved c = λ texts.
     let lt : c.loop-k.k < length c.args.cells.now = omega arith in
-    kind_passed texts c.args.cells.now c.loop-k.k c.at.result.now _ lt c.at.ensures c.in-None.ensures.first (c.loop-k.invariant texts)
+    kind_passed _ _ _ _ _ lt c.at.ensures c.in-None.ensures.first (c.loop-k.invariant texts)
 
 pub returns : goal.returns
-returns c = λ texts. no_kind texts c.args.cells.now c.loop-k.k _ (omega arith) (c.loop-k.invariant texts)
+returns c = λ texts. no_kind texts _ c.loop-k.k _ (omega arith) (c.loop-k.invariant texts)

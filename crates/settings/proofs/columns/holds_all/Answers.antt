@@ -9,13 +9,13 @@ pub returns-then-not-holds : goal.returns-then-not-holds
 returns-then-not-holds c = λ texts.
     let lt : c.loop-k.k < length c.args.cells.now = omega arith in
     let other : c.holds.result ≡ false = search rules in
-    test_failed (holds c.args.kind) texts c.args.cells.now c.loop-k.k c.at.result.now c.holds.result _ lt c.at.ensures (c.holds.ensures texts) other (c.loop-k.invariant texts)
+    test_failed _ _ _ _ _ _ _ lt c.at.ensures (c.holds.ensures texts) other (c.loop-k.invariant texts)
 
 pub loop-k-preserved : goal.loop-k-preserved
 loop-k-preserved c = λ texts.
     let lt : c.loop-k.k < length c.args.cells.now = omega arith in
     let is_so : c.holds.result ≡ true = search rules in
-    test_passed (holds c.args.kind) texts c.args.cells.now c.loop-k.k c.at.result.now c.holds.result _ lt c.at.ensures (c.holds.ensures texts) is_so (c.loop-k.invariant texts)
+    test_passed _ _ _ _ _ _ _ lt c.at.ensures (c.holds.ensures texts) is_so (c.loop-k.invariant texts)
 
 pub returns : goal.returns
-returns c = λ texts. tests_done (holds c.args.kind) texts c.args.cells.now c.loop-k.k _ (omega arith) (c.loop-k.invariant texts)
+returns c = λ texts. tests_done _ texts _ c.loop-k.k _ (omega arith) (c.loop-k.invariant texts)

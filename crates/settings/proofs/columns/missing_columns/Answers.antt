@@ -9,6 +9,6 @@ pub loop-place-preserved : goal.loop-place-preserved
 loop-place-preserved c =
     let lt : c.loop-place.place < length c.args.on.now.columns = omega arith in
     record {
-      columns = one_missing c.args.on.now.columns c.args.rows c.loop-place.place c.kind.result c.in_ok-new.field-0 c.loop-place.made c.push.new.self lt c.kind.ensures c.in_ok-new.ensures c.in_ok-push.ensures.ok c.loop-place.invariant.columns;
-      single = rw c.in_ok-push.ensures.ok (All-push IsSingle c.loop-place.made c.in_ok-new.field-0 c.loop-place.invariant.single (missing_single c.args.rows c.kind.result c.in_ok-new.field-0 c.in_ok-new.ensures));
+      columns = one_missing _ _ _ _ _ _ _ lt c.kind.ensures c.in_ok-new.ensures c.in_ok-push.ensures.ok c.loop-place.invariant.columns;
+      single = rw c.in_ok-push.ensures.ok (All-push IsSingle c.loop-place.made _ c.loop-place.invariant.single (missing_single _ _ _ c.in_ok-new.ensures));
     }

@@ -6,4 +6,4 @@ use Rattle.settings.proofs.columns.scalar_column.Goals as goal
 
 pub returns-clause-seen : goal.returns-clause-seen
 returns-clause-seen c =
-    IfOk-weaker c.repeat.result _ _ (λ m h texts. scalar_is texts c.unwrap_or-kind.result _ c.args.rows c.args.cell m h (c.present_kind.ensures.kind texts ∙ sym c.unwrap_or-kind.ensures)) c.repeat.ensures
+    IfOk-weaker c.repeat.result _ _ (λ m h texts. scalar_is _ _ _ _ _ m h (c.present_kind.ensures.kind texts ∙ sym c.unwrap_or-kind.ensures)) c.repeat.ensures

@@ -7,4 +7,4 @@ use Rattle.settings.proofs.filling.cells_of.Goals as goal
 pub loop-row-preserved : goal.loop-row-preserved
 loop-row-preserved c =
     let lt : c.loop-row.row < length c.args.column.cells = omega arith in
-    cell_more c.args.column.cells c.loop-row.row c.cell.result c.loop-row.cells c.push.new.self lt c.cell.ensures.cell c.loop-row.invariant c.in_ok-push.ensures.ok
+    cell_more _ _ _ _ _ lt c.cell.ensures.cell c.loop-row.invariant c.in_ok-push.ensures.ok

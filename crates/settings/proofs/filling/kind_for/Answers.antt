@@ -11,4 +11,4 @@ use Rattle.settings.proofs.filling.kind_for.Goals as goal
 pub returns-in-Listed : goal.returns-in-Listed
 returns-in-Listed c = λ texts.
     subst (λ v. MakesBy as_it_is texts c.list_kind.result (kind_of_value (value_in (tables c.args.store.now) texts v))) (sym c.in-Listed.is)
-    (kind_listed texts _ c.list_kind.result _ (c.list_kind.ensures.answer texts))
+    (kind_listed _ _ _ _ (c.list_kind.ensures.answer texts))

@@ -5,4 +5,4 @@ use Rattle.{
 use Rattle.settings.proofs.filling.repeated.Goals as goal
 
 pub loop-preserved : goal.loop-preserved
-loop-preserved c = grind (arith, replicate_more)
+loop-preserved = grind (arith, replicate_more)

@@ -5,10 +5,10 @@ use Rattle.{
 use Rattle.settings.proofs.filling.values_by_label.Goals as goal
 
 pub aligned_cells-requires-clause-labels : goal.aligned_cells-requires-clause-labels
-aligned_cells-requires-clause-labels c = reached_settled c.args.dict.now c.args.on.now c.args.rows.now c.in_ok-labels.labels.tuples c.in_ok-labels.ensures.tuples c.requires.table.known.given c.requires.given
+aligned_cells-requires-clause-labels c = reached_settled _ _ _ _ c.in_ok-labels.ensures.tuples c.requires.table.known.given c.requires.given
 
 pub returns-clause-values : goal.returns-clause-values
-returns-clause-values c = grind (arith, length-map, reached_seen)
+returns-clause-values = grind (arith, length-map, reached_seen)
 
 pub returns-clause-count : goal.returns-clause-count
-returns-clause-count c = grind (arith, length-map)
+returns-clause-count = grind (arith, length-map)

@@ -1,5 +1,5 @@
 use Rattle.{
-  std.proofs.{Common.{◌≡◌, ◌*◌, ap, arith, length}, lemmas.List.{length-map}},
+  std.proofs.{Common.{◌≡◌, ap, arith, length}, lemmas.List.{length-map}},
   frame_store.{specs.{Objects.{tables}, Shown.{cells_value}}, proofs.Settling.{object_settled}},
   settings.proofs.{ColumnLaws.{map-replicate}, FillLaws.{count_one, listed_count}, PutCases.{filled_given, listed_given, same_settled}},
 }
@@ -15,7 +15,7 @@ pub series_values-requires-clause-series : goal.series_values-requires-clause-se
 series_values-requires-clause-series c = search object_settled
 
 pub returns-in_ok-repeated-in-Same-clause-values : goal.returns-in_ok-repeated-in-Same-clause-values
-returns-in_ok-repeated-in-Same-clause-values c = grind (arith, map-replicate)
+returns-in_ok-repeated-in-Same-clause-values = grind (arith, map-replicate)
 
 pub returns-in_ok-expect_listed-in-Listed-clause-count : goal.returns-in_ok-expect_listed-in-Listed-clause-count
 returns-in_ok-expect_listed-in-Listed-clause-count c =
@@ -24,11 +24,11 @@ returns-in_ok-expect_listed-in-Listed-clause-count c =
     grind (arith, listed_count)
 
 pub returns-in-Aligned-2-clause-count : goal.returns-in-Aligned-2-clause-count
-returns-in-Aligned-2-clause-count c = grind (arith, count_one)
+returns-in-Aligned-2-clause-count = grind (arith, count_one)
 
 pub returns-in_ok-repeated-in-Same-clause-given : goal.returns-in_ok-repeated-in-Same-clause-given
 returns-in_ok-repeated-in-Same-clause-given c =
-    filled_given c.args.dict.now (c.len-rows.result * c.len-columns.result) c.in-Same.cell c.in_ok-repeated-in-Same.field-0 (same_settled (tables c.args.store.now) c.args.dict.now c.args.value c.in-Same.cell c.in-Same.is c.requires.value)
+    filled_given _ _ _ _ (same_settled (tables c.args.store.now) _ _ _ c.in-Same.is c.requires.value)
     c.in_ok-repeated-in-Same.ensures
 
 pub returns-in_ok-expect_listed-in-Listed-clause-given : goal.returns-in_ok-expect_listed-in-Listed-clause-given

@@ -1,12 +1,12 @@
 use Rattle.{
-  std.proofs.{Common.{◌∙◌, ◌<◌, length, arith}, lemmas.Option.{get_or_from_slice_get}},
+  std.proofs.{Common.{◌<◌, length, arith}, lemmas.Option.{get_or_from_slice_get}},
   frame_store.proofs.PartLaws.{number_inside, single_count, single_rows},
   settings.proofs.{ColumnLaws.{length-replicate, missing_single}, GrowLaws.{put_done, put_keeps, put_kind, put_more, put_rows}},
 }
 use Rattle.settings.proofs.growing.new_column.Goals as goal
 
 pub loop-k-init : goal.loop-k-init
-loop-k-init c = grind (arith, missing_single, length-replicate)
+loop-k-init = grind (arith, missing_single, length-replicate)
 
 pub put-requires-clause-column : goal.put-requires-clause-column
 put-requires-clause-column c = omega (arith, single_count c.loop-k.block c.loop-k.invariant.single)
@@ -18,7 +18,7 @@ put-requires-clause-row c =
     omega (arith, inside, single_rows c.loop-k.block c.loop-k.invariant.single, c.loop-k.invariant.rows)
 
 pub put-requires-clause-held : goal.put-requires-clause-held
-put-requires-clause-held c = grind (arith, get_or_from_slice_get)
+put-requires-clause-held = grind (arith, get_or_from_slice_get)
 
 pub loop-k-preserved : goal.loop-k-preserved
 loop-k-preserved c =
@@ -26,13 +26,13 @@ loop-k-preserved c =
     let single = c.loop-k.invariant.single in
     record {
       single = search put_keeps;
-      rows = put_rows c.loop-k.block c.put.new.self c.at.result.now c.at-in-loop-k.result.now single c.put.ensures ∙ c.loop-k.invariant.rows;
+      rows = grind (arith, put_rows);
       kind = grind (arith, put_kind);
       values = search put_more;
     }
 
 pub returns-clause-column : goal.returns-clause-column
-returns-clause-column c = grind (arith, put_done)
+returns-clause-column = grind (arith, put_done)
 
 pub returns-clause-single : goal.returns-clause-single
 returns-clause-single c = search

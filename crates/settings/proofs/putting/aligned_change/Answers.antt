@@ -11,24 +11,19 @@ pub returns-in_err-column-clause-change : goal.returns-in_err-column-clause-chan
 returns-in_err-column-clause-change c =
     let texts = c.args.dict.now in
     let t = c.args.on.now in
-    let s = table_value texts c.args.series.now in
-    let l = label_datum texts c.args.label in
-    let axis = c.axis.result.now in
     let p = err_from_is_err_and c.from_residual.result c.from_residual.ensures.1 in
     rw (p.1, p.2)
-    (changes_so texts t (Err c.in_err-column.field-0.0) _ _ (aligned_set_is texts t axis l s c.axis.ensures)
+    (changes_so _ t (Err c.in_err-column.field-0.0) _ _ (aligned_set_is _ t _ (label_datum texts _) (table_value texts c.args.series.now) c.axis.ensures)
     (grind arith))
 
 pub put_change-requires-clause-rows : goal.put_change-requires-clause-rows
-put_change-requires-clause-rows c = grind arith
+put_change-requires-clause-rows = grind arith
 
 pub returns-clause-change : goal.returns-clause-change
 returns-clause-change c =
     let texts = c.args.dict.now in
     let t = c.args.on.now in
-    let s = table_value texts c.args.series.now in
     let l = label_datum texts c.args.label in
-    let axis = c.axis.result.now in
-    changes_so texts t c.put_change.result _ _
-    (sym (ap (λ r. then_value r (put_result (table_value texts t) l)) c.in_ok-column.ensures.column) ∙ aligned_set_is texts t axis l s c.axis.ensures)
+    changes_so _ t _ _ _
+    (sym (ap (λ r. then_value r (put_result (table_value texts t) l)) c.in_ok-column.ensures.column) ∙ aligned_set_is _ t _ l (table_value texts c.args.series.now) c.axis.ensures)
     c.put_change.ensures.change

@@ -11,18 +11,17 @@ use Rattle.settings.proofs.putting.column_change.Goals as goal
 
 pub put_change-requires-clause-given : goal.put_change-requires-clause-given
 put_change-requires-clause-given c =
-    filled_given c.args.dict.now c.rows.result c.in-Same.cell c.in_ok-column-in-Same.column.cells (search same_settled) c.in_ok-column-in-Same.ensures.cells
+    filled_given _ _ _ _ (search same_settled) c.in_ok-column-in-Same.ensures.cells
 
 pub returns-in_err-column-in-Listed-clause-change : goal.returns-in_err-column-in-Listed-clause-change
 returns-in_err-column-in-Listed-clause-change c =
     let texts = c.args.dict.now in
     let t = c.args.on.now in
-    let l = label_datum texts c.args.label in
     let fault = c.in_err-column-in-Listed.field-0.0 in
     let p = err_from_is_err_and c.from_residual-in_err-column-in-Listed.result c.from_residual-in_err-column-in-Listed.ensures.1 in
     rw (p.1, p.2)
     (changes_so texts t (Err fault) _ _ (grind arith)
-    (part_refused column_seen texts (list_column (cells_value texts c.in-Listed.cells)) (list_set (table_value texts t) l) fault (c.in_err-column-in-Listed.ensures.answer texts)))
+    (part_refused column_seen texts (list_column (cells_value texts c.in-Listed.cells)) (list_set (table_value texts t) (label_datum texts c.args.label)) fault (c.in_err-column-in-Listed.ensures.answer texts)))
 
 pub list_change-requires-clause-given : goal.list_change-requires-clause-given
 list_change-requires-clause-given c =
@@ -36,7 +35,7 @@ returns-in_ok-column-in-Listed-clause-change c =
     let texts = c.args.dict.now in
     let t = c.args.on.now in
     let l = label_datum texts c.args.label in
-    changes_so texts t c.list_change.result _ _
+    changes_so _ t _ _ _
     (sym (ap (λ v. column_set (table_value texts t) l (value_in (tables c.args.store.now) texts v)) c.in-Listed.is
     ∙ ap (λ r. then_value r (list_set (table_value texts t) l)) (c.in_ok-column-in-Listed.ensures.answer texts)))
     c.list_change.ensures.change

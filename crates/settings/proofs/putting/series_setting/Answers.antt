@@ -1,10 +1,10 @@
 use Rattle.{
-  std.proofs.{lemmas.{List.{length-map}, Result.{err_from_is_err_and}}, Common.{arith, ◌≡◌, ◌∙◌, ap, sym, subst, true, rules}},
-  settings.{proofs.{PutCases.{as_many, series_fits, own_cells}, PutLaws.{put_refused_of, put_there}, MoveLaws.{move_meant, move_settled}, SetLaws.{gives_so, part_refused, refuses_so}}, specs.Assigned.{put_place}},
+  std.proofs.{lemmas.{List.{length-map}, Result.{err_from_is_err_and}}, Common.{arith, ◌≡◌, sym, subst, true, rules}},
+  settings.proofs.{PutCases.{as_many, series_fits, own_cells}, PutLaws.{put_refused_of, put_there}, MoveLaws.{move_meant, move_settled}, SetLaws.{gives_so, part_refused, refuses_so}},
   meaning.specs.Cell.{label_datum},
   table_meaning.specs.{Settled.{IsSettled}, Table.{table_value, column_at}},
   form_meaning.specs.Infix.{same_tuples},
-  frame_store.{specs.{Objects.{tables, table_at, table_or}, Shown.{labels_value, headings_value}, World.{IsKnownTable}}, proofs.Settling.{labels_part, object_settled}},
+  frame_store.{specs.{Objects.{tables, table_at}, Shown.{labels_value}, World.{IsKnownTable}}, proofs.Settling.{labels_part, object_settled}},
   selections.specs.Selected.{as_it_is},
 }
 use Rattle.settings.proofs.putting.series_setting.Goals as goal
@@ -18,28 +18,21 @@ pub series_change-requires-clause-series : goal.series_change-requires-clause-se
 series_change-requires-clause-series c = search object_settled
 
 pub series_change-requires-clause-single : goal.series_change-requires-clause-single
-series_change-requires-clause-single c = grind arith
+series_change-requires-clause-single = grind arith
 
 pub returns-in_err-change-clause-setting : goal.returns-in_err-change-clause-setting
-returns-in_err-change-clause-setting c = grind (arith, err_from_is_err_and)
+returns-in_err-change-clause-setting = grind (arith, err_from_is_err_and)
 
 pub returns-then-not-same_rows-clause-setting : goal.returns-then-not-same_rows-clause-setting
-returns-then-not-same_rows-clause-setting c = grind (arith, gives_so)
+returns-then-not-same_rows-clause-setting = grind (arith, gives_so)
 
 pub returns-in_err-place-clause-setting : goal.returns-in_err-place-clause-setting
 returns-in_err-place-clause-setting c =
     let texts = c.args.dict.now in
-    let t = c.args.on.now in
-    let s = table_at (tables c.args.store.now) c.args.series.0 in
-    let l = label_datum texts c.args.label in
-    let at = sym (ap table_or c.read-source.ensures.table) in
-    let so : c.same_rows.result ≡ true = search rules in
-    let same =
-    (λ j. same_tuples (labels_value texts (sym c.axis.ensures j).tuples) (labels_value texts ((sym (ap (λ u. u.labels) at)) j))) ∙ (λ j. same_tuples (labels_value texts c.axis.result.now.tuples) (labels_value texts (sym c.axis-2.ensures j).tuples)) ∙ sym c.same_rows.ensures ∙ so in
     let p = err_from_is_err_and c.from_residual-in_err-place.result c.from_residual-in_err-place.ensures.1 in
     rw (p.1, p.2)
-    (refuses_so texts c.in_err-place.field-0.0 _ _ (grind (arith, put_refused_of, series_fits))
-    (part_refused as_it_is texts (put_place c.rows.result (headings_value texts t.headings) l) (put_there (table_value texts t) l (column_at (table_value texts s).columns 0)) c.in_err-place.field-0.0 c.in_err-place.ensures.answer))
+    (refuses_so _ _ _ _ (grind (arith, put_refused_of, series_fits))
+    (part_refused as_it_is texts _ (put_there (table_value texts c.args.on.now) (label_datum texts c.args.label) (column_at (table_value texts (table_at (tables c.args.store.now) c.args.series.0)).columns 0)) c.in_err-place.field-0.0 c.in_err-place.ensures.answer))
 
 pub returns-clause-setting : goal.returns-clause-setting
 returns-clause-setting c =
@@ -54,4 +47,4 @@ returns-clause-setting c =
     (search object_settled) in grind (arith, move_meant, own_cells, move_settled)
 
 pub returns-clause-fits : goal.returns-clause-fits
-returns-clause-fits c = grind (arith, length-map, as_many)
+returns-clause-fits = grind (arith, length-map, as_many)

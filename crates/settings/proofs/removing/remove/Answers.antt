@@ -9,22 +9,22 @@ use Rattle.settings.proofs.removing.remove.Goals as goal
 
 pub column_place-requires-clause-settled : goal.column_place-requires-clause-settled
 column_place-requires-clause-settled c =
-    headings_part c.args.dict.now c.read-source.result (search object_settled)
+    headings_part _ c.read-source.result (search object_settled)
 
 pub column_place-requires-clause-label : goal.column_place-requires-clause-label
 column_place-requires-clause-label c = search entry_label_settled
 
 pub remove_column-requires-clause-headings : goal.remove_column-requires-clause-headings
-remove_column-requires-clause-headings c = grind (arith, removed_headed)
+remove_column-requires-clause-headings = grind (arith, removed_headed)
 
 pub returns-in_err-remove_column : goal.returns-in_err-remove_column
 returns-in_err-remove_column c =
     let live = tables c.args.store.now in
     let p = err_from_is_err_and c.from_residual-in_err-remove_column.result c.from_residual-in_err-remove_column.ensures.1 in
-    rw (p.1, p.2) (set_left c.args.dict.now live (tables c.remove_column.new.self) c.args.on (removal_result (entry_of live c.args.dict.now c.args.on) (entry_of live c.args.dict.now c.args.label)) c.requires.settled c.in_err-remove_column.ensures.err)
+    rw (p.1, p.2) (set_left _ _ _ c.args.on (removal_result (entry_of live c.args.dict.now c.args.on) (entry_of live c.args.dict.now c.args.label)) c.requires.settled c.in_err-remove_column.ensures.err)
 
 pub returns : goal.returns
 returns c =
     let frame : c.read-source.result.shape ≡ Frame = search rules in
-    removal_set c.args.dict.now (tables c.args.store.now) (tables c.remove_column.new.self) c.args.on c.args.label c.in-Object-Scalar.id c.in-Object-Scalar.cell c.read-source.result c.label_of.result c.in_ok-place.place
+    removal_set _ _ _ _ _ _ _ _ _ _
     c.in-Object-Scalar.is-0 c.in-Object-Scalar.is-1 c.read-source.ensures.table frame (c.label_of.ensures.seen c.args.dict.now) c.requires.settled c.in_ok-place.ensures.answer c.in_ok-remove_column.ensures.ok

@@ -2,7 +2,7 @@ use Rattle.{
   std.proofs.{lemmas.List.{length-map}, Common.{arith, ◌≡◌, subst, length}},
   table_meaning.specs.Table.{table_value},
   form_meaning.specs.Finish.{column_labels},
-  select_meaning.specs.{Keys.{columns_by}, Set.{or_added, added_label}},
+  select_meaning.specs.{Keys.{columns_by}, Set.{or_added}},
   form_parts.specs.Makes.{MakesBy},
   frame_store.specs.Arguments.{subscript_of},
   selections.specs.Reaches.{accessor_of},
@@ -23,12 +23,8 @@ returns-clause-columns c = λ live settled.
 
 pub returns-clause-fresh : goal.returns-clause-fresh
 returns-clause-fresh c = λ live settled.
-    let texts = c.args.dict.now in
-    let t = table_value texts c.args.on.now in
-    let k = subscript_of live texts c.args.key.now in
-    let by = accessor_of c.args.by in
-    fresh_reached texts c.args.on.now (added_label by k) (columns_by by t k) c.picked_or_added.result c.requires.shape (returns-clause-columns c live settled)
+    fresh_reached _ c.args.on.now _ _ _ c.requires.shape (returns-clause-columns c live settled)
 
 pub returns-clause-given : goal.returns-clause-given
 returns-clause-given c = λ live settled.
-    c.picked_or_added.ensures.given c.args.dict.now (label_settled c.args.dict.now live (accessor_of c.args.by) c.args.key.now c.label_to_add.result c.label_to_add.ensures settled)
+    c.picked_or_added.ensures.given c.args.dict.now (label_settled _ _ _ _ _ c.label_to_add.ensures settled)

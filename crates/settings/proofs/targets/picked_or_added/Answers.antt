@@ -6,12 +6,12 @@ use Rattle.settings.proofs.targets.picked_or_added.Goals as goal
 
 pub returns-in-None-clause-reached : goal.returns-in-None-clause-reached
 returns-in-None-clause-reached c = λ texts tuples pick many makes tells.
-    as_nothing texts c.args.label c.args.rows c.in-Err-Refused-NoKey.key tuples pick c.in-None.is
+    as_nothing _ _ _ _ _ _ c.in-None.is
     (grind arith) makes
 
 pub returns-in_ok-added-in-Some-clause-given : goal.returns-in_ok-added-in-Some-clause-given
 returns-in_ok-added-in-Some-clause-given c = λ texts settled.
-    added_settled texts c.args.label c.in-Some.label c.args.count c.in_ok-added-in-Some.field-0 c.in-Some.is c.in_ok-added-in-Some.ensures settled
+    added_settled _ _ _ _ _ c.in-Some.is c.in_ok-added-in-Some.ensures settled
 
 pub returns-in_ok-added-in-Some-clause-own : goal.returns-in_ok-added-in-Some-clause-own
-returns-in_ok-added-in-Some-clause-own c = grind arith
+returns-in_ok-added-in-Some-clause-own = grind arith

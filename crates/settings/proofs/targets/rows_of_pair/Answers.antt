@@ -1,7 +1,7 @@
 use Rattle.{
   std.proofs.Common.{arith},
-  frame_store.specs.{Objects.{tables}, Arguments.{subscript_of}},
-  selections.{specs.Reaches.{accessor_of}, proofs.ReachLaws.{joined_settled}},
+  frame_store.specs.Objects.{tables},
+  selections.proofs.ReachLaws.{joined_settled},
   settings.proofs.TargetLaws.{pair_reached},
 }
 use Rattle.settings.proofs.targets.rows_of_pair.Goals as goal
@@ -15,8 +15,4 @@ rows_reached-requires-clause-key c =
     }
 
 pub returns-clause-rows : goal.returns-clause-rows
-returns-clause-rows c =
-    let live = tables c.args.store.now in
-    let dict = c.args.dict.now in
-    pair_reached dict c.args.on.now (accessor_of c.args.by) c.levels.result (subscript_of live dict c.args.first.now) (subscript_of live dict c.args.second.now) c.levels.ensures
-    (subscript_of live dict c.in_ok-key.key) c.rows_reached.result (c.in_ok-key.ensures.key live dict) c.rows_reached.ensures.rows
+returns-clause-rows = grind (arith, pair_reached)

@@ -7,13 +7,13 @@ use Rattle.settings.proofs.targets.target_of.Goals as goal
 
 pub returns-in_ok-all_columns-in-None-clause-given : goal.returns-in_ok-all_columns-in-None-clause-given
 returns-in_ok-all_columns-in-None-clause-given c =
-    target_settled c.args.dict.now c.in_ok-rows-in-None.rows c.picked-columns.result c.in_ok-rows-in-None.ensures.given (search picked_settled)
+    target_settled _ _ _ c.in_ok-rows-in-None.ensures.given (search picked_settled)
 
 pub returns-in_ok-columns-in-Some-clause-given : goal.returns-in_ok-columns-in-Some-clause-given
 returns-in_ok-columns-in-Some-clause-given c =
     let known : IsKnownSubscript (world c.args.store.now c.args.dict.now) c.in-Some.key.now = search rules in
-    target_settled c.args.dict.now c.in_ok-rows-in-Some.rows c.in_ok-columns-in-Some.columns c.in_ok-rows-in-Some.ensures.given (c.in_ok-columns-in-Some.ensures.given (tables c.args.store.now) known.given)
+    target_settled _ _ _ c.in_ok-rows-in-Some.ensures.given (c.in_ok-columns-in-Some.ensures.given (tables c.args.store.now) known.given)
 
 pub returns-in_ok-all_columns-in-Some-2-clause-given : goal.returns-in_ok-all_columns-in-Some-2-clause-given
 returns-in_ok-all_columns-in-Some-2-clause-given c =
-    target_settled c.args.dict.now c.in_ok-rows-in-Some-2.rows c.picked-columns-in-Some-2.result c.in_ok-rows-in-Some-2.ensures.given (search picked_settled)
+    target_settled _ _ _ c.in_ok-rows-in-Some-2.ensures.given (search picked_settled)

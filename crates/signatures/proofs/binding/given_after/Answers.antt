@@ -11,5 +11,4 @@ returns-then-goes_to-place-clause-live c = λ live h.
 
 pub loop-rest-preserved : goal.loop-rest-preserved
 loop-rest-preserved c =
-    let same = c.loop-rest.invariant.0 in
-    (λ live texts. grind (arith, common_steps, same live texts), λ live h. live_after live _ c.loop-rest.rest.now (c.loop-rest.invariant.1 live h), grind (arith, common_steps))
+    (grind (arith, common_steps), λ live h. live_after live _ c.loop-rest.rest.now (c.loop-rest.invariant.1 live h), grind (arith, common_steps))

@@ -1,6 +1,6 @@
 use Rattle.{
   std.proofs.Common.{◌∙◌, ap, sym},
-  frame_store.{specs.Arguments.{item_of, items_of}, proofs.RowLaws.{item_of-Row}},
+  frame_store.{specs.Arguments.{items_of}, proofs.RowLaws.{item_of-Row}},
 }
 use Rattle.form_meaning.specs.Binding as plain
 use Rattle.signatures.proofs.forms.is_key.Goals as goal
@@ -9,4 +9,4 @@ pub returns-in-Row : goal.returns-in-Row
 returns-in-Row c = λ live texts.
     c.are_scalars.ensures live texts
     ∙ ap (λ l. plain.each plain.is_scalar (items_of live texts l)) c.as_slice.ensures
-    ∙ sym (ap (λ i. plain.is_key (item_of live texts i)) c.in-Row.is ∙ ap plain.is_key (item_of-Row live texts c.in-Row.parts))
+    ∙ sym (cc (c.in-Row.is, item_of-Row live texts c.in-Row.parts))

@@ -1,6 +1,6 @@
 use Rattle.{
   std.proofs.Common.{◌∙◌, ap, sym},
-  frame_store.{specs.Arguments.{item_of, items_of}, proofs.RowLaws.{item_of-Row}},
+  frame_store.{specs.Arguments.{items_of}, proofs.RowLaws.{item_of-Row}},
 }
 use Rattle.table_meaning.specs.Value as value
 use Rattle.form_meaning.specs.Binding as plain
@@ -10,4 +10,4 @@ pub returns-in-Row : goal.returns-in-Row
 returns-in-Row c = λ live texts.
     c.are_so_many.ensures live texts
     ∙ ap (λ l. plain.is_tuple_of c.args.count (value.row (items_of live texts l))) c.as_slice.ensures
-    ∙ sym (ap (λ i. plain.is_tuple_of c.args.count (item_of live texts i)) c.in-Row.is ∙ ap (plain.is_tuple_of c.args.count) (item_of-Row live texts c.in-Row.parts))
+    ∙ sym (cc (c.in-Row.is, item_of-Row live texts c.in-Row.parts))

@@ -11,7 +11,5 @@ returns-clause-live c = added_is_live c.add.result (tables c.args.store.now) (ta
 
 pub returns-clause-added : goal.returns-clause-added
 returns-clause-added c =
-    let headings = c.in_ok-push.ensures.ok ∙ ap (λ (h : HeadingList). record h { labels = h.labels ++ None ∷ [] }) c.new-headings.ensures in
-    let blocks = c.in_ok-push-2.ensures.ok ∙ ap (λ l. l ++ c.args.block ∷ []) c.new-blocks.ensures in
     subst (λ (t : NumberedTable). IfOk c.add.result (λ id. tables c.add.new.self ≡ with_object (tables c.args.store.now) id.0 (Some t)))
-    (λ j. table_with Series (c.in_ok-axis.ensures j) (headings j) (map block_column (blocks j))) c.add.ensures.ok
+    (λ j. table_with Series (c.in_ok-axis.ensures j) ((c.in_ok-push.ensures.ok ∙ ap (λ (h : HeadingList). record h { labels = h.labels ++ None ∷ [] }) c.new-headings.ensures) j) (map block_column ((c.in_ok-push-2.ensures.ok ∙ ap (λ l. l ++ c.args.block ∷ []) c.new-blocks.ensures) j))) c.add.ensures.ok

@@ -1,29 +1,17 @@
 use Rattle.{
-  std.proofs.Common.{◌<◌, arith},
+  std.proofs.Common.{arith},
   column_core.{specs.Views.{kept_column}, proofs.BlockLaws.{columns_of, rows_of, place_below, put_block}},
 }
 use Rattle.column_core.proofs.blocks.Block.put.Goals as goal
 
 pub overflow_mul-column : goal.overflow_mul-column
-overflow_mul-column c =
-    let b = c.self.inside in
-    let lt : c.args.column < b.columns = omega (arith, columns_of (kept_column b.lanes) b.columns b.rows c.args.self.now c.self.view_is, c.requires.column) in
-    let below : c.args.row < b.rows = omega (arith, rows_of (kept_column b.lanes) b.columns b.rows c.args.self.now c.self.view_is, c.requires.row) in
-    omega (arith, place_below c.args.column b.columns c.args.row b.rows lt below, c.self.invariant.few)
+overflow_mul-column = grind (arith, columns_of, rows_of, place_below)
 
 pub overflow_add-column : goal.overflow_add-column
-overflow_add-column c =
-    let b = c.self.inside in
-    let lt : c.args.column < b.columns = omega (arith, columns_of (kept_column b.lanes) b.columns b.rows c.args.self.now c.self.view_is, c.requires.column) in
-    let below : c.args.row < b.rows = omega (arith, rows_of (kept_column b.lanes) b.columns b.rows c.args.self.now c.self.view_is, c.requires.row) in
-    omega (arith, place_below c.args.column b.columns c.args.row b.rows lt below, c.self.invariant.few)
+overflow_add-column = grind (arith, columns_of, rows_of, place_below)
 
 pub put_kept-requires-clause-at : goal.put_kept-requires-clause-at
-put_kept-requires-clause-at c =
-    let b = c.self.inside in
-    let lt : c.args.column < b.columns = omega (arith, columns_of (kept_column b.lanes) b.columns b.rows c.args.self.now c.self.view_is, c.requires.column) in
-    let below : c.args.row < b.rows = omega (arith, rows_of (kept_column b.lanes) b.columns b.rows c.args.self.now c.self.view_is, c.requires.row) in
-    omega (arith, place_below c.args.column b.columns c.args.row b.rows lt below, c.self.invariant.as_many)
+put_kept-requires-clause-at = grind (arith, columns_of, rows_of, place_below)
 
 pub returns : goal.returns
 returns c =

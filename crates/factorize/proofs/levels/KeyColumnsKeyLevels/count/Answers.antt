@@ -2,4 +2,4 @@ use Rattle.factorize.proofs.LabelLaws.{columns_counted}
 use Rattle.factorize.proofs.levels.KeyColumnsKeyLevels.count.Goals as goal
 
 pub returns : goal.returns
-returns c = search columns_counted
+returns = search columns_counted

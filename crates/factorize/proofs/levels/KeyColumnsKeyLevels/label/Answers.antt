@@ -5,10 +5,10 @@ use Rattle.{
 use Rattle.factorize.proofs.levels.KeyColumnsKeyLevels.label.Goals as goal
 
 pub returns-then-row-self : goal.returns-then-row-self
-returns-then-row-self c = grind (arith, no_row, columns_counted)
+returns-then-row-self = grind (arith, no_row, columns_counted)
 
 pub returns-then-level-self : goal.returns-then-level-self
 returns-then-level-self c = search no_column
 
 pub returns : goal.returns
-returns c = grind (arith, column_label)
+returns = grind (arith, column_label)

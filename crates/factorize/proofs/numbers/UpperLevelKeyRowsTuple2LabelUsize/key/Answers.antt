@@ -5,7 +5,7 @@ use Rattle.{
 use Rattle.factorize.proofs.numbers.UpperLevelKeyRowsTuple2LabelUsize.key.Goals as goal
 
 pub offset_bounds-self-row : goal.offset_bounds-self-row
-offset_bounds-self-row g c = grind (arith, zip_right)
+offset_bounds-self-row = grind (arith, zip_right)
 
 pub bounds-self-row : goal.bounds-self-row
 bounds-self-row g c = search zip_right
@@ -13,6 +13,5 @@ bounds-self-row g c = search zip_right
 pub returns : goal.returns
 returns g c =
     let keys = g.R.KeyLevels.keys c.args.self.now.rows.now in
-    let codes = c.args.self.now.codes.now in
-    zip_get_map (label_in c.args.self.now.level) keys codes c.args.row (slice_index_or keys c.args.row []) c.label.result c.requires
+    zip_get_map (label_in c.args.self.now.level) keys c.args.self.now.codes.now c.args.row (slice_index_or keys c.args.row []) c.label.result c.requires
     (search (slice_get-get_or, row_of_zip)) c.label.ensures

@@ -1,9 +1,8 @@
 use Rattle.{
   std.proofs.Common.{length, ap, sym, ◌∙◌},
-  table_meaning.specs.Table.{Table},
   frame_format.proofs.ToldLaws.{rows_told},
 }
 use Rattle.frame_format.proofs.source.Source.rows.Goals as goal
 
 pub returns : goal.returns
-returns g c = c.rows.ensures ∙ sym (ap (λ (t : Table). length t.labels) (sym c.self.view_is) ∙ rows_told _ _)
+returns g c = c.rows.ensures ∙ sym (ap (λ t. length t.labels) (sym c.self.view_is) ∙ rows_told _ _)

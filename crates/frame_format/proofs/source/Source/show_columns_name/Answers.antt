@@ -1,11 +1,8 @@
 use Rattle.{
-  std.proofs.Common.{◌≡◌, OnOk, string_bytes, subst, Option, sym},
-  cell_core.specs.Values.{LabelValue},
-  format_meaning.specs.Print.{shown_name},
+  std.proofs.Common.{sym},
   frame_format.proofs.ToldLaws.{columns_name_seen},
 }
 use Rattle.frame_format.proofs.source.Source.show_columns_name.Goals as goal
 
 pub returns : goal.returns
-returns g c =
-    subst (λ (n : Option LabelValue). OnOk c.show_name.result (string_bytes c.show_name.new.text ≡ shown_name n)) (columns_name_seen _ c.self.inside.dict.now _ _ (sym c.self.view_is) c.columns_name.ensures) c.show_name.ensures
+returns g c = rw (← columns_name_seen _ c.self.inside.dict.now _ _ (sym c.self.view_is) c.columns_name.ensures) c.show_name.ensures

@@ -1,17 +1,14 @@
 use Rattle.{
-  std.proofs.Common.{◌≡◌, OnOk, string_bytes, subst, sym},
-  cell_core.specs.Values.{CellValue},
-  format_meaning.specs.CsvWrite.{cell_field},
+  std.proofs.Common.{arith, sym},
   frame_format.proofs.ToldLaws.{row_within, column_within, cell_seen},
 }
 use Rattle.frame_format.proofs.source.Source.write_cell.Goals as goal
 
 pub cell-requires-clause-row : goal.cell-requires-clause-row
-cell-requires-clause-row g c = row_within _ _ _ _ (sym c.self.view_is) c.requires.row
+cell-requires-clause-row = grind (arith, row_within)
 
 pub cell-requires-clause-column : goal.cell-requires-clause-column
-cell-requires-clause-column g c = column_within _ _ _ _ (sym c.self.view_is) c.requires.column
+cell-requires-clause-column = grind (arith, column_within)
 
 pub returns : goal.returns
-returns g c =
-    subst (λ (x : CellValue). OnOk c.write_cell.result (string_bytes c.write_cell.new.text ≡ cell_field x)) (cell_seen _ c.self.inside.dict.now _ _ _ _ (sym c.self.view_is) c.requires.row c.requires.column c.cell.ensures) c.write_cell.ensures
+returns g c = rw (← cell_seen _ c.self.inside.dict.now _ _ _ _ (sym c.self.view_is) c.requires.row c.requires.column c.cell.ensures) c.write_cell.ensures

@@ -12,5 +12,4 @@ returns-clause-given c = filled_given c.args.self.now.value c.args.dict.now c.ar
 pub returns-clause-answer : goal.returns-clause-answer
 returns-clause-answer c =
     let held : holds c.kind-kind.result (datum c.args.dict.now c.args.self.now.value) ≡ true = search rules in
-    let fits = subst (λ (k : Kind). holds k (datum c.args.dict.now c.args.self.now.value) ≡ true) c.kind-kind.ensures held in
-    filled_answer c.args.self.now.value c.args.dict.now c.args.a.kind c.args.a c.in_ok-fillna.field-0 refl fits c.in_ok-fillna.ensures
+    filled_answer c.args.self.now.value c.args.dict.now c.args.a.kind c.args.a c.in_ok-fillna.field-0 refl (subst (λ (k : Kind). holds k (datum c.args.dict.now c.args.self.now.value) ≡ true) c.kind-kind.ensures held) c.in_ok-fillna.ensures

@@ -1,11 +1,11 @@
 use Rattle.{
-  std.proofs.Common.{◌∙◌, ◌≤◌, ◌-◌, ◌^◌, arith},
-  frame_store.proofs.HeldLaws.{none_counted, one_more_counted, all_counted},
+  std.proofs.Common.{sum_by, ◌≤◌, ◌-◌, ◌^◌, arith},
+  frame_store.proofs.HeldLaws.{one_more_counted},
 }
 use Rattle.frame_store.proofs.store.Store.held.Goals as goal
 
 pub loop-table-init : goal.loop-table-init
-loop-table-init c = (tt, tt, none_counted (2 ^ 64 - 1) _ _ (c.into_iter-table-iterator.ensures.into_iter_gives ∙ c.iter-table-items.ensures.rest), omega arith)
+loop-table-init = grind (arith, sum_by)
 
 pub loop-table-preserved : goal.loop-table-preserved
 loop-table-preserved c =
@@ -18,4 +18,4 @@ loop-table-preserved c =
     )
 
 pub returns : goal.returns
-returns c = all_counted c.loop-table.held _ (2 ^ 64 - 1) c.loop-table.table-iterator c.loop-table.invariant.2 c.in-None.ensures.steps.0 c.loop-table.invariant.3
+returns = grind arith

@@ -1,30 +1,27 @@
 use Rattle.{
-  std.proofs.Common.{◌∙◌, List, Option, refl, ap, sym, subst, All},
-  cell_core.specs.declared.cell.{Cell.{Cell}, Label.{Label}},
-  column_core.specs.Blocks.{CellBlock},
-  table_meaning.specs.{Table.{ColumnOf, NumberedTable}, Change.{put_at, with_column}, Valid.{IsWhole}},
-  frame_store.{specs.{Parts.{block_column, IsSingle}, Views.{kept_table}}, proofs.ColumnLaws.{All-put_at, put_is_whole, put_is_column}},
+  std.proofs.Common.{arith, ◌∙◌, refl, ap},
+  table_meaning.specs.Change.{put_at, with_column},
+  frame_store.{specs.{Parts.{IsSingle}, Views.{kept_table}}, proofs.ColumnLaws.{All-put_at, put_is_whole, put_is_column}},
 }
 use Rattle.frame_store.proofs.table.Table.take_column.Goals as goal
 
 pub returns-clause-ok : goal.returns-clause-ok
 returns-clause-ok c =
     put_is_column (kept_table c.self.inside) c.args.self.now c.self.inside.blocks.items c.put_at-2.new.items.items c.put_at.new.items.items c.args.column c.args.heading c.into_column.result c.self.view_is refl
-    (c.put_at.ensures ∙ ap (λ (l : List (Option Label)). put_at l c.args.column c.args.heading) c.reserve.ensures.items)
-    (c.put_at-2.ensures ∙ ap (λ (l : List CellBlock). put_at l c.args.column c.into_column.result) c.reserve-2.ensures.items)
-    ∙ ap (λ (k : ColumnOf Cell). with_column c.args.self.now c.args.column c.args.heading k) c.into_column.ensures.column
+    (c.put_at.ensures ∙ ap (λ l. put_at l c.args.column c.args.heading) c.reserve.ensures.items)
+    (grind arith)
+    ∙ ap (λ k. with_column c.args.self.now c.args.column c.args.heading k) c.into_column.ensures.column
 
 pub invariant_of-self-2 : goal.invariant_of-self-2
 invariant_of-self-2 c =
     let block = c.into_column.result in
-    let blocks = c.put_at-2.ensures ∙ ap (λ (l : List CellBlock). put_at l c.args.column block) c.reserve-2.ensures.items in
+    let blocks = c.put_at-2.ensures ∙ ap (λ l. put_at l c.args.column block) c.reserve-2.ensures.items in
     let is =
     put_is_column (kept_table c.self.inside) c.args.self.now c.self.inside.blocks.items c.put_at-2.new.items.items c.put_at.new.items.items c.args.column c.args.heading block c.self.view_is refl
-    (c.put_at.ensures ∙ ap (λ (l : List (Option Label)). put_at l c.args.column c.args.heading) c.reserve.ensures.items) blocks
+    (c.put_at.ensures ∙ ap (λ l. put_at l c.args.column c.args.heading) c.reserve.ensures.items) blocks
     in
     record {
-      single = subst (λ (l : List CellBlock). All IsSingle l) (sym blocks) (All-put_at IsSingle c.self.inside.blocks.items c.args.column block c.self.invariant.single c.into_column.ensures.single);
+      single = rw blocks (All-put_at IsSingle c.self.inside.blocks.items c.args.column block c.self.invariant.single c.into_column.ensures.single);
       whole =
-          subst (λ (t : NumberedTable). IsWhole t) (sym is)
-          (put_is_whole c.args.self.now c.args.column c.args.heading (block_column block) (subst (λ (t : NumberedTable). IsWhole t) c.self.view_is c.self.invariant.whole) (c.into_column.ensures.rows ∙ c.requires.rows) c.requires.headings);
+          grind (arith, put_is_whole);
     }

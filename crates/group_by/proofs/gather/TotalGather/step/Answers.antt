@@ -18,5 +18,4 @@ returns-clause-value g c = λ cells was.
 
 pub returns-clause-held : goal.returns-clause-held
 returns-clause-held g c = λ kind far here.
-    let numbers = g.met.N.Amount.numbers kind in
-    subst (λ (k : CellKind). IsCellOf c.args._dict.now k c.added.result) (sym numbers) (c.added.ensures.held c.args._dict.now (grind arith))
+    subst (λ (k : CellKind). IsCellOf c.args._dict.now k c.added.result) (sym (g.met.N.Amount.numbers kind)) (c.added.ensures.held c.args._dict.now (grind arith))

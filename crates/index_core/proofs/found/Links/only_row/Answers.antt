@@ -10,10 +10,10 @@ index-requires c =
     grind arith
 
 pub returns-in-Some : goal.returns-in-Some
-returns-in-Some c = grind (arith, only_found)
+returns-in-Some = grind (arith, only_found)
 
 pub returns-in_default : goal.returns-in_default
-returns-in_default c = grind (arith, more_found)
+returns-in_default = grind (arith, more_found)
 
 pub returns-in_default-2 : goal.returns-in_default-2
 returns-in_default-2 c = none_found c.self.inside.labels.now c.args.self.now c.args.label c.self.view_is (grind arith)

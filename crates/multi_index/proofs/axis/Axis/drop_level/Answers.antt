@@ -8,16 +8,14 @@ pub remove-requires : goal.remove-requires
 remove-requires c = omega (arith, c.in_ok-order.order.ok.0, ap length c.in_ok-order.ensures, length-range_with_len 0 c.levels.result, c.levels.ensures.count, c.requires.level)
 
 pub of_levels-requires-clause-some : goal.of_levels-requires-clause-some
-of_levels-requires-clause-some c = grind (arith, removed_counted)
+of_levels-requires-clause-some = grind (arith, removed_counted)
 
 pub of_levels-requires-clause-few : goal.of_levels-requires-clause-few
-of_levels-requires-clause-few c = grind (arith, removed_counted)
+of_levels-requires-clause-few = grind (arith, removed_counted)
 
 pub of_levels-requires-clause-inside : goal.of_levels-requires-clause-inside
-of_levels-requires-clause-inside c = grind (arith, removed_below)
+of_levels-requires-clause-inside = grind (arith, removed_below)
 
 pub returns : goal.returns
 returns c =
-    let n = c.levels.result in
-    let is = c.deref.ensures.value ∙ c.remove.ensures.items ∙ ap (λ l. remove l c.args.level) c.in_ok-order.ensures in
-    rw (← level_removed c.args.self.now n c.levels.ensures.alike (sym c.levels.ensures.count) c.deref.result.now c.args.level is) c.of_levels.ensures
+    rw (← level_removed c.args.self.now c.levels.result c.levels.ensures.alike (sym c.levels.ensures.count) c.deref.result.now c.args.level (c.deref.ensures.value ∙ c.remove.ensures.items ∙ ap (λ l. remove l c.args.level) c.in_ok-order.ensures)) c.of_levels.ensures

@@ -5,10 +5,10 @@ use Rattle.{
 use Rattle.multi_index.proofs.axis.Axis.from_tuples.Goals as goal
 
 same_tuples : (c : goal.Joined-levels-eq1) → kept_tuples c.if-levels-eq1.rows ≡ c.args.tuples.now
-same_tuples c = grind (arith, then-levels-eq1+in_ok-single_level)
+same_tuples = grind (arith, then-levels-eq1+in_ok-single_level)
 
 pub returns : goal.returns
 returns c = search (axis_is_nameless, same_tuples)
 
 pub invariant_of-result : goal.invariant_of-result
-invariant_of-result c = grind (arith, same_tuples, then-levels-eq1+in_ok-single_level)
+invariant_of-result = grind (arith, same_tuples, then-levels-eq1+in_ok-single_level)

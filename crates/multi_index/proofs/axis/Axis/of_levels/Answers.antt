@@ -16,14 +16,12 @@ invariant_of-result c =
       alike = elim c.if-order-eq1.branch [
         | then-order-eq1+in_ok-labels_of w ↦
             let one : length order ≡ 1 = omega arith in
-            let made = ap kept_tuples w.rows-is ∙ ap single_tuples w.from_vec.ensures ∙ w.in_ok-labels_of.ensures ∙ ap (λ o. map (λ tuple. labels_at tuple o) tuples) (only_place order one) in
-            subst (HaveLevels (length order)) (sym made) (levels_at tuples order)
+            subst (HaveLevels (length order)) (sym (ap kept_tuples w.rows-is ∙ ap single_tuples w.from_vec.ensures ∙ w.in_ok-labels_of.ensures ∙ ap (λ o. map (λ tuple. labels_at tuple o) tuples) (only_place order one))) (levels_at tuples order)
         | else-order-eq1+in_ok-tuples_of w ↦
-            let made = ap kept_tuples w.rows-is ∙ w.in_ok-tuples_of.ensures in
-            subst (HaveLevels (length order)) (sym made) (levels_at tuples order)
+            subst (HaveLevels (length order)) (sym (ap kept_tuples w.rows-is ∙ w.in_ok-tuples_of.ensures)) (levels_at tuples order)
       ];
       kept = grind (arith, then-order-eq1+in_ok-labels_of);
     }
 
 pub returns : goal.returns
-returns c = grind (arith, then-order-eq1+in_ok-labels_of, only_place)
+returns = grind (arith, then-order-eq1+in_ok-labels_of, only_place)

@@ -5,7 +5,7 @@ use Rattle.{
 use Rattle.multi_index.proofs.axis.Axis.same_rows.Goals as goal
 
 pub same_row-requires-clause-alike : goal.same_row-requires-clause-alike
-same_row-requires-clause-alike c = grind arith
+same_row-requires-clause-alike = grind arith
 
 pub returns : goal.returns
 returns c =

@@ -19,7 +19,7 @@ taken_tuples c = elim c.match-self.branch [
 ]
 
 pub returns : goal.returns
-returns c = grind (arith, taken_tuples)
+returns = grind (arith, taken_tuples)
 
 pub invariant_of-result : goal.invariant_of-result
 invariant_of-result c =

@@ -2,7 +2,7 @@ use Rattle.std.proofs.{Common.{slice_index, arith}, lemmas.List.{get_or-map, len
 use Rattle.row_keys.proofs.partners.Partners.rows.Goals as goal
 
 pub rows-requires : goal.rows-requires
-rows-requires c = grind (arith, length-map, slice_index)
+rows-requires = grind (arith, length-map, slice_index)
 
 pub returns : goal.returns
-returns c = grind (arith, length-map, slice_index, get_or-map)
+returns = grind (arith, length-map, slice_index, get_or-map)

@@ -5,16 +5,16 @@ use Rattle.{
 use Rattle.row_keys.proofs.rows.LevelKeyRowsTuple2Usize.key.Goals as goal
 
 pub offset_bounds-self-row : goal.offset_bounds-self-row
-offset_bounds-self-row g c = search (rules, zip_left)
+offset_bounds-self-row = search (rules, zip_left)
 
 pub bounds-self-row : goal.bounds-self-row
 bounds-self-row g c = search zip_left
 
 pub offset_bounds-self-row-2 : goal.offset_bounds-self-row-2
-offset_bounds-self-row-2 g c = grind (arith, zip_right)
+offset_bounds-self-row-2 = grind (arith, zip_right)
 
 pub bounds-self-row-2 : goal.bounds-self-row-2
 bounds-self-row-2 g c = search zip_right
 
 pub returns : goal.returns
-returns g c = zip_get c.args.self.now.labels.now c.args.self.now.codes.now c.args.row _ 0 c.requires
+returns g c = search zip_get

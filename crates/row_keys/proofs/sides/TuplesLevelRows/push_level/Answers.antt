@@ -7,12 +7,11 @@ use Rattle.row_keys.proofs.sides.TuplesLevelRows.push_level.Goals as goal
 
 pub loop-row-preserved : goal.loop-row-preserved
 loop-row-preserved c =
-    let rows = c.args.self.now in
-    let lt : c.loop-row.row < length rows = omega arith in
-    one_row_more (label_in c.args.level) rows c.loop-row.row [] c.tuple_label.result c.args.labels.now.items c.loop-row.labels.items c.push.new.self.items lt
+    let lt : c.loop-row.row < length c.args.self.now = omega arith in
+    one_row_more _ _ _ [] _ _ _ _ lt
     (c.tuple_label.ensures ∙ ap (label_in c.args.level) (sym (search get_or_from_slice_get))) c.loop-row.invariant c.in_ok-push.ensures.items
 
 pub returns : goal.returns
 returns c =
     let end : length c.args.self.now ≤ c.loop-row.row = omega arith in
-    every_row (label_in c.args.level) c.args.self.now c.loop-row.row c.args.labels.now.items c.loop-row.labels.items end c.loop-row.invariant
+    search every_row

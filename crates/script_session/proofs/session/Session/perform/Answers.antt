@@ -8,23 +8,16 @@ use Rattle.script_session.proofs.session.Session.perform.Goals as goal
 
 pub returns-clause-answers : goal.returns-clause-answers
 returns-clause-answers g c =
-    let p = c.perform-result.new.work in
-    let w = c.sweep.new.self in
-    let e = c.sweep.ensures in
-    λ held. performs_after _ _ _ _ (state_in p) (state_in w) c.perform-result.result (c.perform-result.ensures.answers held)
-    (grind (arith, state_swept)) (sym e.texts)
+    λ held. performs_after _ _ _ _ (state_in c.perform-result.new.work) (state_in c.sweep.new.self) c.perform-result.result (c.perform-result.ensures.answers held)
+    (grind (arith, state_swept)) (sym c.sweep.ensures.texts)
 
 pub returns-clause-apart : goal.returns-clause-apart
 returns-clause-apart g c =
-    let s = c.args.self.now.work in
-    let p = c.perform-result.new.work in
-    let w = c.sweep.new.self in
-    let e = c.sweep.ensures in
-    apart_after c.perform-result.result (form_of c.args.form.now) (state_in s) (state_in p) (state_in w) c.perform-result.ensures.apart
+    apart_after c.perform-result.result (form_of c.args.form.now) (state_in c.args.self.now.work) (state_in c.perform-result.new.work) (state_in c.sweep.new.self) c.perform-result.ensures.apart
     (grind (arith, state_swept))
 
 pub returns-clause-same : goal.returns-clause-same
-returns-clause-same g c = grind (arith, refused_kept, state_swept)
+returns-clause-same = grind (arith, refused_kept, state_swept)
 
 pub returns-clause-objects : goal.returns-clause-objects
 returns-clause-objects g c =

@@ -1,6 +1,6 @@
 use Rattle.{
   std.proofs.Common.{sym, ◌∙◌, ap},
-  script_work.{specs.{Bindings.{bindings_of, uses_of}, Uses.{count_at}}, proofs.UseLaws.{takes_unbound, counted_unbound}},
+  script_work.{specs.{Bindings.{uses_of}, Uses.{count_at}}, proofs.UseLaws.{takes_unbound, counted_unbound}},
 }
 use Rattle.script_work.proofs.names.Names.unbind.Goals as goal
 
@@ -10,5 +10,5 @@ take-requires c = search takes_unbound
 pub invariant_of-self-clause-counted : goal.invariant_of-self-clause-counted
 invariant_of-self-clause-counted c = λ id.
     let s = c.args.self.now in
-    counted_unbound (bindings_of s.values.entries) c.args.name.now (count_at s.uses) s.counted c.unbind-left.result c.unbind-left.ensures.left (count_at c.take.new.self) c.take.ensures id
+    counted_unbound _ c.args.name.now (count_at s.uses) s.counted c.unbind-left.result c.unbind-left.ensures.left (count_at c.take.new.self) c.take.ensures id
     ∙ ap (λ b. uses_of b id.0) (sym c.unbind-left.ensures.unbound)

@@ -1,8 +1,5 @@
-use Rattle.{
-  std.proofs.Common.{arith, nat_eq},
-  script_work.proofs.UseLaws.{was_put},
-}
+use Rattle.std.proofs.Common.{arith, nat_eq}
 use Rattle.script_work.proofs.uses.Uses.put.Goals as goal
 
 pub returns : goal.returns
-returns c = grind (arith, was_put, nat_eq)
+returns = grind (arith, nat_eq)

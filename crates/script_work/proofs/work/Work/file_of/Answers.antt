@@ -2,7 +2,7 @@ use Rattle.{
   std.{proofs.Common.{ap, sym, ◌∙◌}, specs.Prelude.{Err}},
   frame_store.specs.Arguments.{arguments_of},
   form_meaning.specs.declared.Function.TheVariants.{ReadCsv},
-  method_meaning.specs.Readers.{file_name_of, read_result},
+  method_meaning.specs.Readers.{read_result},
   script_meaning.specs.Reading.{at_once, then_read, of_file},
   script_work.{specs.{declared.fault.EvalFault.TheVariants.{Refused}, Reads.{files_in}, Work.{world_of}}, proofs.{Fetching.{refuses_long}, Rides.{goes_same, bytes_by, halts_first, then_gives, serves_self, fault_uncaused}}},
   fault_laws.proofs.FormFaults.{file_name_of_fault},
@@ -16,7 +16,7 @@ returns-in-Ok-clause-reads g c =
     let is = c.in-Ok.ensures.0 in
     λ held.
     let fs = files_in c.args.names.now held in
-    bytes_by w.texts _ _ _ (λ bytes. read_result bytes given) c.file_named.result
+    bytes_by _ _ _ _ (λ bytes. read_result bytes given) _
     (ap (λ r. then_read (at_once r) (λ name. of_file fs name (λ bytes. read_result bytes given))) is
     ∙ then_gives Err _ (λ name. of_file fs name (λ bytes. read_result bytes given))
     ∙ ap (λ n. of_file fs n (λ bytes. read_result bytes given)) (sym c.text.ensures))
@@ -26,11 +26,9 @@ pub returns-in-Err-clause-reads : goal.returns-in-Err-clause-reads
 returns-in-Err-clause-reads g c =
     let w = world_of c.args.self.now in
     let given = arguments_of w.tables w.texts c.args.args.now.items.items in
-    let F = g.F.Files in
-    let here = F.seen c.args.files.now in
+    let here = g.F.Files.seen c.args.files.now in
     λ held.
-    let fs = files_in c.args.names.now held in
-    halts_first w.texts _ _ _ _ Err (λ name. of_file fs name (λ bytes. read_result bytes given)) (Refused c.in-Err.code) (goes_same (ap (λ r. at_once r) c.in-Err.ensures.0), fault_uncaused w.texts fs.paths here here c.in-Err.code (file_name_of ReadCsv given) (file_name_of_fault ReadCsv given) c.in-Err.ensures.0, c.in-Err.ensures.1)
+    halts_first _ _ _ _ _ Err (λ name. of_file (files_in c.args.names.now held) name (λ bytes. read_result bytes given)) (Refused c.in-Err.code) (goes_same (ap (λ r. at_once r) c.in-Err.ensures.0), fault_uncaused _ _ here here _ _ (file_name_of_fault ReadCsv given) c.in-Err.ensures.0, c.in-Err.ensures.1)
 
 pub returns-in-Err-clause-serves : goal.returns-in-Err-clause-serves
 returns-in-Err-clause-serves g c = serves_self _

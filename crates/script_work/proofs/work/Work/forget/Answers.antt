@@ -1,7 +1,7 @@
 use Rattle.{
+  script_work.{proofs.{Bindings.{named_object}, Binding.{names-unbound, value_at-unbound, unbound_has, released_keeps, released_noted, released_named, released_settled}, States.{state_swept}, Validity.{released_valid}}, specs.{Bindings.{bindings_of, unbound, released, value_at, AreLive, AreNamed}, Work.{names_in, tables_in, world_of}}},
   std.proofs.Common.{arith, refl, sym, ◌∙◌, ap, subst},
   frame_store.specs.{Objects.{tables}, World.{World}},
-  script_work.{specs.{Bindings.{bindings_of, unbound, released, value_at, AreLive, AreNamed}, Work.{names_in, tables_in, world_of}}, proofs.{States.{state_swept}, Binding.{unbound_state, unbound_has, released_keeps, released_noted, released_named, released_lives, released_settled}, Validity.{released_valid}}},
 }
 use Rattle.script_work.proofs.work.Work.forget.Goals as goal
 
@@ -11,13 +11,11 @@ invariant_of-self c =
     let x = c.args.name.now in
     let e = c.unbind-left.ensures in
     let bs = unbound (names_in s) x in
-    let left = value_at (names_in s) x in
-    let bs' = bindings_of c.unbind-left.new.self.values.entries in
     let is = c.release.ensures ∙ ap (λ b. released b (tables_in s) c.unbind-left.result) e.unbound ∙ ap (released bs (tables_in s)) e.left in
     record {
-      settled = rw is (released_settled s.dict bs (tables_in s) left s.settled);
-      valid = rw (sym is) at (released_valid s.dict bs (tables_in s) left s.valid);
-      live = subst (λ h. AreLive bs' h) (sym is) (grind (arith, released_lives));
+      settled = rw is (released_settled _ bs _ _ s.settled);
+      valid = rw (sym is) at (released_valid _ bs _ (value_at (names_in s) x) s.valid);
+      live = subst (λ h. AreLive (bindings_of c.unbind-left.new.self.values.entries) h) (sym is) (grind (arith, released_keeps, named_object, unbound_has));
       given = grind (arith, unbound_has);
       noted = grind (arith, e.unbound, released_noted (names_in s) s.temps.items x (tables_in s) s.noted);
     }
@@ -26,20 +24,13 @@ pub returns-clause-state : goal.returns-clause-state
 returns-clause-state c =
     let s = c.args.self.now in
     let x = c.args.name.now in
-    let e = c.unbind-left.ensures in
     let bs = unbound (names_in s) x in
     let left = value_at (names_in s) x in
-    let is = c.release.ensures ∙ ap (λ b. released b (tables_in s) c.unbind-left.result) e.unbound ∙ ap (released bs (tables_in s)) e.left in
     let w : World = record { tables = released bs (tables_in s) left; texts = s.dict } in
-    grind (arith, e.unbound, state_swept bs bs (world_of s) w refl refl (released_keeps bs (tables_in s) left), unbound_state s.names.values.entries s.names.unique x (world_of s))
+    grind (arith, c.unbind-left.ensures.unbound, state_swept bs bs (world_of s) w refl refl (released_keeps bs (tables_in s) left), names-unbound, value_at-unbound)
 
 pub returns-clause-named : goal.returns-clause-named
 returns-clause-named c = λ named.
     let s = c.args.self.now in
-    let x = c.args.name.now in
     let e = c.unbind-left.ensures in
-    let bs = unbound (names_in s) x in
-    let left = value_at (names_in s) x in
-    let bs' = bindings_of c.unbind-left.new.self.values.entries in
-    let is = c.release.ensures ∙ ap (λ b. released b (tables_in s) c.unbind-left.result) e.unbound ∙ ap (released bs (tables_in s)) e.left in
-    subst (λ h. AreNamed bs' h) (sym is) (grind (arith, released_named))
+    subst (λ h. AreNamed (bindings_of c.unbind-left.new.self.values.entries) h) (sym (c.release.ensures ∙ ap (λ b. released b (tables_in s) c.unbind-left.result) e.unbound ∙ ap (released (unbound (names_in s) c.args.name.now) (tables_in s)) e.left)) (grind (arith, released_named))

@@ -1,4 +1,4 @@
-use Rattle.script_work.{specs.Work.{names_in, world_of}, proofs.Binding.{bound_is, given_is, bound_noted}}
+use Rattle.script_work.proofs.Binding.{bound_is, given_is, bound_noted}
 use Rattle.script_work.proofs.work.Work.set_name.Goals as goal
 
 pub invariant_of-self-2 : goal.invariant_of-self-2
@@ -10,7 +10,7 @@ invariant_of-self-2 c =
     record {
       settled = s.settled;
       valid = s.valid;
-      live = bound_is (names_in s) _ n v (world_of s) e.bound c.requires s.live;
-      given = given_is (names_in s) _ n v (world_of s) e.bound c.requires s.given;
+      live = bound_is _ _ n v _ e.bound c.requires s.live;
+      given = given_is _ _ n v _ e.bound c.requires s.given;
       noted = search bound_noted;
     }

@@ -1,6 +1,6 @@
 use Rattle.{
   frame_store.specs.{Objects.{tables}, World.{World}},
-  script_work.{specs.Work.{names_in, world_of}, proofs.{Worlds.{form_keeps, live_after, given_after, noted_made, noted_refused}, Validity.{object_valid, form_valid}}},
+  script_work.{specs.Work.{names_in}, proofs.{Worlds.{form_keeps, live_after, given_after, noted_made, noted_refused}, Validity.{object_valid, form_valid}}},
   table_laws.proofs.InfixLaws.{sign_result_keeps},
 }
 use Rattle.script_work.proofs.work.Work.sign.Goals as goal
@@ -12,10 +12,10 @@ invariant_of-self-in-Break-branch-2 c =
     let answers = c.invert_or_negate.ensures in
     record {
       settled = answers.2;
-      valid = form_valid c.invert_or_negate.result _ (world_of s) new answers (sign_result_keeps _ _ (object_valid (world_of s) c.args.a s.valid c.requires.live)) s.valid;
-      live = live_after (names_in s) (world_of s) new (form_keeps c.invert_or_negate.result _ (world_of s) new answers) s.live;
+      valid = form_valid _ _ _ _ answers (search (sign_result_keeps, object_valid)) s.valid;
+      live = live_after _ _ _ (form_keeps _ _ _ _ answers) s.live;
       given = search given_after;
-      noted = noted_refused (names_in s) s.temps.items _ c.invert_or_negate.result c.in_err-made.field-0.0 _ (world_of s) new c.in_err-made.was answers c.reserve.ensures.items s.noted;
+      noted = noted_refused (names_in s) _ _ _ _ _ _ new c.in_err-made.was answers c.reserve.ensures.items s.noted;
     }
 
 pub invariant_of-self-2 : goal.invariant_of-self-2
@@ -25,8 +25,8 @@ invariant_of-self-2 c =
     let answers = c.invert_or_negate.ensures in
     record {
       settled = answers.2;
-      valid = form_valid c.invert_or_negate.result _ (world_of s) new answers (sign_result_keeps _ _ (object_valid (world_of s) c.args.a s.valid c.requires.live)) s.valid;
-      live = live_after (names_in s) (world_of s) new (form_keeps c.invert_or_negate.result _ (world_of s) new answers) s.live;
+      valid = form_valid _ _ _ _ answers (search (sign_result_keeps, object_valid)) s.valid;
+      live = live_after _ _ _ (form_keeps _ _ _ _ answers) s.live;
       given = search given_after;
-      noted = noted_made (names_in s) s.temps.items _ _ c.invert_or_negate.result c.in_ok-made.made _ (world_of s) new c.in_ok-made.was answers c.reserve.ensures.items c.note.ensures s.noted;
+      noted = noted_made (names_in s) _ _ _ _ _ _ _ new c.in_ok-made.was answers c.reserve.ensures.items c.note.ensures s.noted;
     }

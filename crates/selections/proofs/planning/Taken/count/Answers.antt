@@ -2,4 +2,4 @@ use Rattle.std.proofs.{Common.{arith}, lemmas.List.{length-map, FromFn.{length-r
 use Rattle.selections.proofs.planning.Taken.count.Goals as goal
 
 pub returns-in-Slice : goal.returns-in-Slice
-returns-in-Slice c = grind (arith, length-map, length-range_with_len)
+returns-in-Slice = grind (arith, length-map, length-range_with_len)

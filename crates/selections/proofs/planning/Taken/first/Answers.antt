@@ -2,4 +2,4 @@ use Rattle.std.proofs.Common.{arith}
 use Rattle.selections.proofs.planning.Taken.first.Goals as goal
 
 pub at-requires : goal.at-requires
-at-requires c = grind arith
+at-requires = grind arith

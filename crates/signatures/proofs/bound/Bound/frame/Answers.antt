@@ -1,7 +1,7 @@
 use mathlib.Core.Bool.{Bool-set}
 use Rattle.{
-  std.proofs.{Common.{subst, Option, IfSome}, Math.Logic.{∥∥₁_elim}},
-  frame_store.specs.{Arguments.{IsLiveObject}, declared.object.ObjId.{ObjId}},
+  std.proofs.{Common.{subst, IfSome}, Math.Logic.{∥∥₁_elim}},
+  frame_store.specs.Arguments.{IsLiveObject},
   signatures.proofs.SureLaws.{frame_sure, told_there},
 }
 use Rattle.signatures.proofs.bound.Bound.frame.Goals as goal
@@ -12,4 +12,4 @@ unwrap-requires c =
     (frame_sure _ _ c.requires (f.filled c.args.place)))
 
 pub returns-clause-live : goal.returns-clause-live
-returns-clause-live c = λ live h. subst (λ (o : Option ObjId). IfSome o (λ id. IsLiveObject live id)) c.unwrap.ensures (c.object_or_none.ensures.live live h)
+returns-clause-live c = λ live h. subst (λ o. IfSome o (λ id. IsLiveObject live id)) c.unwrap.ensures (c.object_or_none.ensures.live live h)

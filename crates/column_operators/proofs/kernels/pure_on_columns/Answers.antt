@@ -3,7 +3,7 @@ use Rattle.{
   column_core.{specs.Views.{borrowed_column}, proofs.ColumnLaws.{length-column}},
   nullable_array.proofs.ColumnAnswers.{given_at},
 }
-use Rattle.column_operators.proofs.kernels.on_columns.Goals as goal
+use Rattle.column_operators.proofs.kernels.pure_on_columns.Goals as goal
 
 pub numbers-requires : goal.numbers-requires
 numbers-requires c =

@@ -1,5 +1,5 @@
 use Rattle.nullable_array.proofs.ColumnAnswers.{given_at}
-use Rattle.column_operators.proofs.kernels.beside.Goals as goal
+use Rattle.column_operators.proofs.kernels.pure_beside.Goals as goal
 
 pub returns-in-Ints-Int-clause-given : goal.returns-in-Ints-Int-clause-given
 returns-in-Ints-Int-clause-given c = given_at c.numbers_beside.result c.args.dict.now c.numbers_beside.ensures.given
