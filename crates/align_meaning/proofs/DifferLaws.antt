@@ -1,6 +1,6 @@
 -- Keys that differ on each side differ in an outer join.
 use Rattle.{
-  std.{proofs.{Common.{rules, ◌≡◌, ◌≢◌, ◌<◌, ◌≤◌, ◌+◌, refl, sym, ℕ, suc, Bool, true, false, not, cond, List, [], ◌∷◌, map, filter, length, All, AllPairs, Result, Ok, Err, arith}, lemmas.{Bool.{false≢true}, List.{map-append, Elements.{All-head, All-tail, filter_passes}, Kept.{AllPairs-cons, AllPairs-filter}}}}, specs.{Bool.{Decides}, List.{flat_map}}},
+  std.{proofs.{Common.{rules, ◌≡◌, ◌≢◌, ◌<◌, ◌≤◌, ◌+◌, refl, sym, ℕ, suc, Bool, true, false, not, cond, List, [], ◌∷◌, map, length, All, AllPairs, Result, Ok, Err, arith}, lemmas.{Bool.{false≢true}, List.{map-append, Elements.{All-head, All-tail, filter_passes}, Kept.{AllPairs-cons, AllPairs-filter}}}}, specs.{Bool.{Decides}, List.{flat_map}}},
   meaning.specs.Reduce.{distinct},
   sorting.specs.Sorting.{put_in, in_order},
   pick_meaning.{specs.Rows.{rows_where}, proofs.InsideLaws.{ok_same}},
@@ -23,22 +23,22 @@ module _ {K : Type 0} (same less : K → K → Bool) (decides : (a b : K) → De
   distinct_apart : (xs : List K) → AreApart (distinct same xs)
   distinct_apart [] = none_apart
   distinct_apart (x ∷ xs) =
-      AllPairs-cons (λ a b. a ≢ b) x (filter (λ q. not (same q x)) (distinct same xs))
+      AllPairs-cons (λ a b. a ≢ b) x _
       (grind (arith, false≢true, filter_passes))
-      (AllPairs-filter (λ a b. a ≢ b) (λ q. not (same q x)) (distinct same xs) (distinct_apart xs))
+      (AllPairs-filter (λ a b. a ≢ b) (λ q. not (same q x)) _ (distinct_apart xs))
 
   -- in order
   put_in_apart : (x : K) (ys : List K) → All (λ y. x ≢ y) ys → AreApart ys → AreApart (put_in less x ys)
   put_in_apart x [] others apart = grind (arith, none_apart)
   put_in_apart x (y ∷ ys) others apart =
       elim (less y x) as (λ b. AreApart (cond b (y ∷ put_in less x ys) (x ∷ y ∷ ys))) [
-        | true ↦ AllPairs-cons (λ a b. a ≢ b) y (put_in less x ys) (all_put_in (λ z. y ≢ z) less x ys (λ e. All-head (λ z. x ≢ z) y ys others (sym e)) (apart_first y ys apart)) (put_in_apart x ys (All-tail (λ z. x ≢ z) y ys others) (apart_rest y ys apart))
+        | true ↦ AllPairs-cons (λ a b. a ≢ b) y _ (all_put_in (λ z. y ≢ z) less x ys (λ e. All-head (λ z. x ≢ z) y ys others (sym e)) (apart_first y ys apart)) (put_in_apart x ys (All-tail (λ z. x ≢ z) y ys others) (apart_rest y ys apart))
         | false ↦ grind arith
       ]
 
   in_order_apart : (xs : List K) → AreApart xs → AreApart (in_order less xs)
   in_order_apart [] _ = none_apart
-  in_order_apart (x ∷ xs) apart = put_in_apart x (in_order less xs) (all_in_order (λ y. x ≢ y) less xs (apart_first x xs apart)) (in_order_apart xs (apart_rest x xs apart))
+  in_order_apart (x ∷ xs) apart = put_in_apart x _ (all_in_order (λ y. x ≢ y) _ xs (apart_first x xs apart)) (in_order_apart xs (apart_rest x xs apart))
 
   -- a key that stands once has one row
   no_rows : (key : K) (row : ℕ) (xs : List K) → All (λ y. key ≢ y) xs → rows_where (same key) row xs ≡ []

@@ -31,10 +31,10 @@ module _ {K : Type 0} (same : K → K → Bool) (keys targets : List K) where
 
   -- for each target
   pub reindexed_count : IfOk (reindexed same keys targets) (λ rows. length rows ≡ length targets)
-  reindexed_count = by (pointwise same keys targets) refl
+  reindexed_count = by _ refl
     where
       by : (b : Bool) → pointwise same keys targets ≡ b → IfOk (found_if b) (λ rows. length rows ≡ length targets)
-      by true e = length-map-range_with_len Some 0 (length keys) ∙ as_long same keys targets e
+      by true e = length-map-range_with_len _ 0 _ ∙ as_long same keys targets e
       by false e = search (unless_keeps, length-map)
 
   -- among the keys
@@ -42,7 +42,7 @@ module _ {K : Type 0} (same : K → K → Bool) (keys targets : List K) where
   IsThere row = IfSome row (λ place. place < length keys)
 
   pub reindexed_below : IfOk (reindexed same keys targets) (All IsThere)
-  reindexed_below = by (pointwise same keys targets)
+  reindexed_below = by _
     where
       in_order : All (λ k. k < length keys) (range_with_len 0 (length keys))
       in_order = grind (arith, length-range_with_len, get_or-range_with_len)
@@ -50,13 +50,13 @@ module _ {K : Type 0} (same : K → K → Bool) (keys targets : List K) where
       by : (b : Bool) → IfOk (found_if b) (All IsThere)
       by true = All-map IsThere Some (range_with_len 0 (length keys)) in_order
       by false =
-          unless_keeps (All IsThere) (first_repeated same keys) (rows_of_targets same keys targets)
+          unless_keeps (All IsThere) (first_repeated same keys) _
           (All-map IsThere (λ target. only_row (rows_where (same target) 0 keys)) targets
-          (λ k d lt. only_keeps (λ place. place < length keys) _ (rows_inside (same _) keys)))
+          (λ k d lt. only_keeps _ _ (rows_inside (same _) keys)))
 
   -- a key that is refused
   pub repeat_given : (P : K → Type 0) (key : K) → All P keys → reindexed same keys targets ≡ Err (duplicate_labels key) → P key
-  repeat_given P key all is = by (pointwise same keys targets) is
+  repeat_given P key all is = by _ is
     where
       of : (o : Option K) → IfSome o P → unless_repeated o (rows_of_targets same keys targets) ≡ Err (duplicate_labels key) → P key
       of None h e = cc

@@ -2,7 +2,7 @@
 use Rattle.{
   std.{proofs.{Common.{arith, ◌≡◌, ◌<◌, ◌≤◌, ℕ, Bool, cond, List, [], ◌∷◌, ◌++◌, map, length, All, Option, Some, Result, Ok, Err}, lemmas.{Bool.{ltb-false}, List.{length-map, Elements.{All-cons, All-head, All-tail, All-map}}}}, specs.Prelude.{IfSome}},
   pick_meaning.{specs.Rows.{rows_where}, proofs.InsideLaws.{rows_inside, ok_same}},
-  align_meaning.{proofs.OrderLaws.{all_append, all_flat, all_distinct, all_in_order}, specs.{Faults.{AlignRefusal, too_large}, Joins.{Entry, Lists, or_gap, entry, entries_with, entries_of, keys_in_order, outer_entries, most_rows, lists_of, outer}}},
+  align_meaning.{proofs.OrderLaws.{all_append, all_flat, all_distinct, all_in_order}, specs.{Faults.{AlignRefusal, too_large}, Joins.{Entry, Lists, or_gap, entry, entries_of, keys_in_order, outer_entries, most_rows, lists_of, outer}}},
 }
 
 -- a row of so many, or none
@@ -38,9 +38,9 @@ module _ {K : Type 0} (P : K → Type 0) (same less : K → K → Bool) (left ri
 
   key_inside : (key : K) → P key → All Inside (of_key key)
   key_inside key here =
-      all_flat Inside (IsRowOf (length left)) (entries_with key (rows_where (same key) 0 right))
-      (λ gap at. All-map Inside (entry key gap) (or_gap (rows_where (same key) 0 right)) (λ k d lt. record { keyed = here; left = at; right = (gaps_inside (length right) (rows_where (same key) 0 right) (rows_inside (same key) right)) k d lt }))
-      (or_gap (rows_where (same key) 0 left)) (gaps_inside (length left) (rows_where (same key) 0 left) (rows_inside (same key) left))
+      all_flat Inside _ _
+      (λ gap at. All-map Inside (entry key gap) (or_gap (rows_where (same key) 0 right)) (λ k d lt. record { keyed = here; left = at; right = search (gaps_inside, rows_inside) }))
+      (or_gap (rows_where (same key) 0 left)) (search (gaps_inside, rows_inside))
 
   module _ (lefts : All P left) (rights : All P right) where
     abbrev entries : List (Entry K)
@@ -51,7 +51,7 @@ module _ {K : Type 0} (P : K → Type 0) (same less : K → K → Bool) (left ri
 
     entries_inside : All Inside entries
     entries_inside =
-        all_flat Inside P of_key key_inside (keys_in_order same less (left ++ right))
+        all_flat Inside P _ key_inside (keys_in_order same less (left ++ right))
         (search (all_in_order, all_distinct, all_append))
 
     lists_inside : length entries ≤ most_rows → AreInside P (length left) (length right) (lists_of entries)

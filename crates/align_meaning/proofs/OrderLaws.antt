@@ -11,12 +11,12 @@ all_append P (x ∷ xs) ys px py = All-cons P x (xs ++ ys) (All-head P x xs px) 
 
 pub all_flat : {X Y : Type 0} (P : Y → Type 0) (Q : X → Type 0) (f : X → List Y) → ((x : X) → Q x → All P (f x)) → (xs : List X) → All Q xs → All P (flat_map f xs)
 all_flat P Q f _ [] _ = All-nil P
-all_flat P Q f each (x ∷ xs) all = all_append P (f x) (flat_map f xs) (each x (All-head Q x xs all)) (all_flat P Q f each xs (All-tail Q x xs all))
+all_flat P Q f each (x ∷ xs) all = all_append P _ _ (each x (All-head Q x xs all)) (all_flat P Q f each xs (All-tail Q x xs all))
 
 pub all_distinct : {X : Type 0} (P : X → Type 0) (same : X → X → Bool) (xs : List X) → All P xs → All P (distinct same xs)
 all_distinct P _ [] all = all
 all_distinct P same (x ∷ xs) all =
-    All-cons P x (filter (λ q. not (same q x)) (distinct same xs)) (All-head P x xs all) (All-filter (λ q. not (same q x)) P (distinct same xs) (all_distinct P same xs (All-tail P x xs all)))
+    All-cons P x (filter (λ q. not (same q x)) (distinct same xs)) (All-head P x xs all) (All-filter _ P _ (all_distinct P _ xs (All-tail P x xs all)))
 
 -- a list in order has the elements of the list
 module _ {X : Type 0} (P : X → Type 0) (less : X → X → Bool) where
@@ -30,7 +30,7 @@ module _ {X : Type 0} (P : X → Type 0) (less : X → X → Bool) where
 
   pub all_in_order : (xs : List X) → All P xs → All P (in_order less xs)
   all_in_order [] all = all
-  all_in_order (x ∷ xs) all = all_put_in x (in_order less xs) (All-head P x xs all) (all_in_order xs (All-tail P x xs all))
+  all_in_order (x ∷ xs) all = all_put_in x _ (All-head P x xs all) (all_in_order xs (All-tail P x xs all))
 
 -- and what is made of its elements is in the order that agrees
 module _ {X Y : Type 0} (P : X → Type 0) (f : X → Y) (less : X → X → Bool) (less' : Y → Y → Bool) (below : (x y : X) → P x → P y → less' (f x) (f y) ≡ less x y) where

@@ -3,7 +3,7 @@ use Rattle.{
   std.{proofs.{Common.{arith, ◌≡◌, ◌∙◌, ap, refl, sym, ℕ, Bool, not, ◌&&◌, cond, List, [], ◌∷◌, ◌++◌, map, filter, All, Option, Some, Result, Ok, Err}, lemmas.List.{length-map, map-append, Elements.{All-head, All-tail}}}, specs.{List.{flat_map}, Option.{option_map}, Cmp.Lexicographic.{pointwise}}},
   meaning.specs.Reduce.{distinct},
   pick_meaning.{specs.Rows.{rows_where, only_row}, proofs.RowLaws.{rows_where-map}},
-  align_meaning.{proofs.OrderLaws.{all_append, all_distinct, all_in_order, in_order_map}, specs.{Faults.{AlignRefusal, duplicate_labels, too_large}, Targets.{first_where, first_repeated, rows_of_targets, reindexed}, Joins.{Entry, Lists, or_gap, entry, entries_with, entries_of, keys_in_order, outer_entries, within_limit, outer}}},
+  align_meaning.{proofs.OrderLaws.{all_append, all_distinct, all_in_order, in_order_map}, specs.{Faults.{AlignRefusal, duplicate_labels, too_large}, Targets.{first_where, first_repeated, rows_of_targets, reindexed}, Joins.{Entry, Lists, entry, entries_with, entries_of, keys_in_order, outer_entries, within_limit, outer}}},
 }
 
 map_map : {A B C D : Type 0} (f : B → C) (g : A → B) (h : D → C) (k : A → D) → ((x : A) → f (g x) ≡ h (k x)) → (xs : List A) → map f (map g xs) ≡ map h (map k xs)
@@ -44,14 +44,14 @@ module _ {X Y : Type 0} (f : X → Y) where
   limit_map = grind (arith, length-map, map_map, rows_map)
 
   with_map : (key : X) (rights : List ℕ) (left : Option ℕ) → entries_with (f key) rights left ≡ map entry_seen (entries_with key rights left)
-  with_map key rights left = all (or_gap rights)
+  with_map key _ left = all _
     where
       all : (rows : List (Option ℕ)) → map (entry (f key) left) rows ≡ map entry_seen (map (entry key left) rows)
       all [] = refl
       all (r ∷ rs) = cc (all rs)
 
   of_map : (key : X) (lefts rights : List ℕ) → entries_of (f key) lefts rights ≡ map entry_seen (entries_of key lefts rights)
-  of_map key lefts rights = all (or_gap lefts)
+  of_map key _ rights = all _
     where
       all : (rows : List (Option ℕ)) → flat_map (entries_with (f key) rights) rows ≡ map entry_seen (flat_map (entries_with key rights) rows)
       all [] = refl
@@ -77,21 +77,20 @@ module _ {X Y : Type 0} (f : X → Y) where
 
       key_map : (key : X) → P key → of_key' (f key) ≡ map entry_seen (of_key key)
       key_map key here =
-          (λ i. entries_of (f key) (rows_where-map P (same' (f key)) (same key) f (λ x h. equal key x here h) 0 left lefts i) (rows_where-map P (same' (f key)) (same key) f (λ x h. equal key x here h) 0 right rights i))
-          ∙ of_map key (rows_where (same key) 0 left) (rows_where (same key) 0 right)
+          (λ i. entries_of (f key) (rows_where-map P (same' (f key)) _ f (λ x h. equal key x here h) 0 _ lefts i) (rows_where-map P (same' (f key)) _ f (λ x h. equal key x here h) 0 _ rights i))
+          ∙ of_map _ _ _
 
       entries_map : (keys : List X) → All P keys → flat_map of_key' (map f keys) ≡ map entry_seen (flat_map of_key keys)
       entries_map [] _ = refl
       entries_map (key ∷ keys) all =
-          (λ i. key_map key (All-head P key keys all) i ++ entries_map keys (All-tail P key keys all) i) ∙ sym (map-append entry_seen (of_key key) (flat_map of_key keys))
+          (λ i. key_map key (All-head P key keys all) i ++ entries_map keys (All-tail P key keys all) i) ∙ sym (map-append _ (of_key key) (flat_map of_key keys))
 
       pub outer_seen : outer same' less' (map f left) (map f right) ≡ answer_seen (outer same less left right)
       outer_seen =
           let both : All P (left ++ right) = search all_append in
           let keys : keys_in_order same' less' (map f left ++ map f right) ≡ map f (keys_in_order same less (left ++ right))
           = cc (map-append f left right, distinct_map (left ++ right) both, in_order_map P f less less' below (distinct same (left ++ right)) (all_distinct P same (left ++ right) both)) in
-          ap within_limit (ap (flat_map of_key') keys ∙ entries_map (keys_in_order same less (left ++ right)) (search (all_in_order, all_distinct)))
-          ∙ limit_map (outer_entries same less left right)
+          cc (entries_map (keys_in_order same less (left ++ right)) (search (all_in_order, all_distinct)), limit_map (outer_entries same less left right))
 
     same_map : (xs ys : List X) → All P xs → All P ys → pointwise same' (map f xs) (map f ys) ≡ pointwise same xs ys
     same_map [] [] _ _ = refl

@@ -32,17 +32,7 @@ blank_column = grind (arith, range-replicate)
 pub put_column : {T : Type 0} (kind : Kind) (cell : Option T → Cell) (values new_values : List T) (present new_present : List Bool) (at : ℕ) (o : Option T) (blank : T) (x : Cell) (old : CellColumn) → new_values ≡ slice_set values at (unwrap_or o blank) → new_present ≡ slice_set present at (is_some o)
     → length present ≡ length values → cell o ≡ x → column_with kind cell (length values) (option_at values present) ≡ old → at < length old.cells
     → column_with kind cell (length new_values) (option_at new_values new_present) ≡ record { kind = old.kind; cells = slice_set old.cells at x }
-put_column kind cell values _ present new_present at o blank x _ ev ep alike ex is lt =
-    let n = length values in
-    let within : at < n = omega (arith, length-tabulate n (λ k. cell (option_at values present k)), ap (λ c. length c.cells) is, lt) in
-    let flags : at < length present = omega (arith, alike, within) in
-    ap (λ vs. column_with kind cell (length vs) (option_at vs new_present)) ev
-    ∙ ap (λ ps. column_with kind cell (length (slice_set values at (unwrap_or o blank))) (option_at (slice_set values at (unwrap_or o blank)) ps)) ep
-    ∙ ap (λ k. column_with kind cell k (option_at (slice_set values at (unwrap_or o blank)) (slice_set present at (is_some o)))) (length-set values at (unwrap_or o blank))
-    ∙ ap (λ l. record { kind = kind; cells = l }) (sym (set-tabulate n (λ k. cell (option_at values present k)) (λ k. cell (option_at (slice_set values at (unwrap_or o blank)) (slice_set present at (is_some o)) k)) at x within
-    (ap cell (option-set_same values present at o blank within flags) ∙ ex)
-    (λ k below ne. ap cell (option-set_other values present at k (unwrap_or o blank) (is_some o) ne))))
-    ∙ ap (λ c. record { kind = c.kind; cells = slice_set c.cells at x }) is
+put_column = grind (arith, length-tabulate, slice_set, unwrap_or, is_some, length-set, set-tabulate, option-set_same, option-set_other)
 
 -- the place of a cell
 below_more : (column d row rows : ℕ) → row < rows → column * rows + row < (d + suc column) * rows
@@ -68,14 +58,12 @@ apart a b r s rows ne hr hs e =
 pub put_cells : (cells : List Cell) (columns rows column row : ℕ) (x : Cell) → length cells ≡ columns * rows → column < columns → row < rows
     → in_columns Na (slice_set cells (column * rows + row) x) columns rows ≡ with_cell (in_columns Na cells columns rows) column row x
 put_cells cells columns rows column row x e lt below =
-    let p = column * rows + row in
     let old = λ (c : ℕ). tabulate rows (λ r. slice_index_or cells (c * rows + r) Na) in
-    let new = λ (c : ℕ). tabulate rows (λ r. slice_index_or (slice_set cells p x) (c * rows + r) Na) in
-    sym (ap (λ l. slice_set (tabulate columns old) column (slice_set l row x)) (get_or-tabulate columns old column [] lt)
+    sym (ap (λ l. slice_set (tabulate columns old) column (slice_set l row x)) (get_or-tabulate _ _ _ [] lt)
     ∙ ap (λ l. slice_set (tabulate columns old) column l) (grind (arith, set-tabulate, slice_set, get_or-set_same, get_or-set_other))
-    ∙ set-tabulate columns old new column (new column) lt refl
-    (λ k small ne. range-same (λ r. slice_index_or (slice_set cells p x) (k * rows + r) Na) (λ r. slice_index_or cells (k * rows + r) Na) 0 rows
-    (λ r le lr. get_or-set_other cells p (k * rows + r) x Na (apart k column r row rows ne (omega arith) below))))
+    ∙ set-tabulate _ _ _ _ _ lt refl
+    (λ k small ne. range-same _ _ 0 _
+    (λ r le lr. get_or-set_other cells (column * rows + row) _ x Na (apart k _ r _ _ ne (omega arith) below))))
 
 -- missing cells
 pub blank_cells : (n columns rows : ℕ) → in_columns Na (replicate n Na) columns rows ≡ filled_with Na columns rows
@@ -83,7 +71,7 @@ blank_cells = search (range-replicate, get-replicate)
 
 -- one column
 pub one_column : (cells : List Cell) → in_columns Na cells 1 (length cells) ≡ cells ∷ []
-one_column cells = cc (fill_by_all (λ row. slice_index_or cells (0 * length cells + row) Na) cells (length cells) Na refl (λ k lt. ap (λ p. slice_index_or cells p Na) (omega arith)))
+one_column cells = cc (fill_by_all (λ row. slice_index_or cells (0 * length cells + row) Na) cells (length cells) Na refl (λ k lt. grind arith))
 
 -- a column's rows
 pub column_rows : (column columns rows n : ℕ) → column < columns → n ≡ columns * rows → AreRowsBelow record { start = column * rows; step = pos 1; count = rows } n
@@ -110,11 +98,8 @@ pub option-replicate : {T : Type 0} (n : ℕ) (o : Option T) (blank : T) (row : 
 option-replicate zero o _ _ h = absurd (omega arith)
 option-replicate (suc n) None _ zero h = refl
 option-replicate (suc n) (Some x) _ zero h = refl
-option-replicate (suc n) o blank (suc row) h = option-replicate n o blank row (omega arith)
+option-replicate (suc n) o _ (suc row) h = option-replicate n o _ _ (omega arith)
 
 -- a column of one cell, again and again
 pub repeated_column : {T : Type 0} (kind : Kind) (cell : Option T → Cell) (n m : ℕ) (row : ℕ → Option T) (o : Option T) → n ≡ m → ((k : ℕ) → k < m → row k ≡ o) → column_with kind cell n row ≡ record { kind = kind; cells = replicate m (cell o) }
-repeated_column kind cell n m row o e same =
-    ap (λ k. column_with kind cell k row) e
-    ∙ ap (λ l. record { kind = kind; cells = l })
-    (range-same (λ k. cell (row k)) (λ k. cell o) 0 m (λ k le lt. ap cell (same k (omega arith))) ∙ range-replicate (λ k. cell o) (cell o) 0 m (λ k. refl))
+repeated_column _ cell n m row o e same = cc (range-same (λ k. cell (row k)) (λ k. cell o) 0 m (λ k le lt. ap cell (same k (omega arith))), range-replicate (λ k. cell o) (cell o) 0 m (λ k. refl))

@@ -71,9 +71,9 @@ pub total_made : {T : Type 0} (kind : Kind) (cell : Option T → Cell) (n m : �
 total_made kind cell n m w _ values present _ some e same is =
     is ∙ ap (λ k. column_with kind cell k (option_at values present)) same
     ∙ ap (λ l. record { kind = kind; cells = l })
-    (sym (map-map (option_at values present) cell (range_with_len 0 n))
+    (sym (map-map _ _ (range_with_len 0 n))
     ∙ ap (map cell) (search (same_ok, total-rows))
-    ∙ map-map w cell (range_with_len 0 n))
+    ∙ map-map w _ (range_with_len 0 n))
 
 -- a column with a row more
 pub pushed_column : {T : Type 0} (kind : Kind) (cell : Option T → Cell) (values : List T) (present : List Bool) (o : Option T) (values' : List T) (present' : List Bool) (c : Cell) → IsPushed values present o values' present' → cell o ≡ c
@@ -81,10 +81,10 @@ pub pushed_column : {T : Type 0} (kind : Kind) (cell : Option T → Cell) (value
 pushed_column kind cell values present o values' present' c pushed is =
     ap (λ k. column_with kind cell k (option_at values' present')) pushed.length_more
     ∙ ap (λ l. record { kind = kind; cells = l })
-    (cc (map-range_with_len_more (λ k. cell (option_at values' present' k)) 0 (length values) (length values) (omega arith), range-same (λ k. cell (option_at values' present' k)) (λ k. cell (option_at values present k)) 0 (length values) (λ k le lt. ap cell (pushed.before k (omega arith))), pushed.last))
+    (cc (map-range_with_len_more (λ k. cell (option_at values' present' k)) 0 (length values) (length values) (omega arith), range-same (λ k. cell (option_at values' present' k)) (λ k. cell (option_at values present k)) 0 (length values) (λ k le lt. grind arith), pushed.last))
 
 -- the same after a push that may be refused
 pub pushed_answer : {U E T : Type 0} (r : Result U E) (kind : Kind) (cell : Option T → Cell) (values : List T) (present : List Bool) (o : Option T) (values' : List T) (present' : List Bool) (c : Cell) (whole : CellColumn) → OnOk r (IsPushed values present o values' present')
     → cell o ≡ c → column_with kind cell (length values) (option_at values present) ≡ whole → OnOk r (column_with kind cell (length values') (option_at values' present') ≡ record { kind = whole.kind; cells = whole.cells ++ c ∷ [] })
-pushed_answer (Ok u) kind cell values present o values' present' c _ pushed is e = pushed_column kind cell values present o values' present' c pushed is ∙ ap (λ w. record { kind = w.kind; cells = w.cells ++ c ∷ [] }) e
+pushed_answer (Ok u) kind cell values present o values' present' c _ pushed is e = grind (arith, pushed_column kind cell values present o values' present' c pushed is)
 pushed_answer (Err x) _ _ _ _ o _ _ c _ pushed _ e = pushed

@@ -35,7 +35,7 @@ given-tabulate = grind (arith, length-tabulate, get_or-map-range_with_len)
 
 -- a column of values that need no dictionary
 pub given-plain : {U : Type 0} (texts : List (List ℕ)) (kind : Kind) (cell : Option U → Cell) (n : ℕ) (rows : ℕ → Option U) (col : CellColumn) → ((x : Option U) → IsGiven texts (cell x)) → col ≡ column_with kind cell n rows → AreGiven texts col.cells
-given-plain texts _ cell n rows _ plain e = rw e (given-tabulate texts n (λ k. cell (rows k)) (λ k lt. plain (rows k)))
+given-plain _ _ _ n rows _ plain e = rw e (given-tabulate _ n _ (λ k lt. plain (rows k)))
 
 -- each row of given cells is given
 pub given-row : (texts : List (List ℕ)) (n : ℕ) (f : ℕ → Cell) → AreGiven texts (tabulate n f) → (k : ℕ) → k < n → IsGiven texts (f k)

@@ -4,3 +4,4 @@ pub mod CellRows
 pub mod MoveLaws
 pub mod StrideLaws
 pub mod BlockLaws
+pub mod Hints

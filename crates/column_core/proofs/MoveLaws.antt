@@ -30,9 +30,8 @@ module _ {T : Type 0} (cell : Option T → Cell) (missing : cell None ≡ Na) (n
   -- picked rows are the taken cells
   pub taken_seen : (gaps : List (Option ℕ)) → All (IsPlaceOf n) gaps → tabulate (length gaps) (λ k. cell (picked_row row (gap_at gaps k))) ≡ taken Na (tabulate n (λ k. cell (row k))) gaps
   taken_seen gaps within =
-      let taken_from = gap_cell Na (tabulate n (λ k. cell (row k))) in
-      range-same (λ k. cell (picked_row row (gap_at gaps k))) (λ k. taken_from (gap_at gaps k)) 0 (length gaps) (λ k le lt. row_picked (gap_at gaps k) (within k None (omega arith)))
-      ∙ sym (fill_by_all (λ k. taken_from (gap_at gaps k)) (map taken_from gaps) (length gaps) Na (length-map gaps taken_from) (λ k lt. get_or-map taken_from gaps k None Na lt))
+      range-same _ _ 0 _ (λ k le lt. row_picked _ (within k None (omega arith)))
+      ∙ sym (fill_by_all _ (map _ gaps) _ Na (length-map gaps _) (λ k lt. get_or-map _ gaps k None Na lt))
 
 -- the cells of an answer
 pub if_ok_cells : {E : Type 0} (r : Result CellColumn E) (x : CellColumn) (ys : List Cell) → IfOk r (λ c. c ≡ x) → x.cells ≡ ys → IfOk r (λ c. c.cells ≡ ys)

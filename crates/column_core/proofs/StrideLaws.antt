@@ -1,9 +1,8 @@
 -- A step over rows that have a step.
 use Rattle.{
-  std.proofs.Common.{◌≡◌, ℕ, suc, ◌+◌, ◌-◌, ◌*◌, ◌<◌, ◌≤◌, ℤ, pos, negsuc, Bool, true, false, not, cond, sym, ap, ◌∙◌, arith, Option},
-  cell_core.specs.{declared.{cell.Cell.{Cell, TheVariants.{Na}}, grid.Rows.{Rows}}, Grids.{place_from, IsPlace, AreRowsBelow}},
-  meaning.specs.{Column.{tabulate}, Block.{strided}},
-  column_core.{specs.{Lanes.{LaneFits, lane_place}, Moves.{is_ahead, distance_of}}, proofs.{MoveLaws.{get_or-tabulate}, CellRows.{range-same}}},
+  std.proofs.Common.{◌≡◌, ℕ, suc, ◌+◌, ◌-◌, ◌*◌, ◌<◌, ◌≤◌, ℤ, pos, negsuc, Bool, true, false, not, cond, arith},
+  cell_core.specs.{declared.grid.Rows.{Rows}, Grids.{place_from, IsPlace, AreRowsBelow}},
+  column_core.specs.{Lanes.{LaneFits, lane_place}, Moves.{is_ahead, distance_of}},
 }
 
 -- the first place
@@ -33,7 +32,7 @@ pub fits_composed : (s stride : ℕ) (back : Bool) (n values flags : ℕ) → La
     → LaneFits (lane_place s stride back rows.start) (stride * distance_of rows.step) (cond (is_ahead rows.step) (not back) back) rows.count values flags
 fits_composed s stride back n _ _ fits rows below some = record {
   within = grind (arith, place_composed);
-  above = λ e row lt. not_below s stride back n rows.start rows.step row e (below.places row lt) (below.below row lt) (λ t k. fits.above t k);
+  above = λ e row lt. not_below s _ _ n _ _ _ e (below.places row lt) (below.below row lt) (λ t k. fits.above t k);
   alike = fits.alike;
 }
   where
@@ -53,7 +52,7 @@ fits_composed s stride back n _ _ fits rows below some = record {
 -- the stride isn't too long
 pub stride_small : (s stride : ℕ) (back : Bool) (n values flags limit : ℕ) → LaneFits s stride back n values flags → (rows : Rows) → AreRowsBelow rows n → 1 < rows.count → s < limit → values < limit
     → stride * distance_of rows.step < limit
-stride_small s stride back n values _ limit fits rows below two hs hv = small back rows.start rows.step (below.places 1 two) (below.below 1 two) (first_below rows n below (omega (arith, two))) fits.within fits.above
+stride_small s stride _ n values _ limit fits rows below two hs hv = small _ _ _ (below.places 1 two) (below.below 1 two) (first_below _ n below (omega (arith, two))) fits.within fits.above
   where
     small : (b : Bool) (start : ℕ) (step : ℤ) → IsPlace start step 1 → place_from start step 1 < n → start < n → ((k : ℕ) → k < n → lane_place s stride b k < values) → (b ≡ true → (k : ℕ) → k < n → k * stride ≤ s) → stride * distance_of step < limit
     small false start (pos m) is lt first within above =
@@ -78,12 +77,3 @@ stride_small s stride back n values _ limit fits rows below two hs hv = small ba
 -- one row by ones
 pub only_row : (s stride : ℕ) (back : Bool) (rows : Rows) (row : ℕ) → rows.count ≡ 1 → row < rows.count → lane_place (lane_place s stride back rows.start) 1 false row ≡ lane_place s stride back (place_from rows.start rows.step row)
 only_row = grind (arith, first_place)
-
--- rows at these places are the cells at these places
-pub strided_seen : {T : Type 0} (cell : Option T → Cell) (n : ℕ) (row : ℕ → Option T) (rows : Rows) (m : ℕ) (row' : ℕ → Option T) → AreRowsBelow rows n → m ≡ rows.count → ((k : ℕ) → k < rows.count → row' k ≡ row (place_from rows.start rows.step k))
-    → tabulate m (λ k. cell (row' k)) ≡ strided Na (tabulate n (λ k. cell (row k))) rows
-strided_seen cell n _ rows m row' below e same =
-    ap (λ c. tabulate c (λ k. cell (row' k))) e
-    ∙ range-same (λ k. cell (row' k)) _ 0 rows.count (λ k le lt.
-    let here : k < rows.count = omega arith in
-    ap cell (same k here) ∙ sym (grind (arith, get_or-tabulate)))

@@ -51,6 +51,7 @@ impl Column {
 
 impl Block {
     /// A block of so many columns and rows whose cells are all NA. `NoMemory` may come in place of it.
+    #[tactic(auto, using(crate::proofs::BlockLaws::blank_cells))]
     pub fn new(alloc: Global, kind: Kind, columns: usize, rows: usize) -> Result<Block, NoMemory>
         ensures { IfOk result (λ b. b
             ≡ record { kind = kind; rows = rows; columns = filled_with Na columns rows }) }
@@ -73,6 +74,7 @@ impl Block {
     }
 
     /// How many columns there are. Takes no memory.
+    #[tactic(auto, using(crate::proofs::BlockLaws::columns_of))]
     pub fn columns(&self) -> usize
         ensures { result ≡ length self.now.columns }
     {
@@ -87,6 +89,7 @@ impl Block {
     }
 
     /// Puts a cell, which the block's kind holds, in place of the one at a column and a row. Takes no memory.
+    #[tactic(auto, using(crate::proofs::Hints::put))]
     pub fn put(&mut self, column: usize, row: usize, cell: Cell)
         requires column { column < length self.old.columns }
         requires row { row < self.old.rows }
@@ -101,6 +104,7 @@ impl Block {
     }
 
     /// The cells of a column. Takes no memory.
+    #[tactic(auto, using(crate::proofs::Hints::column))]
     pub fn column(&self, column: usize) -> ColRef<'_>
         requires { column < length self.now.columns }
         ensures kind { result.kind ≡ self.now.kind }
@@ -116,6 +120,7 @@ impl Block {
     }
 
     /// The cells of a column at these rows, as `ColRef::strided` gives them. Takes no memory.
+    #[tactic(auto, using(std::proofs::lemmas::Option::get_or_from_slice_get))]
     pub fn strided(&self, column: usize, rows: Rows) -> ColRef<'_>
         requires column { column < length self.now.columns }
         requires rows { AreRowsBelow rows self.now.rows }

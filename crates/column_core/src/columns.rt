@@ -235,6 +235,7 @@ pub fn whole(lanes: &Kept) -> ColRef<'_>
     }
 }
 
+#[tactic(auto, using(crate::proofs::CellRows::pushed_answer))]
 fn push_kept(lanes: &mut Kept, cell: Cell) -> Result<(), NoMemory>
     requires { (texts : List (List ℕ)) →
         holds (kept_column lanes.old).kind (datum texts cell) ≡ true }

@@ -97,6 +97,7 @@ impl<T: Copy + Drop> Owned<T> {
     }
 
     /// The same value, or none, in so many rows.
+    #[tactic(auto, using(crate::proofs::Hints::filled))]
     pub fn filled(
         alloc: Global,
         blank: T,

@@ -185,6 +185,7 @@ fn picked<T: Value, A: Source<T>>(alloc: Global, a: &A, places: &Gaps) -> Result
 }
 
 /// Row i holds row i - `periods`, or NA where there is no such row.
+#[tactic(auto, using(crate::proofs::Hints::shift))]
 pub fn shift(alloc: Global, a: ColRef<'_>, periods: i64) -> Result<Column, NoMemory>
     ensures kind { IfOk result (λ c. c.kind ≡ a.entry.kind) }
     ensures cells { IfOk result (λ c. c.cells ≡ shifted Na a.entry.cells periods) }

@@ -18,7 +18,7 @@ module _ (texts : List (List ℕ)) where
   quotient_law = search division_law
 
   pub rest_law : (x y : Option ℤ) → task_cell Rest (datum texts (number_cell x)) (datum texts (number_cell y)) ≡ option_map (λ z. datum texts (number_cell z)) (division_row floor_rest x y)
-  rest_law x y = division_law floor_rest x y
+  rest_law x y = division_law _ x y
 
   pub not_law : (x : Option Bool) → datum texts (truth_cell (option_map not x)) ≡ invert_cell (datum texts (truth_cell x))
   not_law = grind arith

@@ -4,3 +4,4 @@ pub mod Scalars
 pub mod QuotientLaws
 pub mod MarkLaws
 pub mod RowLaws
+pub mod Hints

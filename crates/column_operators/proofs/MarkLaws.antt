@@ -17,15 +17,15 @@ mapped_column = grind (arith, range-same, map-map)
 pub if_mapped : {E T U : Type 0} (r : Result CellColumn E) (kind made_kind : Kind) (cell_of : Option T → Cell) (made_cell : Option U → Cell) (f : Cell → Cell) (made : Option T → Option U) (n : ℕ) (row : ℕ → Option T) (whole : CellColumn)
     → ((x : Option T) → made_cell (made x) ≡ f (cell_of x)) → column_with kind cell_of n row ≡ whole
     → IfOk r (λ c. c ≡ column_with made_kind made_cell n (λ k. made (row k))) → IfOk r (λ c. c ≡ record { kind = made_kind; cells = map f whole.cells })
-if_mapped (Ok c) kind made_kind cell_of made_cell f made n row whole law is e = e ∙ mapped_column kind made_kind cell_of made_cell f made n row whole law is
+if_mapped (Ok c) _ _ _ made_cell f _ n row _ law is e = e ∙ mapped_column _ _ _ made_cell f _ n row _ law is
 if_mapped (Err x) _ _ _ _ f _ n _ _ _ _ e = e
 
 -- the same where the kind stays
 pub if_kept : {E T : Type 0} (r : Result CellColumn E) (kind : Kind) (cell_of : Option T → Cell) (f : Cell → Cell) (made : Option T → Option T) (n : ℕ) (row : ℕ → Option T) (whole : CellColumn)
     → ((x : Option T) → cell_of (made x) ≡ f (cell_of x)) → column_with kind cell_of n row ≡ whole
     → IfOk r (λ c. c ≡ column_with kind cell_of n (λ k. made (row k))) → IfOk r (λ c. c ≡ record { kind = whole.kind; cells = map f whole.cells })
-if_kept (Ok c) kind cell_of f made n row whole law is e =
-    e ∙ mapped_column kind kind cell_of cell_of f made n row whole law is ∙ ap (λ (k : Kind). record { kind = k; cells = map f whole.cells }) (ap (λ (w : CellColumn). w.kind) is)
+if_kept (Ok c) kind cell_of f _ n row whole law is e =
+    e ∙ mapped_column _ _ _ cell_of f _ n row _ law is ∙ ap (λ (k : Kind). record { kind = k; cells = map f whole.cells }) (ap (λ (w : CellColumn). w.kind) is)
 if_kept (Err x) _ _ f _ n _ _ _ _ e = e
 
 number_eq : (z y : ℤ) → int_eq y z ≡ same_number (cell.Int z) (cell.Int y)

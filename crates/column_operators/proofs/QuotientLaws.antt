@@ -33,7 +33,7 @@ pub by_inverse : (n value inverse shift : ℕ) → n < 2 ^ 63 → 0 < value → 
 by_inverse n value _ _ small above inverts =
     let q = n / value in
     let r = n % value in
-    let whole : n ≡ q * value + r = sym (div-add-mod' n value) in
+    let whole : n ≡ q * value + r = sym (div-add-mod' n _) in
     search (mod_below, pow_pos, shifted_is, no_less, below_next)
 
 -- so many digits as the number below a divisor has make the least power of 2 that is no less than the divisor

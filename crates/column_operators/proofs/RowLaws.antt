@@ -1,8 +1,8 @@
 -- What an operator makes has as many rows as its operands.
 use Rattle.{
-  std.{proofs.{Common.{◌≡◌, ◌∙◌, ℕ, suc, Bool, true, false, List, [], ◌∷◌, length, map, sym, arith, Option, Result, Ok, Err}, lemmas.List.{length-map, length-replicate}}, specs.Prelude.{IfOk}},
+  std.{proofs.{Common.{◌≡◌, ◌∙◌, ℕ, suc, Bool, true, false, List, [], ◌∷◌, length, map, arith, Option, Result, Ok, Err}, lemmas.List.{length-map, length-replicate}}, specs.Prelude.{IfOk}},
   cell_core.specs.declared.cell.{Kind.{Kind}, Cell.{Cell}},
-  meaning.specs.{Text.{Text}, Cell.{CellValue, datum}, Column.{ColumnValue, try_pairs, then_rows, column_if, zero_division}, Operator.{operator_kind, operator_cell, binary_column, scalar_binary, scalar_column}, Symbol.{Binary}},
+  meaning.specs.{Text.{Text}, Cell.{CellValue, datum}, Column.{ColumnValue, try_pairs, then_rows, column_if, zero_division}, Operator.{binary_column, scalar_binary, scalar_column}, Symbol.{Binary}},
   nullable_array.specs.{Answers.{Answers}, declared.ops.ArrayFault.{ArrayFault}},
   column_core.specs.Columns.{CellColumn, column_value as cells_value},
 }
@@ -15,15 +15,15 @@ pairs_length f _ [] [] _ same is = search
 pairs_length f _ [] (y ∷ ys) _ same is = search
 pairs_length f _ (x ∷ xs) [] _ same is = search
 pairs_length f row (x ∷ xs) (y ∷ ys) zs same is =
-    one_more_row row (f x y) (try_pairs f (suc row) xs ys) zs xs (λ rest e. let less : length xs ≡ length ys = omega arith in pairs_length f (suc row) xs ys rest less e) is
+    one_more_row _ _ _ zs xs (λ rest e. let less : length xs ≡ length ys = omega arith in pairs_length f (suc row) xs ys rest less e) is
 
 column_length : (texts : List Text) (o : Option Kind) (n : ℕ) (r : Result (List CellValue) ℕ) (c : CellColumn) → ((zs : List CellValue) → r ≡ Ok zs → length zs ≡ n)
     → column_if o zero_division r ≡ Ok (cells_value texts c) → length c.cells ≡ n
 column_length = grind (arith, length-map)
 
 pub answer_length : (texts : List Text) (op : Binary) (x y : ColumnValue) (c : CellColumn) (n : ℕ) → length x.cells ≡ n → length y.cells ≡ n → Answers texts (Ok c) (binary_column op x y) → length c.cells ≡ n
-answer_length texts op x y c n e f is =
-    column_length texts (operator_kind op x.kind y.kind) n (try_pairs (operator_cell op) 0 x.cells y.cells) c (λ zs is. pairs_length (operator_cell op) 0 x.cells y.cells zs (e ∙ sym f) is ∙ e) is
+answer_length _ _ x y c n e f is =
+    column_length _ _ n _ c (λ zs is. grind (arith, pairs_length)) is
 
 made_rows : (texts : List Text) (op : Binary) (x y : ColumnValue) (n : ℕ) (result : Result CellColumn ArrayFault) → length x.cells ≡ n → length y.cells ≡ n → Answers texts result (binary_column op x y) → IfOk result (λ made. length made.cells ≡ n)
 made_rows _ _ x y n (Err fault) e f _ = tt
@@ -32,12 +32,12 @@ made_rows _ _ x y n (Ok made) e f answer = search answer_length
 -- the column that is made has as many rows as its operands
 pub column_rows : (old new : List Text) (op : Binary) (a b : CellColumn) (n : ℕ) (result : Result CellColumn ArrayFault) → length a.cells ≡ n → length b.cells ≡ n
     → Answers new result (binary_column op (cells_value old a) (cells_value old b)) → IfOk result (λ made. length made.cells ≡ n)
-column_rows old new op a b n result e f answer =
-    made_rows new op (cells_value old a) (cells_value old b) n result (length-map a.cells (datum old) ∙ e) (length-map b.cells (datum old) ∙ f) answer
+column_rows _ _ op a b n _ e f answer =
+    made_rows _ op _ _ n _ (length-map a.cells _ ∙ e) (length-map b.cells _ ∙ f) answer
 
 pub scalar_rows : (old new : List Text) (op : Binary) (a : CellColumn) (c : Cell) (left : Bool) (n : ℕ) (result : Result CellColumn ArrayFault) → length a.cells ≡ n
     → Answers new result (scalar_binary op (cells_value old a) (datum old c) left) → IfOk result (λ made. length made.cells ≡ n)
-scalar_rows old new op a c left n result e answer = go left answer
+scalar_rows old new op a c left n result e answer = go _ answer
   where
     seen : length (map (datum old) a.cells) ≡ n
     seen = search length-map
@@ -46,5 +46,5 @@ scalar_rows old new op a c left n result e answer = go left answer
     many = search (length-replicate, seen)
 
     go : (left : Bool) → Answers new result (scalar_binary op (cells_value old a) (datum old c) left) → IfOk result (λ made. length made.cells ≡ n)
-    go true h = made_rows new op (scalar_column (cells_value old a) (datum old c)) (cells_value old a) n result many seen h
-    go false h = made_rows new op (cells_value old a) (scalar_column (cells_value old a) (datum old c)) n result seen many h
+    go true h = made_rows _ op _ _ n _ many seen h
+    go false h = made_rows _ op _ _ n _ seen many h

@@ -1,19 +1,12 @@
 -- A scalar beside each cell of a column.
 use Rattle.{
-  std.{proofs.{Common.{arith, ◌≡◌, ℕ, zero, suc, ◌+◌, Bool, true, false, List, length, map, replicate, refl, sym, ap, ◌∙◌, ℤ, Option, Result}, lemmas.List.{length-map}}, specs.List.{range_with_len}},
-  cell_core.specs.declared.cell.{Cell.{Cell}, Kind.{Kind, TheVariants.{Int64, Boolean, Text as string}}, TextId.{TextId}},
+  std.{proofs.{Common.{arith, ◌≡◌, ℕ, zero, suc, ◌+◌, Bool, true, false, List, length, map, replicate, refl, sym, ap, ◌∙◌, Option, Result}, lemmas.List.{length-map}}, specs.List.{range_with_len}},
+  cell_core.specs.declared.cell.{Cell.{Cell}, Kind.{Kind, TheVariants.{Text as string}}, TextId.{TextId}},
   meaning.specs.{Cell.{CellValue, datum}, Column.{tabulate}, Operator.{scalar_kind, scalar_column}},
   nullable_array.specs.{declared.ops.ArrayFault.{ArrayFault}, Answers.{Answers}},
   column_operators.specs.{declared.ops.Task.{Task}, Tasks.{task_column, scalar_task}},
-  column_core.{specs.Columns.{CellColumn, column_value, column_with, number_cell, truth_cell, text_cell}, proofs.ColumnLaws.{length-tabulate}},
+  column_core.{specs.Columns.{CellColumn, column_value, column_with, text_cell}, proofs.ColumnLaws.{length-tabulate}},
 }
-
--- a present scalar and a missing one have the column's kind here
-pub number_kept : (texts : List (List ℕ)) (x : Option ℤ) → scalar_kind Int64 (datum texts (number_cell x)) ≡ Int64
-number_kept = grind arith
-
-pub truth_kept : (texts : List (List ℕ)) (x : Option Bool) → scalar_kind Boolean (datum texts (truth_cell x)) ≡ Boolean
-truth_kept = grind arith
 
 pub text_kept : (texts : List (List ℕ)) (x : Option TextId) → scalar_kind string (datum texts (text_cell x)) ≡ string
 text_kept = grind arith

@@ -20,6 +20,7 @@ pub(crate) struct Divisor {
 }
 
 impl Divisor {
+    #[tactic(auto, using(crate::proofs::QuotientLaws::least_power))]
     pub(crate) fn new(value: u64) -> Divisor
         requires above { 0 < value }
         requires below { value < 2 ^ 63 }
@@ -35,6 +36,7 @@ impl Divisor {
 
     /// The quotient of a dividend.
     #[inline(always)]
+    #[tactic(auto, using(crate::proofs::QuotientLaws::by_inverse))]
     fn quotient(&self, dividend: u64) -> u64
         requires { dividend < 2 ^ 63 }
         ensures { result ≡ dividend / self.now.value }

@@ -126,6 +126,7 @@ pub fn isin(alloc: Global, a: ColRef<'_>, values: &IndexSet<Cell>) -> Result<Col
     }
 }
 
+#[tactic(auto, using(crate::proofs::Hints::listed_numbers))]
 fn listed_numbers(
     alloc: Global,
     a: &Lane<'_, i64>,
@@ -146,6 +147,7 @@ fn listed_numbers(
     map_lane(alloc, &among, a)
 }
 
+#[tactic(auto, using(crate::proofs::MarkLaws::if_same_rows, crate::proofs::MarkLaws::truth_listed))]
 fn listed_truths(
     alloc: Global,
     a: &Lane<'_, bool>,

@@ -1,81 +1,323 @@
--- Parts one below the other are what is meant.
+-- Parts one below the other: their columns, and the table of them.
 use Rattle.{
-  std.{proofs.{Common.{◌≡◌, ◌∙◌, refl, ap, sym, arith, Bool, true, false, ◌&&◌, List, [], ◌∷◌, map, length, unwrap_or, Option, Result, Ok, Err, if◌then◌else◌}, lemmas.List.{length-map, Elements.{All-head, All-tail}}}, specs.Prelude.{slice_get}},
-  cell_core.specs.{Texts.{AreDistinct}, declared.{cell.{Cell.{Cell}, Kind.{Kind}, Label.{Label}}, grid.Shape.{Shape, TheVariants.{Series, Frame}}}},
-  meaning.specs.{Text.{Text}, Cell.{CellValue}, Fault.{FaultValue, wrong_kind, then_value}},
-  table_meaning.specs.{Settled.{IsSettled}, Table.{ColumnOf, NumberedTable, column_at, column_value, heading_value, table_value}, Valid.{IsWhole}},
-  form_meaning.specs.Finish.{try_all},
-  method_meaning.specs.Concat.{Concatenation, columns_below, column_or_missing, frame_column_below, table_below, finished_below},
-  frame_store.specs.{Shown.{headings_value, columns_value}, World.{IsKnownTable}},
+  concat_forms.{proofs.{PartLaws.{Parts, Headings, none_common, column_under_seen, kind_under_seen}, PlaceLaws.{map_given, each_of}, AxisLaws.{rows_count, levels_count}}, specs.{declared.{parts.{Sought.{Sought, TheVariants.{Only, Under}}, Naming.TheVariants.{Columns}}, asked.Asked.{Asked}}, Parts.{column_sought, parts_value, AreKnownParts, AreOf, name_at}, Columns.{kind_sought, fits_kind, kinds_meet, piece_from, piece_of, cells_or_missing, sought_by, stacked, columns_stacked, rows_in, all_kinds_meet}, Below.{columns_made, table_made}, Asked.{asked_value, keys_value, AreKeysFor}, Axes.{axis_seen, levels_for}}},
+  std.{proofs.{lemmas.{Option.{slice_get_within, get_or_from_slice_get, same_Some}, List.{length-map, length-replicate, map-append, take_more, Sums.{sum-map}, Elements.{All-tail, All-map, All-same, All-nil, All-replicate}, Quantifiers.{position-Some}, Concat.{length-flat_map}, Folds.{fold_stays}}, Bool.{and_right, Decides.{nat_tests}}, Simd.{map-map}}, Common.{sum, suc, zero, ◌≡◌, ◌∙◌, ◌<◌, ◌≤◌, ◌+◌, ◌^◌, refl, ap, sym, ℕ, true, false, ◌&&◌, List, [], ◌∷◌, ◌++◌, map, fold, take, length, replicate, unwrap_or, slice_index_or, All, Option, Some, None, Result, Ok, Err, nat_lt, if◌then◌else◌, arith, Bool, subst}}, specs.{Prelude.{slice_get, nat_le}, Option.{option_map}, List.{list_all, flat_map}}},
+  frame_store.{specs.{Shown.{Makes, columns_value, headings_value}, Parts.{table_column, HeadingList, columns_of, table_with, HaveRows}, World.{IsKnownTable}}, proofs.Settling.{columns_part, columns_given, columns_settled, table_settled}},
+  meaning.specs.{Cell.{na_cell, CellValue, datum, LabelValue}, Text.{Text}, Column.{ColumnValue}, Fault.{wrong_kind, FaultValue, then_value, limit}},
+  merge_concat.specs.{declared.parts.Part.{Part}, Parts.{part_column}},
+  cell_core.specs.{declared.{cell.{Cell.{Cell, TheVariants.{Na}}, Kind.{Kind}, Label.{Label}}, grid.Shape.{Shape, TheVariants.{Series, Frame}}}, Texts.{AreDistinct, AreGiven, IsGiven}},
+  column_core.specs.{Columns.{CellColumn, column_value as seen_column}, Blocks.{CellBlock}},
+  align_meaning.{specs.Joins.{most_rows}, proofs.OrderLaws.{all_flat}},
+  join_meaning.specs.Concat.{same_kind, column_below, column_within_limit, rows_concatenated, ConcatRefusal, too_large},
+  table_meaning.{specs.{Table.{ColumnOf, NumberedTable, column_value, column_at, heading_value, table_value, Table}, Valid.{IsWhole, AreHeadings}, Settled.{IsSettled}, Value.{Entry}}, proofs.KindLaws.{kind_itself}},
+  form_meaning.specs.{Finish.{missing_column, value_of_column, try_all, within_limits}, Infix.{common_name}},
+  form_parts.specs.Makes.{blocks_value},
+  method_meaning.specs.Concat.{columns_below, column_or_missing, frame_column_below, Concatenation, rows_below, table_below, finished_below, name_of_all},
   selections.proofs.HeadingLaws.{head_settled, rest_settled},
-  concat_forms.{specs.{declared.parts.Sought.TheVariants.{Only, Under}, Parts.{parts_value, AreKnownParts, AreOf}, Columns.{kind_sought, kinds_meet, all_kinds_meet, stacked, columns_stacked}, Below.{columns_made, table_made}}, proofs.{ColumnLaws.{seen_or, seen_in, columns_stacked_by}, TextLaws.{column_under_seen, kind_under_seen}}},
+  multi_index.specs.Axes.{AxisValue},
 }
 
--- a Series has one column
-only_column : (texts : List Text) (kind : Kind) (t : NumberedTable) → IsWhole t → t.shape ≡ Series → column_at (columns_value texts t.columns) 0 ≡ seen_or texts kind (slice_get t.columns 0) (length t.labels)
-only_column texts kind t whole series = go _ (sym whole.headed ∙ whole.headings.single series)
-  where
-    go : (cs : List (ColumnOf Cell)) → length cs ≡ 1 → column_at (columns_value texts cs) 0 ≡ seen_or texts kind (slice_get cs 0) (length t.labels)
-    go [] one = search
-    go (c ∷ cs) _ = refl
+abbrev stacked_seen : List Text → Sought → Parts → ColumnValue
+stacked_seen texts sought ts = record { kind = kind_sought sought ts; cells = map (datum texts) (flat_map (cells_or_missing sought) ts) }
 
 abbrev if_meet : {A : Type 0} → Bool → A → Result A FaultValue
 if_meet b a = if b then Ok a else Err wrong_kind
 
+abbrev cells_or : Option (ColumnOf Cell) → ℕ → List Cell
+cells_or o n = unwrap_or (option_map (λ c. c.cells) o) (replicate n Na)
+
 module _ (texts : List Text) where
-  only_columns : (kind : Kind) (ts : List NumberedTable) → AreKnownParts texts ts → AreOf Series ts → map (λ t. column_at t.columns 0) (parts_value texts ts) ≡ map (seen_in texts Only kind) ts
+  missing_seen : (n : ℕ) → map (datum texts) (replicate n Na) ≡ replicate n na_cell
+  missing_seen zero = refl
+  missing_seen (suc n) = cc (missing_seen n)
+
+  -- a part's column or missing cells, as the kernel takes it and with its texts
+  abbrev pub seen_or : Kind → Option (ColumnOf Cell) → ℕ → ColumnOf CellValue
+  seen_or kind o n = unwrap_or (option_map (column_value texts) o) (missing_column kind n)
+
+  cells_seen : (kind : Kind) (o : Option (ColumnOf Cell)) (n : ℕ) → (seen_or kind o n).cells ≡ map (datum texts) (cells_or o n)
+  cells_seen _ None n = sym (missing_seen n)
+  cells_seen _ (Some c) n = refl
+
+  kind_fits : (kind : Kind) (o : Option (ColumnOf Cell)) (n : ℕ) → same_kind kind (seen_or kind o n).kind ≡ fits_kind kind o
+  kind_fits = grind (arith, kind_itself)
+
+  -- what the kernel puts together is what is meant
+  piece_seen : (kind : Kind) (o : Option (ColumnOf Cell)) (n : ℕ) → seen_column texts (part_column kind (piece_from o n)) ≡ value_of_column (seen_or kind o n)
+  piece_seen _ None n = search missing_seen
+  piece_seen _ (Some c) n = refl
+
+  module _ (sought : Sought) where
+    abbrev pub seen_in : Kind → NumberedTable → ColumnOf CellValue
+    seen_in kind t = seen_or kind (column_sought sought t) (length t.labels)
+
+    pieces_seen : (kind : Kind) (ts : Parts) → map (λ part. seen_column texts (part_column kind part)) (map (piece_of sought) ts) ≡ map value_of_column (map (seen_in kind) ts)
+    pieces_seen _ [] = refl
+    pieces_seen kind (t ∷ ts) = search (piece_seen, pieces_seen kind ts)
+
+    all_cells : (kind : Kind) (ts : Parts) → flat_map (λ c. c.cells) (map value_of_column (map (seen_in kind) ts)) ≡ map (datum texts) (flat_map (cells_or_missing sought) ts)
+    all_cells _ [] = refl
+    all_cells kind (t ∷ ts) = search (cells_seen, map-append, all_cells kind ts)
+
+    -- the first part has the kind, and is of it
+    first_kind : (o : Option (ColumnOf Cell)) (n : ℕ) (rest : Kind) → (seen_or (unwrap_or (option_map (λ c. c.kind) o) rest) o n).kind ≡ unwrap_or (option_map (λ c. c.kind) o) rest
+    first_kind = grind arith
+
+    first_fits : (o : Option (ColumnOf Cell)) (rest : Kind) → fits_kind (unwrap_or (option_map (λ c. c.kind) o) rest) o ≡ true
+    first_fits = grind (arith, kind_itself)
+
+    others_fit : (kind : Kind) (ts : Parts) → list_all (λ other. same_kind kind other.kind) (map value_of_column (map (seen_in kind) ts)) ≡ list_all (λ t. fits_kind kind (column_sought sought t)) ts
+    others_fit _ [] = refl
+    others_fit kind (t ∷ ts) = search (kind_fits, others_fit kind ts)
+
+    put_together : (ts : Parts) → column_below (map value_of_column (map (seen_in (kind_sought sought ts)) ts)) ≡ (if kinds_meet ts sought then Some (stacked_seen texts sought ts) else None)
+    put_together [] = refl
+    put_together (t ∷ ts) =
+        let K = kind_sought sought (t ∷ ts) in
+        let o = column_sought sought t in
+        let n = length t.labels in
+        let first = first_kind o n _ in
+        let meet = ap (λ k. list_all (λ other. same_kind k other.kind) (map value_of_column (map (seen_in K) ts))) first ∙ others_fit K _ ∙ ap (λ b. b && list_all (λ s. fits_kind K (column_sought sought s)) ts) (sym (first_fits o _)) in
+        λ i. if meet i then Some record { kind = first i; cells = all_cells K (t ∷ ts) i } else None
+
+    -- the column that is meant, or columns of different kinds
+    columns_stacked_by : (ts : Parts) → columns_below (map (seen_in (kind_sought sought ts)) ts) ≡ if_meet (kinds_meet ts sought) (column_value texts (stacked ts sought))
+    columns_stacked_by ts = grind (arith, put_together ts)
+
+-- the columns that are sought are as long as their parts
+column_long : (sought : Sought) (t : NumberedTable) → IsWhole t → (o : Option (ColumnOf Cell)) → column_sought sought t ≡ o → length (cells_or o (length t.labels)) ≡ length t.labels
+column_long sought t fits None is = search length-replicate
+column_long Only t fits (Some c) is = rw (get_or_from_slice_get t.columns 0 c c is) at (fits.filled 0 c (slice_get_within t.columns 0 c is))
+column_long (Under h) t fits (Some c) is = grind (arith, position-Some, same_Some)
+
+lengths : (sought : Sought) (ts : Parts) → All IsWhole ts → length (flat_map (cells_or_missing sought) ts) ≡ rows_in ts
+lengths sought ts all =
+    length-flat_map _ ts
+    ∙ sym (sum-map (λ t. length (cells_or_missing sought t)) ts)
+    ∙ ap sum (map_given IsWhole (λ t. length (cells_or_missing sought t)) (λ t. length t.labels) (λ t fits. column_long sought t fits _ refl) ts all)
+    ∙ sum-map (λ t. length t.labels) ts
+
+few_enough : (n : ℕ) → n ≤ most_rows → nat_lt most_rows n ≡ false
+few_enough n le = grind (arith, nat_tests, le)
+
+-- columns of one kind and not too many cells are put together
+abbrev put_below : List Text → Kind → List Part → Result ColumnValue (ConcatRefusal (List Label))
+put_below texts kind pieces = rows_concatenated (map (λ part. seen_column texts (part_column kind part)) pieces)
+
+-- what the kernel makes of the parts' columns, and no refusal
+abbrev pub given : {A E : Type 0} → A → Result A E
+given a = Ok a
+
+ok_same : {A E : Type 0} (a b : A) → given {E = E} a ≡ given b → a ≡ b
+ok_same a b e = cc
+
+module _ (sought : Sought) (ts : Parts) (kind : Kind) (pieces : List Part) (meet : kinds_meet ts sought ≡ true) (all : All IsWhole ts) (few : rows_in ts ≤ 2 ^ 26) (same : kind ≡ kind_sought sought ts) (listed : pieces ≡ map (piece_of sought) ts) where
+  pub stacked_told : (texts : List Text) → put_below texts kind pieces ≡ Ok (stacked_seen texts sought ts)
+  stacked_told texts =
+      let made = stacked_seen texts sought ts in
+      let count : length made.cells ≡ rows_in ts = search (length-map, lengths) in
+      (λ i. put_below texts (same i) (listed i))
+      ∙ ap (λ cs. column_within_limit (column_below cs)) (pieces_seen _ _ made.kind ts)
+      ∙ ap (λ o. column_within_limit o) (put_together _ _ ts)
+      ∙ ap (λ b. column_within_limit (if b then Some made else None)) meet
+      ∙ ap (λ b. if b then Err too_large else Ok made) (ap (nat_lt most_rows) count ∙ few_enough _ few)
+
+  pub stacked_is : (texts : List Text) (column : CellColumn) → put_below texts kind pieces ≡ Ok (seen_column texts column) → column_value texts (table_column column) ≡ column_value texts (stacked ts sought)
+  stacked_is = grind (arith, ok_same, stacked_told)
+
+-- the column of one heading more
+pub one_more_stacked : (texts : List Text) (ts : Parts) (shape : Shape) (hs : Headings) (k : ℕ) (sought : Sought) (made made' : List CellBlock) (block : CellBlock) (column : CellColumn) → k < length hs
+    → sought ≡ sought_by shape (slice_index_or hs k None) → column_value texts (table_column column) ≡ column_value texts (stacked ts sought) → block ≡ record { kind = column.kind; rows = length column.cells; columns = column.cells ∷ [] } → made' ≡ made ++ block ∷ []
+    → blocks_value texts made ≡ columns_value texts (columns_stacked ts shape (take k hs)) → blocks_value texts made' ≡ columns_value texts (columns_stacked ts shape (take (k + 1) hs))
+one_more_stacked _ _ _ hs k _ _ _ _ _ lt = grind (arith, map-append, take_more hs k None lt)
+
+module _ (texts : List Text) where
+  -- a Series has one column
+  only_column : (kind : Kind) (t : NumberedTable) → IsWhole t → t.shape ≡ Series → column_at (columns_value texts t.columns) 0 ≡ seen_or texts kind (slice_get t.columns 0) (length t.labels)
+  only_column kind t whole series = go _ (sym whole.headed ∙ whole.headings.single series)
+    where
+      go : (cs : List (ColumnOf Cell)) → length cs ≡ 1 → column_at (columns_value texts cs) 0 ≡ seen_or texts kind (slice_get cs 0) (length t.labels)
+      go [] one = search
+      go (c ∷ cs) _ = refl
+
+  only_columns : (kind : Kind) (ts : Parts) → AreKnownParts texts ts → AreOf Series ts → map (λ t. column_at t.columns 0) (parts_value texts ts) ≡ map (seen_in texts Only kind) ts
   only_columns _ [] _ _ = refl
   only_columns kind (t ∷ ts) known series =
-      λ i. only_column texts kind t (All-head (IsKnownTable texts) t ts known).whole (All-head (λ t. t.shape ≡ Series) t ts series) i
+      λ i. only_column kind t (known 0 t (omega arith)).whole (series 0 t (omega arith)) i
       ∷ only_columns kind ts (All-tail (IsKnownTable texts) t _ known) (All-tail (λ t. t.shape ≡ Series) t _ series) i
 
   -- the column of Series
-  series_columns : (t : NumberedTable) (ts : List NumberedTable) → AreKnownParts texts (t ∷ ts) → AreOf Series (t ∷ ts)
-      → columns_below (map (λ t. column_at t.columns 0) (parts_value texts (t ∷ ts))) ≡ if_meet (kinds_meet (t ∷ ts) Only) (column_value texts (stacked (t ∷ ts) Only))
-  series_columns t ts known series = cc (only_columns (kind_sought Only (t ∷ ts)) (t ∷ ts) known series, columns_stacked_by texts Only t ts)
+  series_columns : (ts : Parts) → AreKnownParts texts ts → AreOf Series ts → columns_below (map (λ t. column_at t.columns 0) (parts_value texts ts)) ≡ if_meet (kinds_meet ts Only) (column_value texts (stacked ts Only))
+  series_columns ts known series = cc (only_columns (kind_sought Only ts) ts known series, columns_stacked_by texts Only ts)
 
   module _ (distinct : AreDistinct texts) where
-    part_of_frame : (h : Option Label) (kind : Kind) (t : NumberedTable) → IsSettled heading_value texts h → IsKnownTable texts t
-        → column_or_missing (heading_value texts h) kind (table_value texts t) ≡ seen_in texts (Under h) kind t
-    part_of_frame = grind (arith, unwrap_or, column_under_seen, length-map)
-
-    parts_of_frames : (h : Option Label) (kind : Kind) (ts : List NumberedTable) → IsSettled heading_value texts h → AreKnownParts texts ts → map (column_or_missing (heading_value texts h) kind) (parts_value texts ts) ≡ map (seen_in texts (Under h) kind) ts
-    parts_of_frames h _ [] _ _ = refl
-    parts_of_frames h kind (t ∷ ts) here known = λ i. part_of_frame h kind t here (All-head (IsKnownTable texts) t _ known) i ∷ parts_of_frames h kind ts here (All-tail (IsKnownTable texts) t _ known) i
-
     -- the column of a heading of frames
-    frame_column : (t : NumberedTable) (ts : List NumberedTable) (h : Option Label) → IsSettled heading_value texts h → AreKnownParts texts (t ∷ ts)
-        → frame_column_below (parts_value texts (t ∷ ts)) (heading_value texts h) ≡ if_meet (kinds_meet (t ∷ ts) (Under h)) (column_value texts (stacked (t ∷ ts) (Under h)))
-    frame_column t ts h here known =
-        (λ i. columns_below (map (column_or_missing (heading_value texts h) (kind_under_seen _ h (t ∷ ts) distinct here known i)) (parts_value texts (t ∷ ts))))
-        ∙ ap columns_below (parts_of_frames h _ (t ∷ ts) here known)
-        ∙ columns_stacked_by _ (Under h) t ts
+    module _ (h : Option Label) (here : IsSettled heading_value texts h) where
+      part_of_frame : (kind : Kind) (t : NumberedTable) → IsKnownTable texts t → column_or_missing (heading_value texts h) kind (table_value texts t) ≡ seen_in texts (Under h) kind t
+      part_of_frame = grind (arith, unwrap_or, column_under_seen, length-map)
+
+      frame_column : (ts : Parts) → AreKnownParts texts ts → frame_column_below (parts_value texts ts) (heading_value texts h) ≡ if_meet (kinds_meet ts (Under h)) (column_value texts (stacked ts (Under h)))
+      frame_column ts known =
+          (λ i. columns_below (map (column_or_missing (heading_value texts h) (kind_under_seen _ distinct h here ts known i)) (parts_value texts ts)))
+          ∙ ap columns_below (map-map _ (table_value texts) ts ∙ map_given (IsKnownTable texts) _ (seen_in texts (Under h) _) (part_of_frame _) ts known)
+          ∙ columns_stacked_by _ (Under h) ts
 
     both_meet : (a b : Bool) (c : ColumnOf CellValue) (cs : List (ColumnOf CellValue)) → then_value (if_meet a c) (λ y. then_value (if_meet b cs) (λ ys. Ok (y ∷ ys))) ≡ if_meet (a && b) (c ∷ cs)
     both_meet = grind arith
 
-    frame_columns : (t : NumberedTable) (ts : List NumberedTable) (hs : List (Option Label)) → IsSettled headings_value texts hs → AreKnownParts texts (t ∷ ts)
-        → try_all (frame_column_below (parts_value texts (t ∷ ts))) (headings_value texts hs) ≡ if_meet (all_kinds_meet (t ∷ ts) Frame hs) (columns_value texts (columns_stacked (t ∷ ts) Frame hs))
-    frame_columns t _ [] _ _ = refl
-    frame_columns t ts (h ∷ hs) settled known = search (frame_column, head_settled, rest_settled, both_meet, frame_columns t ts hs (rest_settled heading_value texts h _ settled) known)
+    frame_columns : (ts : Parts) (hs : Headings) → IsSettled headings_value texts hs → AreKnownParts texts ts → try_all (frame_column_below (parts_value texts ts)) (headings_value texts hs) ≡ if_meet (all_kinds_meet ts Frame hs) (columns_value texts (columns_stacked ts Frame hs))
+    frame_columns _ [] _ _ = refl
+    frame_columns ts (h ∷ hs) settled known = search (frame_column, head_settled, rest_settled, both_meet, frame_columns ts hs (rest_settled heading_value texts h _ settled) known)
 
     one_meets : (b : Bool) (c : ColumnOf CellValue) → then_value (if_meet b c) (λ column. Ok (column ∷ [])) ≡ if_meet (b && true) (c ∷ [])
     one_meets = grind arith
 
     -- the columns that are meant, or kinds that don't meet
-    pub columns_meant : (shape : Shape) (t : NumberedTable) (ts : List NumberedTable) (hs : List (Option Label)) → AreOf shape (t ∷ ts) → (shape ≡ Series → length hs ≡ 1) → IsSettled headings_value texts hs → AreKnownParts texts (t ∷ ts)
-        → columns_made shape (parts_value texts (t ∷ ts)) (headings_value texts hs) ≡ if_meet (all_kinds_meet (t ∷ ts) shape hs) (columns_value texts (columns_stacked (t ∷ ts) shape hs))
-    columns_meant Frame t _ _ = search frame_columns
-    columns_meant Series t _ [] = grind arith
-    columns_meant Series t _ (h ∷ g ∷ hs) = grind arith
-    columns_meant Series t _ (h ∷ []) = search (series_columns, one_meets)
+    columns_meant : (shape : Shape) (parts : Parts) (hs : Headings) → AreOf shape parts → (shape ≡ Series → length hs ≡ 1) → IsSettled headings_value texts hs → AreKnownParts texts parts
+        → columns_made shape (parts_value texts parts) (headings_value texts hs) ≡ if_meet (all_kinds_meet parts shape hs) (columns_value texts (columns_stacked parts shape hs))
+    columns_meant Frame _ _ = search frame_columns
+    columns_meant Series _ [] = grind arith
+    columns_meant Series _ (h ∷ g ∷ hs) = grind arith
+    columns_meant Series _ (h ∷ []) = search (series_columns, one_meets)
 
-    -- tables of columns that meet, and of such that don't
-    pub made_of_columns : (shape : Shape) (t : NumberedTable) (ts : List NumberedTable) (c : Concatenation) (hs : List (Option Label)) → AreOf shape (t ∷ ts) → (shape ≡ Series → length hs ≡ 1) → IsSettled headings_value texts hs → AreKnownParts texts (t ∷ ts)
-        → all_kinds_meet (t ∷ ts) shape hs ≡ true
-        → table_made shape (parts_value texts (t ∷ ts)) c (headings_value texts hs) ≡ finished_below (table_below shape (parts_value texts (t ∷ ts)) c (headings_value texts hs) (columns_value texts (columns_stacked (t ∷ ts) shape hs)))
-    made_of_columns = grind (arith, columns_meant)
+-- the cells that are put together were given
+abbrev IsGivenColumn : List Text → ColumnOf Cell → Type 0
+IsGivenColumn texts c = AreGiven texts c.cells
 
-    pub made_of_none : (shape : Shape) (t : NumberedTable) (ts : List NumberedTable) (c : Concatenation) (hs : List (Option Label)) → AreOf shape (t ∷ ts) → (shape ≡ Series → length hs ≡ 1) → IsSettled headings_value texts hs → AreKnownParts texts (t ∷ ts)
-        → all_kinds_meet (t ∷ ts) shape hs ≡ false → table_made shape (parts_value texts (t ∷ ts)) c (headings_value texts hs) ≡ Err wrong_kind
-    made_of_none = grind (arith, columns_meant)
+abbrev cells_given_or : List Text → Option (ColumnOf Cell) → ℕ → Type 0
+cells_given_or texts o n = AreGiven texts (unwrap_or (option_map (λ c. c.cells) o) (replicate n Na))
+
+module _ (texts : List Text) where
+  first_given : (cs : List (ColumnOf Cell)) (n : ℕ) → All (IsGivenColumn texts) cs → cells_given_or texts (slice_get cs 0) n
+  first_given [] n _ = All-replicate (IsGiven texts) n Na tt
+  first_given (c ∷ cs) n all = all 0 c (omega arith)
+
+  index_given : (cs : List (ColumnOf Cell)) (k : ℕ) → All (IsGivenColumn texts) cs → IsGivenColumn texts (column_at cs k)
+  index_given [] k _ = All-nil _
+  index_given (c ∷ cs) zero all = all 0 c (omega arith)
+  index_given (c ∷ cs) (suc k) all = index_given cs k (All-tail (IsGivenColumn texts) c _ all)
+
+  part_given : (sought : Sought) (t : NumberedTable) → IsKnownTable texts t → AreGiven texts (cells_or_missing sought t)
+  part_given Only t known = search (first_given, columns_given, columns_part)
+  part_given (Under h) t known = go _
+    where
+      go : (p : Option ℕ) → cells_given_or texts (option_map (column_at t.columns) p) (length t.labels)
+      go None = All-replicate (IsGiven texts) _ _ tt
+      go (Some k) = search (index_given, columns_given, columns_part)
+
+-- blocks of the columns of all headings
+abbrev pub AreStacked : Parts → Shape → Headings → List CellBlock → Type 0
+AreStacked parts shape hs blocks = (texts : List Text) → blocks_value texts blocks ≡ columns_value texts (columns_stacked parts shape hs)
+
+module _ (parts : Parts) (shape : Shape) (hs : Headings) (blocks : List CellBlock) (made : AreStacked parts shape hs blocks) where
+  abbrev of_heading : Option Label → ColumnOf Cell
+  of_heading h = stacked parts (sought_by shape h)
+
+  blocks_given : (texts : List Text) → AreKnownParts texts parts → IsSettled columns_value texts (columns_of blocks)
+  blocks_given texts known = λ more.
+      made _
+      ∙ columns_settled _ _ (All-map (IsGivenColumn texts) of_heading hs (λ k d lt. all_flat (IsGiven texts) (IsKnownTable texts) _ (part_given texts _) parts known)) more
+      ∙ sym (made _)
+
+  abbrev IsLong : ColumnOf CellValue → Type 0
+  IsLong c = length c.cells ≡ rows_in parts
+
+  blocks_filled : All IsWhole parts → HaveRows (rows_in parts) (columns_of blocks)
+  blocks_filled whole = λ k d lt.
+      sym (length-map _ (datum []))
+      ∙ each_of IsLong (column_value []) (columns_of blocks) (All-same IsLong _ _ (made []) (All-map IsLong _ _ (All-map (λ c. IsLong (column_value [] c)) _ _ (λ k d lt. length-map _ _ ∙ lengths _ parts whole)))) k d lt
+
+  blocks_count : length hs ≡ length (columns_of blocks)
+  blocks_count = cc (length-map hs of_heading, length-map (columns_stacked parts shape hs) (column_value []), made [], length-map (columns_of blocks) (column_value []))
+
+-- the columns of Series have no name
+unnamed : (texts : List Text) (name : Option Label) → heading_value texts name ≡ None → name ≡ None
+unnamed = grind arith
+
+series_nameless : (texts : List Text) (ts : Parts) (name : Option Label) → AreOf Series ts → AreKnownParts texts ts → heading_value texts name ≡ name_of_all (map (name_at Columns) (parts_value texts ts)) → name ≡ None
+series_nameless _ [] _ _ _ is = unnamed _ _ is
+series_nameless texts (t ∷ ts) _ series known is =
+    let first = (known 0 t (omega arith)).whole.headings.nameless (series 0 t (omega arith)) in
+    let others = map (name_at Columns) (parts_value texts ts) in
+    unnamed _ _ (is ∙ ap (λ n. fold common_name (heading_value texts n) others) first ∙ fold_stays common_name None none_common others)
+
+-- tests of how many there are
+above : (n m : ℕ) → m < n → nat_le n m ≡ false
+above n m lt = grind (arith, nat_tests, lt)
+
+below_it : (n m : ℕ) → n ≤ m → nat_le n m ≡ true
+below_it n m le = grind (arith, nat_tests, le)
+
+pub many_rows : (n m : ℕ) → 2 ^ 26 < n → within_limits n m ≡ false
+many_rows = search above
+
+-- the new table
+module _ (texts : List Text) (shape : Shape) (parts : Parts) (hs : Headings) (name : Option Label) (axis : AxisValue) (headings : HeadingList) (blocks : List CellBlock) (known : AreKnownParts texts parts) (headed : headings ≡ record { columns_name = name; labels = hs })
+    (filled : AreStacked parts shape hs blocks) where
+  abbrev new_table : NumberedTable
+  new_table = table_with shape axis headings (columns_of blocks)
+
+  table_given : IsSettled heading_value texts name → IsSettled axis_seen texts axis → IsSettled headings_value texts hs → IsSettled table_value texts new_table
+  table_given named rowed settled =
+      rw headed (table_settled _ _ named (λ more. ap (λ a. a.names) (rowed more)) (λ more. ap (λ a. a.labels) (rowed more)) settled (blocks_given _ _ _ _ filled _ known))
+
+  pub table_whole : AreOf shape parts → AreHeadings shape None hs → heading_value texts name ≡ name_of_all (map (name_at Columns) (parts_value texts parts)) → length axis.tuples ≡ rows_in parts → IsWhole new_table
+  table_whole of fits named count =
+      rw headed (record {
+        headed = blocks_count parts shape hs blocks filled;
+        filled = rw count (blocks_filled parts shape hs blocks filled (λ k d lt. (known k d lt).whole));
+        headings = record { single = fits.single; nameless = λ series. series_nameless _ _ _ (subst (λ s. AreOf s parts) series of) known named; labelled = fits.labelled; different = fits.different };
+      })
+
+-- what is meant by parts one below the other
+module _ (texts : List Text) (distinct : AreDistinct texts) (shape : Shape) (asked : Asked) (hs : Headings) (one : shape ≡ Series → length hs ≡ 1) (settled : IsSettled headings_value texts hs)
+    (parts : Parts) (some : 0 < length parts) (of : AreOf shape parts) (known : AreKnownParts texts parts) (fit : AreKeysFor (length parts) asked) where
+  abbrev T : List Table
+  T = parts_value texts parts
+
+  abbrev C : Concatenation
+  C = asked_value texts asked
+
+  abbrev H : List (Option LabelValue)
+  H = headings_value texts hs
+
+  abbrev told : Result Entry FaultValue
+  told = table_made shape T C H
+
+  abbrev made : Table
+  made = table_below shape T C H (columns_value texts (columns_stacked parts shape hs))
+
+  pub none_of_parts : all_kinds_meet parts shape hs ≡ false → told ≡ Err wrong_kind
+  none_of_parts = grind (arith, columns_meant)
+
+  module _ (meet : all_kinds_meet parts shape hs ≡ true) where
+    meant : told ≡ finished_below made
+    meant = grind (arith, columns_meant)
+
+    rows : length made.labels ≡ rows_in parts
+    rows = search rows_count
+
+    columns : length made.columns ≡ length hs
+    columns = search length-map
+
+    abbrev refused : Result Entry FaultValue
+    refused = Err limit
+
+    either_limit : (b : Bool) → (if b then refused else refused) ≡ refused
+    either_limit = grind arith
+
+    pub beyond_of_parts : within_limits (rows_in parts) (length hs) ≡ false → told ≡ Err limit
+    beyond_of_parts = grind (arith, meant, rows, columns, either_limit)
+
+    module _ (t : NumberedTable) (at : t ≡ slice_index_or parts 0 t) where
+      levels : length made.level_names ≡ levels_for (length t.level_names) asked
+      levels = levels_count _ asked.renumbered asked.keys parts t some at
+
+      pub levels_of_parts : 4 < levels_for (length t.level_names) asked → told ≡ Err limit
+      levels_of_parts = grind (arith, and_right, above, levels, meant)
+
+      pub table_is : (new : NumberedTable) (name : Option Label) (axis : AxisValue) (headings : HeadingList) (blocks : List CellBlock) → within_limits (rows_in parts) (length hs) ≡ true → 1 ≤ levels_for (length t.level_names) asked → levels_for (length t.level_names) asked ≤ 4
+          → heading_value texts name ≡ name_of_all (map (name_at Columns) T) → IsSettled heading_value texts name → axis_seen texts axis ≡ rows_below asked.renumbered (keys_value texts asked.keys) T → IsSettled axis_seen texts axis
+          → headings ≡ record { columns_name = name; labels = hs } → AreStacked parts shape hs blocks → new ≡ table_with shape axis headings (columns_of blocks) → Makes texts (Ok new) told
+      table_is new name axis headings blocks within least few named name_given rowed axis_given headed filled is =
+          (grind (arith, below_it, levels, meant, rows, columns), rw is (table_given _ shape parts hs name _ _ blocks known headed filled name_given axis_given settled))

@@ -1,16 +1,8 @@
 pub mod PartLaws
 pub mod SeenLaws
-pub mod HeadingLaws
-pub mod ColumnLaws
-pub mod TextLaws
 pub mod BelowLaws
-pub mod NameLaws
 pub mod BesideLaws
 pub mod PlaceLaws
 pub mod AxisLaws
-pub mod TableLaws
-pub mod FrameLaws
-pub mod PartLists
-pub mod KindLaws
-pub mod MetLaws
 pub mod CallingLaws
+pub mod Hints

@@ -1,31 +1,207 @@
--- Parts and their headings.
+-- Parts: their headings, columns and names, by numbers as with their texts, and the objects of a list as parts.
 use Rattle.{
-  std.{proofs.{Common.{◌≡◌, ◌<◌, ◌≤◌, ◌+◌, refl, sym, ℕ, zero, suc, Bool, true, false, List, [], ◌∷◌, length, take, slice_index_or, Option, None, arith, rules}, lemmas.{Bool.{or_from}, List.{take_more}}}, specs.{Prelude.{◌≢◌, AllPairs}, List.{list_any}}},
+  std.{proofs.{Common.{sym, ◌≡◌, ◌<◌, ◌+◌, refl, ℕ, suc, Bool, true, false, List, [], ◌∷◌, length, take, slice_index_or, Option, None, arith, ◌++◌, ◌∙◌, ap, not, cond, map, unwrap_or, All, ◌≤◌, ◌-◌, subst, zero, fold, drop, slice_set, nat_eq, Some}, lemmas.{List.{take_more, get_or-take, length-take-le, length-map, map-append, append_assoc, take_more_set, drop_more, Folds.{list_any_none, list_all-map, flat_map-map}, Elements.{All-from_get_or, All-map, filter_passes, All-tail, filter_agree, All-push}, Kept.{AllPairs-filter, AllPairs-cons}, FromFn.{map-range_with_len_more}}, Simd.{map-map}}, Math.Seq.{drop-cons}}, specs.{Prelude.{◌≢◌, AllPairs, position, IsSome, IfSome}, List.{list_any, position_or_len, range_with_len, list_all, flat_map}, Option.{option_map}}},
+  selections.proofs.{PlaceLaws.{heading_settled, heading_seen}, HeadingLaws.{heading_decides, same_seen, head_settled, rest_settled}, AnswerLaws.{column_seen}, PickedLaws.{list_is}},
   indexmap.specs.IndexSet.{insert_key},
-  cell_core.specs.declared.cell.Label.{Label},
-  selections.proofs.HeadingLaws.{heading_decides},
-  concat_forms.specs.Parts.{same_heading},
+  cell_core.specs.{declared.{cell.Label.{Label}, grid.Shape.TheVariants.{Frame}}, Texts.{AreDistinct}},
+  concat_forms.{specs.{Parts.{same_heading, column_sought, parts_value, headings_of_each, AreKnownParts, name_at, have_same_levels, AreOf, AreSettledParts}, declared.parts.{Sought.TheVariants.{Under}, Naming.{Naming, TheVariants.{Columns, Level, Series}}}, Columns.{kind_sought}, Axes.{names_of_levels}, Headings.{common_headings}}, proofs.{PlaceLaws.{map_given, rest_of}, SeenLaws.{united_seen, united_all}}},
+  method_meaning.specs.Concat.{labels_of_tables, column_under, kind_under, kept_names, level_names_of_all, name_of_all, tables_from, tables_of},
+  table_meaning.specs.{Table.{tuple_value, column_at, NumberedTable, column_value, heading_value, table_value, Table}, Settled.{IsSettled}, Valid.{AreHeadings, IsWhole}, Value.{object_in, GivenList}},
+  frame_store.{specs.{Shown.{columns_value, headings_value}, World.{IsKnownTable}, Arguments.{item_of, items_of, AreLiveItems, IsLiveItem, IsLiveObject}, Objects.{Tables}, declared.{arguments.Item.{Item}, object.ObjId.{ObjId}}}, proofs.Settling.{headings_part, columns_name_part, level_names_part, object_settled}},
+  meaning.specs.{Text.{Text}, Reduce.{distinct}, Cell.{LabelValue}},
+  join_meaning.specs.Concat.{united},
+  form_meaning.specs.Infix.{common_name},
 }
+use Rattle.form_meaning.specs.Finish as finish
+use Rattle.method_meaning.specs.Concat as meant
 
 -- a heading that isn't among those before it
-pub not_before : (h : Option Label) (hs : List (Option Label)) → ((k : ℕ) → k < length hs → slice_index_or hs k None ≢ h) → list_any (same_heading h) hs ≡ false
-not_before h [] _ = refl
-not_before h (g ∷ gs) apart =
-    or_from _ _ (go _ refl) (not_before h gs (λ k lt. apart (suc k) (omega (arith, lt))))
-  where
-    go : (b : Bool) → same_heading h g ≡ b → b ≡ false
-    go true e = absurd (apart 0 (omega arith) (sym ((heading_decides h g).0 e)))
-    go false e = refl
-
-taken_index : (hs : List (Option Label)) (n k : ℕ) → k < n → n ≤ length hs → slice_index_or (take n hs) k None ≡ slice_index_or hs k None
-taken_index [] n k lt le = grind arith
-taken_index (h ∷ hs) zero k lt le = grind arith
-taken_index (h ∷ hs) (suc n) zero _ _ = refl
-taken_index (h ∷ hs) (suc n) (suc k) lt le = taken_index hs n k (omega (arith, lt)) (omega (arith, le))
-
-length_taken : {A : Type 0} (xs : List A) (n : ℕ) → n ≤ length xs → length (take n xs) ≡ n
-length_taken = search rules
+not_before : (h : Option Label) (hs : List (Option Label)) → ((k : ℕ) → k < length hs → slice_index_or hs k None ≢ h) → list_any (same_heading h) hs ≡ false
+not_before h hs apart = list_any_none (same_heading h) hs (All-from_get_or (λ g. same_heading h g ≡ false) hs None (λ k lt. grind (arith, heading_decides, apart k lt)))
 
 pub one_more_heading : (hs keys keys' : List (Option Label)) (place : ℕ) (h : Option Label) → AllPairs (λ a b. a ≢ b) hs → place < length hs → h ≡ slice_index_or hs place None
     → keys ≡ take place hs → keys' ≡ insert_key same_heading keys h → keys' ≡ take (place + 1) hs
-one_more_heading = grind (arith, length_taken, taken_index, not_before, take_more)
+one_more_heading = grind (arith, length-take-le, get_or-take, not_before, take_more)
+
+fused : {A B C : Type 0} (f : B → C) (g : A → B) (o : Option A) → option_map f (option_map g o) ≡ option_map (λ x. f (g x)) o
+fused = grind arith
+
+-- the parts with their texts, which were given
+pub parts_settled : (texts : List Text) (parts : List NumberedTable) → AreKnownParts texts parts → IsSettled parts_value texts parts
+parts_settled texts parts known = λ more. map_given (IsKnownTable texts) _ _ (λ t here. here.given more) parts known
+
+module _ (texts : List Text) where
+  -- each heading of parts whose texts were given
+  each_heading : (hs : List (Option Label)) → IsSettled headings_value texts hs → All (IsSettled heading_value texts) hs
+  each_heading hs settled = All-from_get_or (IsSettled heading_value texts) hs None (λ k lt. heading_settled _ hs k _ refl settled)
+
+  headings_each : (parts : List NumberedTable) → AreKnownParts texts parts → All (All (IsSettled heading_value texts)) (headings_of_each parts)
+  headings_each parts known = All-map (All (IsSettled heading_value texts)) _ _ (λ k d lt. each_heading _ (headings_part _ (slice_index_or parts k d) (known k d lt).given))
+
+  each_seen : (parts : List NumberedTable) → headings_of_each (parts_value texts parts) ≡ map (map (heading_value texts)) (headings_of_each parts)
+  each_seen parts = simp map-map
+
+  -- the headings of all parts, and that their texts were given
+  pub headings_united : (inner : Bool) (parts : List NumberedTable) → AreDistinct texts → AreKnownParts texts parts
+      → headings_value texts (united same_heading inner (headings_of_each parts)) ≡ united finish.same_heading inner (headings_of_each (parts_value texts parts))
+  headings_united inner parts distinct known = rw (each_seen parts) (sym (united_seen _ _ (headings_each _ known) _ _ _ (λ x y f g. sym (same_seen _ x y distinct f g)) _))
+
+  pub united_given : (inner : Bool) (parts : List NumberedTable) → AreKnownParts texts parts → IsSettled headings_value texts (united same_heading inner (headings_of_each parts))
+  united_given _ _ known = λ more. map_given (IsSettled heading_value texts) _ _ (λ h here. here more) _ (united_all (IsSettled heading_value texts) _ (headings_each _ known) _ _)
+
+  -- the column of a heading in a part
+  module _ (distinct : AreDistinct texts) (h : Option Label) (here : IsSettled heading_value texts h) where
+    place_seen : (hs : List (Option Label)) → IsSettled headings_value texts hs → position_or_len (finish.same_heading (heading_value texts h)) (headings_value texts hs) ≡ position_or_len (same_heading h) hs
+    place_seen [] _ = refl
+    place_seen (g ∷ gs) settled =
+        λ i. cond (not (sym (same_seen _ h g distinct here (head_settled heading_value _ g gs settled)) i)) (1 + place_seen gs (rest_settled heading_value _ g _ settled) i) 0
+
+    position_seen : (hs : List (Option Label)) → IsSettled headings_value texts hs → position (finish.same_heading (heading_value texts h)) (headings_value texts hs) ≡ position (same_heading h) hs
+    position_seen = search (place_seen, length-map)
+
+    pub column_under_seen : (t : NumberedTable) → IsKnownTable texts t → column_under (heading_value texts h) (table_value texts t) ≡ option_map (column_value texts) (column_sought (Under h) t)
+    column_under_seen t known =
+        ap (option_map (column_at (columns_value texts t.columns))) (position_seen _ (headings_part _ t known.given))
+        ∙ (λ i. option_map (λ k. column_seen texts t.columns k i) (position (same_heading h) t.headings))
+        ∙ sym (fused (column_value texts) (column_at t.columns) _)
+
+    pub kind_under_seen : (parts : List NumberedTable) → AreKnownParts texts parts → kind_under (heading_value texts h) (parts_value texts parts) ≡ kind_sought (Under h) parts
+    kind_under_seen [] _ = refl
+    kind_under_seen (t ∷ ts) known =
+        λ i. unwrap_or ((ap (option_map (λ c. c.kind)) (column_under_seen t (known 0 t (omega arith))) ∙ fused _ (column_value texts) _) i) (kind_under_seen ts (All-tail (IsKnownTable texts) t _ known) i)
+
+-- labels of several parts by their numbers, and by their texts
+abbrev pub numbered_labels : List NumberedTable → List (List (List Label))
+numbered_labels parts = map (λ t. t.labels) parts
+
+pub labels_each : (texts : List Text) (parts : List NumberedTable) → labels_of_tables (parts_value texts parts) ≡ map (map (tuple_value texts)) (numbered_labels parts)
+labels_each texts parts = simp map-map
+
+-- headings that differ
+distinct_apart : (xs : List (Option Label)) → AllPairs (λ a b. a ≢ b) (distinct same_heading xs)
+distinct_apart [] = grind arith
+distinct_apart (x ∷ xs) = AllPairs-cons (λ a b. a ≢ b) x _ (grind (arith, heading_decides, filter_passes)) (AllPairs-filter (λ a b. a ≢ b) (λ d. not (same_heading d x)) _ (distinct_apart xs))
+
+united_apart : (inner : Bool) (parts : List NumberedTable) → All (λ t. AllPairs (λ a b. a ≢ b) t.headings) parts → AllPairs (λ a b. a ≢ b) (united same_heading inner (headings_of_each parts))
+united_apart true [] apart = grind arith
+united_apart false [] apart = grind arith
+united_apart true (t ∷ ts) apart = AllPairs-filter (λ a b. a ≢ b) _ _ (apart 0 t (omega arith))
+united_apart false (t ∷ ts) _ = distinct_apart _
+
+-- the names of levels, one by one
+pub none_common : (b : Option LabelValue) → common_name None b ≡ None
+none_common = grind arith
+
+kept_index : (as' bs : List (Option LabelValue)) (k : ℕ) → slice_index_or (kept_names as' bs) k None ≡ common_name (slice_index_or as' k None) (slice_index_or bs k None)
+kept_index [] _ k = sym (none_common _)
+kept_index (a ∷ as') [] zero = grind arith
+kept_index (a ∷ as') [] (suc k) = kept_index as' [] k
+kept_index (a ∷ as') (b ∷ bs) zero = refl
+kept_index (a ∷ as') (b ∷ bs) (suc k) = kept_index as' bs k
+
+kept_count : (as' bs : List (Option LabelValue)) → length (kept_names as' bs) ≡ length as'
+kept_count [] _ = refl
+kept_count (a ∷ as') [] = ap suc (kept_count as' [])
+kept_count (a ∷ as') (b ∷ bs) = ap suc (kept_count as' bs)
+
+all_names : (names : List (Option LabelValue)) → names ≡ map (λ k. slice_index_or names k None) (range_with_len 0 (length names))
+all_names names = sym (list_is (λ k. slice_index_or names k None) names 0 None (λ k lt. grind arith))
+
+all_kept : (names : List (Option LabelValue)) (lists : List (List (Option LabelValue)))
+    → fold kept_names names lists ≡ map (λ k. fold common_name (slice_index_or names k None) (map (λ l. slice_index_or l k None) lists)) (range_with_len 0 (length names))
+all_kept _ [] = all_names _
+all_kept names (list ∷ lists) = search (kept_index, kept_count, all_kept (kept_names names list) lists)
+
+pub level_names_by : (t : Table) (ts : List Table) → level_names_of_all (t ∷ ts) ≡ names_of_levels (length t.level_names) (t ∷ ts)
+level_names_by t ts = rw all_kept (simp map-map)
+
+-- a part of several, and its names, whose texts were given
+module _ (texts : List Text) where
+  pub item_known : (parts : List NumberedTable) (k : ℕ) (t : NumberedTable) → AreKnownParts texts parts → k < length parts → t ≡ slice_index_or parts k t → IsKnownTable texts t
+  item_known _ k t known lt at = subst (IsKnownTable texts) (sym at) (known k t lt)
+
+  pub name_given : (which : Naming) (t : NumberedTable) → IsKnownTable texts t → IsSettled heading_value texts (name_at which t)
+  name_given Columns t known = search columns_name_part
+  name_given (Level level) t known = heading_settled _ t.level_names level _ refl (level_names_part _ t known.given)
+  name_given Series t known = heading_settled _ t.headings 0 _ refl (headings_part _ t known.given)
+
+  name_seen : (which : Naming) (t : NumberedTable) → heading_value texts (name_at which t) ≡ name_at which (table_value texts t)
+  name_seen = grind (arith, heading_seen)
+
+  -- the name of one level more
+  pub level_more : (parts : List Table) (names names' : List (Option Label)) (before : List (Option LabelValue)) (k level : ℕ) (name : Option Label) → k < length names → names' ≡ slice_set names k name
+      → heading_value texts name ≡ name_of_all (map (name_at (Level level)) parts) → headings_value texts (take k names) ≡ before ++ names_of_levels level parts
+      → headings_value texts (take (k + 1) names') ≡ before ++ names_of_levels (level + 1) parts
+  level_more parts names _ _ k level name lt set told so_far = rw (set, take_more_set names k name lt, map-append, so_far, told, append_assoc, map-range_with_len_more (λ level. name_of_all (map (name_at (Level level)) parts)) 0 level level (omega arith))
+
+  -- names that were given, with one more
+  pub given_more : (names names' : List (Option Label)) (k : ℕ) (name : Option Label) → k < length names → names' ≡ slice_set names k name → IsSettled heading_value texts name → IsSettled headings_value texts (take k names)
+      → IsSettled headings_value texts (take (k + 1) names')
+  given_more names _ k name lt set here before = λ more. rw (set, take_more_set names k name lt, map-append, map-append, before more, here more)
+
+  -- the name of all parts, one part after the other
+  pub first_name : (which : Naming) (parts : List NumberedTable) (t : NumberedTable) (name : Option Label) → 1 ≤ length parts → t ≡ slice_index_or parts 0 t → name ≡ name_at which t
+      → fold common_name (heading_value texts name) (map (name_at which) (parts_value texts (take (length parts - 1) (drop 1 parts)))) ≡ name_of_all (map (name_at which) (parts_value texts parts))
+  first_name = grind (arith, name_seen, rest_of)
+
+  pub next_name : (which : Naming) (others : List NumberedTable) (k : ℕ) (t : NumberedTable) (name x name' : Option Label) (whole : Option LabelValue) → k < length others → t ≡ slice_index_or others k t → x ≡ name_at which t → heading_value texts name' ≡ common_name (heading_value texts name) (heading_value texts x)
+      → fold common_name (heading_value texts name) (map (name_at which) (parts_value texts (drop k others))) ≡ whole → fold common_name (heading_value texts name') (map (name_at which) (parts_value texts (drop (k + 1) others))) ≡ whole
+  next_name = grind (arith, name_seen, drop-cons)
+
+pub levels_as : (texts : List Text) (parts : List NumberedTable) → meant.have_same_levels (parts_value texts parts) ≡ have_same_levels parts
+levels_as _ [] = refl
+levels_as texts (t ∷ ts) = list_all-map _ (table_value texts) ts ∙ (λ i. list_all (λ s. nat_eq (length-map t.level_names (heading_value texts) i) (length-map s.level_names (heading_value texts) i)) ts)
+
+-- the headings of frames
+pub frame_headings : (texts : List Text) (inner : Bool) (ts : List NumberedTable) → AreOf Frame ts → AreKnownParts texts ts → AreHeadings Frame None (united same_heading inner (headings_of_each ts))
+frame_headings _ _ ts of known = record {
+  single = λ e. cc;
+  nameless = λ e. refl;
+  labelled = λ e. united_all IsSome _ (All-map (All IsSome) (λ t. t.headings) ts (λ k d lt. (known k d lt).whole.headings.labelled (of k d lt))) _ _;
+  different = λ e. united_apart _ ts (λ k d lt. (known k d lt).whole.headings.different (of k d lt));
+}
+
+-- the tables that are put together, and headings
+abbrev pub Parts : Type 0
+Parts = List NumberedTable
+
+abbrev pub Headings : Type 0
+Headings = List (Option Label)
+
+-- headings by first sight
+pub all_united : (parts : Parts) → distinct same_heading (flat_map (λ t. t.headings) parts) ≡ united same_heading false (headings_of_each parts)
+all_united parts = grind (arith, flat_map-map (λ list. list) (λ (t : NumberedTable). t.headings) parts)
+
+-- those that all parts have
+pub common_united : (t : NumberedTable) (ts : Parts) → common_headings t.headings ts ≡ united same_heading true (headings_of_each (t ∷ ts))
+common_united t ts = filter_agree _ _ (λ h. sym (list_all-map (list_any (same_heading h)) (λ (t : NumberedTable). t.headings) ts)) t.headings
+
+-- each item of a list is live
+item_live : (live : Tables) (items : List Item) (k : ℕ) (d : Item) → AreLiveItems live items → k < length items → IsLiveItem live (slice_index_or items k d)
+item_live _ [] k d all lt = grind arith
+item_live _ (item ∷ rest) zero d all _ = all.0
+item_live _ (item ∷ rest) (suc k) d all lt = item_live _ rest k d all.1 (omega (arith, lt))
+
+pub object_live : (live : Tables) (items : List Item) (k : ℕ) (item : Item) (o : Option ObjId) (id : ObjId) → AreLiveItems live items → k < length items → item ≡ slice_index_or items k item → ((live : Tables) → IsLiveItem live item → IfSome o (IsLiveObject live)) → o ≡ Some id → IsSome (live id.0)
+object_live live _ k _ o _ all lt at alive is = subst (λ x. IfSome x (IsLiveObject live)) is (grind (arith, item_live))
+
+-- an object more, and a part of the list that is none
+module _ (live : Tables) (items : List Item) (k : ℕ) (item : Item) (lt : k < length items) (at : item ≡ slice_index_or items k item) (parts made : Parts) where
+  abbrev are_left : List Text → ℕ → GivenList
+  are_left texts k = items_of live texts (drop k items)
+
+  -- the parts so far, and those that are left, are all
+  abbrev Whole : Parts → ℕ → Type 0
+  Whole parts k = (texts : List Text) → parts_value texts parts ++ tables_of (are_left texts k) ≡ tables_of (items_of live texts items)
+
+  left : (texts : List Text) → tables_of (are_left texts k) ≡ tables_from (object_in (item_of live texts item)) (tables_of (are_left texts (k + 1)))
+  left = grind (arith, drop_more items k item lt)
+
+  pub no_part : made ≡ parts → ((texts : List Text) → None ≡ object_in (item_of live texts item)) → Whole parts k → Whole made (k + 1)
+  no_part = grind (arith, left)
+
+  pub part_more : (t : NumberedTable) → made ≡ parts ++ t ∷ [] → ((texts : List Text) → Some (table_value texts t) ≡ object_in (item_of live texts item)) → Whole parts k → Whole made (k + 1)
+  part_more = grind (arith, map-append, append_assoc, left)
+
+  pub known_more : (t : NumberedTable) (id : ObjId) → made ≡ parts ++ t ∷ [] → live id.0 ≡ Some t → IsWhole t → AreSettledParts live parts → AreSettledParts live made
+  known_more t _ grown there whole known texts settled = rw grown (All-push (IsKnownTable texts) parts t (known texts settled) (search object_settled))

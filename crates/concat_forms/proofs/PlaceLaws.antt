@@ -1,6 +1,6 @@
 -- Lists that grow, and parts of lists.
 use Rattle.{
-  std.proofs.{lemmas.List.{take_all, map-append, append_assoc, take_more}, Common.{◌≡◌, ◌<◌, ◌+◌, ◌-◌, refl, arith, ℕ, zero, suc, List, [], ◌∷◌, ◌++◌, map, length, take, drop, slice_index_or, Option}},
+  std.proofs.{Common.{subst, All, ◌≡◌, ◌<◌, ◌+◌, ◌-◌, refl, arith, ℕ, List, [], ◌∷◌, ◌++◌, map, length, take, drop, slice_index_or, Option}, lemmas.List.{length-map, take_all, map-append, append_assoc, take_more, Elements.{All-head, All-tail}}, Math.ListN.{get_or-map}},
   cell_core.specs.declared.cell.Cell.{Cell, TheVariants.{Na}},
   column_core.specs.Blocks.{CellBlock},
   meaning.specs.Column.{taken},
@@ -19,8 +19,11 @@ pub more_on : (before : List (ColumnOf Cell)) (columns : List (ColumnOf Cell)) (
     → columns_of made' ≡ before ++ on_rows Na rows (take (place + 1) columns)
 more_on _ columns _ place _ _ _ lt = grind (arith, map-append, append_assoc, take_more columns place no_column lt)
 
--- the first of a list, seen otherwise
-pub taken_seen : {A B : Type 0} (f : A → B) (n : ℕ) (xs : List A) → map f (take n xs) ≡ take n (map f xs)
-taken_seen f zero _ = refl
-taken_seen f (suc n) [] = refl
-taken_seen f (suc n) (x ∷ xs) = cc (taken_seen f n xs)
+-- what is seen alike of each item that has a property
+pub map_given : {A B : Type 0} (P : A → Type 0) (f g : A → B) → ((x : A) → P x → f x ≡ g x) → (xs : List A) → All P xs → map f xs ≡ map g xs
+map_given P f g same [] _ = refl
+map_given P f g same (x ∷ xs) all = λ i. same x (All-head P x _ all) i ∷ map_given P f g same xs (All-tail P x _ all) i
+
+-- what all of a list's images have, each item has by its image
+pub each_of : {A B : Type 0} (P : B → Type 0) (f : A → B) (xs : List A) → All P (map f xs) → All (λ x. P (f x)) xs
+each_of P f xs all = λ k d lt. subst P (get_or-map f xs k d) (all k (f d) (omega (arith, length-map xs f, lt)))

@@ -27,6 +27,7 @@ use multi_index::Axis;
 use std::alloc::Global;
 
 // The axis of the rows of all parts, which are so many.
+#[tactic(auto, using(crate::proofs::Hints::axis_of_all))]
 fn axis_of_all(
     alloc: Global,
     dict: &TextDict,
@@ -77,6 +78,7 @@ fn heading_list(
 }
 
 // The table of all rows: a column for each heading, made of each part's column under it.
+#[tactic(auto, using(crate::proofs::Hints::table_below))]
 fn table_below(
     alloc: Global,
     dict: &TextDict,
@@ -118,6 +120,7 @@ fn table_below(
 }
 
 // Series one below the other, under a name that all have.
+#[tactic(auto, using(crate::proofs::PartLaws::levels_as))]
 fn series_below(
     alloc: Global,
     dict: &TextDict,
@@ -141,6 +144,7 @@ fn series_below(
 }
 
 // Frames one below the other: a column for each label that a part has, or that all have.
+#[tactic(auto, using(crate::proofs::Hints::frames_below))]
 fn frames_below(
     alloc: Global,
     dict: &TextDict,
@@ -167,6 +171,7 @@ fn frames_below(
 }
 
 // Series alone or frames alone, one below the other.
+#[tactic(auto, using(crate::proofs::Hints::below))]
 pub(crate) fn below(
     alloc: Global,
     dict: &TextDict,

@@ -96,6 +96,7 @@ fn columns_beside(
 }
 
 // The frame of the columns of all parts, on the rows of an axis.
+#[tactic(auto, using(crate::proofs::Hints::on_axis))]
 fn on_axis(
     alloc: Global,
     dict: &TextDict,
@@ -126,6 +127,7 @@ fn on_axis(
 }
 
 // Why there is no frame of too many rows: two labels of its columns are equal, or it is beyond the limits.
+#[tactic(auto, using(crate::proofs::Hints::too_many))]
 fn too_many(
     alloc: Global,
     dict: &TextDict,
@@ -145,6 +147,7 @@ fn too_many(
 }
 
 // Rows that meet by labels, each of which stands once in each part.
+#[tactic(auto, using(crate::proofs::Hints::met))]
 fn met(
     alloc: Global,
     dict: &TextDict,
@@ -179,6 +182,7 @@ fn met(
 }
 
 // Side by side: equal labels of rows stay, and else rows meet by their labels.
+#[tactic(auto, using(crate::proofs::Hints::beside))]
 pub(crate) fn beside(
     alloc: Global,
     dict: &TextDict,

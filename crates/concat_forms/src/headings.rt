@@ -52,6 +52,7 @@ fn gathered(alloc: Global, parts: &[Part<'_>]) -> Result<Vec<Option<Label>>, NoM
 }
 
 // The headings of all parts, each once, in the order of first sight.
+#[tactic(auto, using(crate::proofs::PartLaws::all_united))]
 fn all_headings(alloc: Global, parts: &[Part<'_>]) -> Result<Vec<Option<Label>>, NoMemory>
     ensures { IfOk result (λ made. made.items
         ≡ united same_heading false (headings_of_each parts.now)) }
@@ -64,6 +65,7 @@ fn all_headings(alloc: Global, parts: &[Part<'_>]) -> Result<Vec<Option<Label>>,
 }
 
 // The headings that any part has, or those that all have.
+#[tactic(auto, using(crate::proofs::PlaceLaws::rest_of, crate::proofs::PartLaws::common_united))]
 pub(crate) fn united_headings(
     alloc: Global,
     parts: &[Part<'_>],

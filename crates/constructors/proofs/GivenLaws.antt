@@ -1,70 +1,72 @@
 -- Constructors on bound arguments.
 use Rattle.{
-  std.{proofs.Common.{arith, ◌≡◌, ◌∙◌, ap, sym, subst, ℕ, List, [], ◌∷◌, ◌++◌, slice_get, Bor, Option, Some, None, Result}, specs.Option.{option_map}},
+  std.{proofs.{Common.{arith, ◌≡◌, refl, ap, List, [], ◌∷◌, ◌++◌, slice_get, Bor, Option, Some, None, Ok}, lemmas.List.Elements.{All-cons, All-nil}}, specs.Option.{option_map}},
   cell_core.specs.declared.cell.{Cell.{Cell}, Kind.{Kind}, Label.{Label}},
-  meaning.specs.{Text.{Text}, Cell.{LabelValue, datum}, Operator.{cell_label}, Fault.{FaultValue}},
-  table_meaning.specs.{Settled.{IsSettled}, Table.{heading_value}, Value.{Entry, Given, GivenList, NamedGiven, scalar_in, list_in}},
-  form_meaning.{specs.{declared.{Function.{Function}, Parameter.{Parameter}}, Signature.{function_parameters}, Binding.{Bound as Outcome, bound, bound_of, argument_at, on_bound}, Select.{cells_of}, Make.{index_labels, kind_given, on, series_of, series_result, frame_result}, Functions.{constructed, made_by}}, proofs.IndexLaws.{GivesAlike, index_taken}},
-  frame_store.specs.{declared.arguments.Item.{Item}, Objects.{Tables}, Arguments.{items_of, arguments_of}, World.{World, arguments_in}},
-  signatures.{specs.{Bound.{given_in, stands_at, Tells}, declared.bound.Bound.{Bound}, Scalars.{scalars}}, proofs.{ToldLaws.{told_settled}, ScalarLaws.{scalars_are}}},
-  constructors.{specs.{Index.{rows_labels, GivesLevels}, Made.{series_with}}, proofs.IndexLaws.{rows_are, alike_seen}},
+  meaning.specs.{Text.{Text}, Cell.{datum, label_datum}, Operator.{cell_label}},
+  table_meaning.specs.{Settled.{IsSettled}, Table.{heading_value}, Value.{scalar_in, list_in, dict_in}},
+  form_meaning.{specs.{declared.Parameter.{Parameter}, Signature.{function_parameters}, Make.{index_labels, kind_given, pairs_in}, Functions.{made_by}}, proofs.IndexLaws.{GivesAlike, index_taken}},
+  frame_store.specs.{declared.arguments.{Item.{Item}, Named.{Named}, Argument.{Argument}}, Objects.{Tables}, Arguments.{items_of, arguments_of, entries_of}, World.{World, arguments_in, AreKnownArguments}},
+  signatures.{specs.{Bound.{stands_at, Tells, IsBound}, declared.bound.Bound.{Bound}, Scalars.{scalars}}, proofs.{ToldLaws.{told_settled, name_given}, ScalarLaws.{scalars_are, items_settled}}},
+  constructors.{specs.{Index.{index_given, GivesLevels}, Made.{series_with, frame_from}, Pairs.{list_seen, AreSettledKeys, AreSettledLists}}, proofs.{IndexLaws.{rows_are, alike_seen}, PairLaws.{Pairs}, FrameLaws.{list_same, frame_same}}},
 }
 use Rattle.form_meaning.specs.declared.Function.TheVariants as function
 use Rattle.form_meaning.specs.declared.Form.TheVariants as form
 
-pub indexes_are : {T : Type 0} (f : T → List Item) (live : Tables) (texts : List Text) (o : Option T) → option_map index_labels (option_map (λ t. items_of live texts (f t)) o) ≡ option_map (λ t. rows_labels texts (f t)) o
+pub indexes_are : (live : Tables) (texts : List Text) (index : Option (Bor (List Item))) → option_map index_labels (option_map (λ l. items_of live texts l.now) index) ≡ index_given texts index
 indexes_are = grind (arith, rows_are)
 
--- what stands at a place was given
-pub index_settled : {T : Type 0} (f : T → List Item) (b : Bound) (place : ℕ) (o : Option T) (live : Tables) (dict : List Text) → Tells b place list_in (λ live texts. option_map (λ t. items_of live texts (f t)) o)
-    → IsSettled (arguments_of live) dict b.args.now → (more : List Text) → option_map (λ t. rows_labels (dict ++ more) (f t)) o ≡ option_map (λ t. rows_labels dict (f t)) o
-index_settled f b _ o live _ tells settled _ =
-    sym (indexes_are f _ _ o)
-    ∙ ap (option_map _) (told_settled b _ list_in (λ live texts. option_map (λ t. items_of live texts (f t)) o) _ _ tells settled _)
-    ∙ indexes_are f _ _ o
+-- the pairs of a dict that was given
+module _ (live : Tables) (texts : List Text) where
+  keys_given : (pairs : Pairs) → IsSettled (entries_of live) texts pairs → AreSettledKeys texts pairs
+  keys_given [] _ = All-nil _
+  keys_given (p ∷ ps) settled = All-cons (λ (p : Label × Argument). IsSettled label_datum texts p.0) p ps (λ more. cc (settled more)) (keys_given ps (λ more. cc (settled more)))
 
--- and its labels are alike, where its parameter takes labels of rows
-pub index_levels : (ps : List Parameter) (p : Parameter) (gs : List Given) (w : World) (b : Bound) (o : Option (Bor (List Item))) → bound_of ps (arguments_in w b.args.now) ≡ bound gs → b.parameters.now ≡ ps → slice_get ps 1 ≡ Some p
-    → p.form ≡ form.RowLabels → option_map (λ (l : Bor (List Item)). items_of w.tables w.texts l.now) o ≡ list_in (stands_at w.tables w.texts b 1) → GivesLevels o
-index_levels _ p _ w b None _ _ _ form _ = tt
-index_levels ps p _ w b (Some l) same is there form told =
-    let found : Some (items_of w.tables w.texts l.now) ≡ list_in (argument_at ps (arguments_in w b.args.now) 1) = cc in
-    alike_seen _ _ _ (subst GivesAlike (sym found) (index_taken _ _ 1 p _ same there form))
+  lists_given : (pairs : Pairs) → IsSettled (entries_of live) texts pairs → AreSettledLists texts pairs
+  lists_given [] _ = All-nil _
+  lists_given (p ∷ ps) settled =
+      All-cons (λ (p : Label × Argument). IsSettled list_seen texts p.1) p ps (λ more. cc (settled more, list_same live texts p.1, list_same live (texts ++ more) p.1)) (lists_given ps (λ more. cc (settled more)))
 
--- a Series of lists is that of their scalars
-series_same : (values : GivenList) (index : Option GivenList) (name : Option LabelValue) (kind : Option Kind) → series_of values index name kind ≡ series_with (cells_of values) (option_map index_labels index) name kind
-series_same = grind arith
+-- the arguments are bound, and an index stands at the second place, if one does
+module _ (w : World) (b : Bound) (ps : List Parameter) (args : List Named) (bound : IsBound w ps args (Ok b)) (rows : Option (Bor (List Item)))
+    (indexed : Tells b 1 list_in (λ live texts. option_map (λ (l : Bor (List Item)). items_of live texts l.now) rows)) where
+  pub arguments_given : AreKnownArguments w args → IsSettled (arguments_of w.tables) w.texts b.args.now
+  arguments_given known = rw bound.2 known.given
 
--- a constructor on what binding gives
-abbrev Constructor : Function → Type 0
-Constructor f = (gs : List NamedGiven) (outcome : Outcome) → bound_of (function_parameters f) gs ≡ outcome → made_by f gs ≡ on_bound outcome (constructed f)
+  pub index_settled : AreKnownArguments w args → IsSettled index_given w.texts rows
+  index_settled known more = cc (indexes_are w.tables w.texts rows, indexes_are w.tables (w.texts ++ more) rows, told_settled b 1 list_in _ w.tables w.texts indexed (arguments_given known) more)
 
--- the arguments of a Series and of a frame
-abbrev series_at : List Parameter → List NamedGiven → Result Entry FaultValue
-series_at ps gs = series_result (argument_at ps gs 0 ∷ argument_at ps gs 1 ∷ argument_at ps gs 2 ∷ argument_at ps gs 3 ∷ [])
+  -- its labels are alike, where the parameter takes labels of rows
+  levels_of : (o : Option (Bor (List Item))) → GivesAlike (option_map (λ l. items_of w.tables w.texts l.now) o) → GivesLevels o
+  levels_of None _ = tt
+  levels_of (Some l) alike = alike_seen _ _ _ alike
 
-series_bound : (gs : List NamedGiven) (w : World) (b : Bound) → bound_of (function_parameters function.Series) gs ≡ bound (given_in w b)
-    → b.parameters.now ≡ function_parameters function.Series → made_by function.Series gs ≡ series_at b.parameters.now (arguments_in w b.args.now)
-series_bound = grind arith
+  pub index_levels : (p : Parameter) → slice_get ps 1 ≡ Some p → p.form ≡ form.RowLabels → GivesLevels rows
+  index_levels p there form = levels_of rows (grind (arith, index_taken ps (arguments_in w args) 1 p _ bound.0 there form, indexed w.tables w.texts))
 
-pub series_given : {T : Type 0} (f : T → List Item) (gs : List NamedGiven) (w : World) (b : Bound) (values : List Item) (index : Option T) (o : Option Cell) (name : Option Label) (kind : Option Kind)
-    → bound_of (function_parameters function.Series) gs ≡ bound (given_in w b) → b.parameters.now ≡ function_parameters function.Series
-    → Some (items_of w.tables w.texts values) ≡ list_in (stands_at w.tables w.texts b 0)
-    → option_map (λ t. items_of w.tables w.texts (f t)) index ≡ list_in (stands_at w.tables w.texts b 1)
-    → option_map (datum w.texts) o ≡ scalar_in (stands_at w.tables w.texts b 2) → heading_value w.texts name ≡ option_map cell_label (option_map (datum w.texts) o)
-    → kind ≡ kind_given (scalar_in (stands_at w.tables w.texts b 3))
-    → series_with (scalars w.texts values) (option_map (λ t. rows_labels w.texts (f t)) index) (heading_value w.texts name) kind ≡ made_by function.Series gs
-series_given f gs w b values _ o _ _ same is listed indexed scalar named kinded =
-    sym (
-    series_bound gs w b same is
-    ∙ ap (λ l. on l (λ parts. series_of parts (list_in (stands_at w.tables w.texts b 1)) (option_map cell_label (scalar_in (stands_at w.tables w.texts b 2))) (kind_given (scalar_in (stands_at w.tables w.texts b 3))))) (sym listed)
-    ∙ series_same (items_of w.tables w.texts values) _ _ _
-    ∙ (λ j. series_with (scalars_are w.tables w.texts values j) ((ap (option_map _) (sym indexed) ∙ indexes_are f _ _ _) j) ((ap (option_map _) (sym scalar) ∙ sym named) j) (sym kinded j))
-    )
+  module _ (of : ps ≡ function_parameters function.Series) (values : List Item) (listed : Tells b 0 list_in (λ live texts. Some (items_of live texts values))) (cell : Option Cell) (name : Option Label) (scalar : Tells b 2 scalar_in (λ _ texts. option_map (datum texts) cell))
+      (named : (texts : List Text) → heading_value texts name ≡ option_map cell_label (option_map (datum texts) cell)) where
+    pub series_needs : AreKnownArguments w args → record { values : IsSettled scalars w.texts values; index : IsSettled index_given w.texts rows; levels : GivesLevels rows; name : IsSettled heading_value w.texts name }
+    series_needs known =
+        record {
+          values = items_settled b 0 _ _ _ listed (arguments_given known);
+          index = index_settled known;
+          levels = index_levels _ (ap (λ ps. slice_get ps 1) of) refl;
+          name = name_given b 2 _ _ _ _ scalar named (arguments_given known);
+        }
 
-abbrev pub frame_at : List Parameter → List NamedGiven → Result Entry FaultValue
-frame_at ps gs = frame_result (argument_at ps gs 0 ∷ argument_at ps gs 1 ∷ [])
+    pub series_given : (kind : Option Kind) → kind ≡ kind_given (scalar_in (stands_at w.tables w.texts b 3)) → series_with (scalars w.texts values) (index_given w.texts rows) (heading_value w.texts name) kind ≡ made_by function.Series (arguments_in w args)
+    series_given _ is = grind (arith, scalars_are w.tables w.texts values, indexes_are w.tables w.texts rows, listed w.tables w.texts, indexed w.tables w.texts, scalar w.tables w.texts, named w.texts)
 
-pub frame_bound : (gs : List NamedGiven) (w : World) (b : Bound) → bound_of (function_parameters function.DataFrame) gs ≡ bound (given_in w b)
-    → b.parameters.now ≡ function_parameters function.DataFrame → made_by function.DataFrame gs ≡ frame_at b.parameters.now (arguments_in w b.args.now)
-frame_bound = grind arith
+  module _ (of : ps ≡ function_parameters function.DataFrame) (pairs : Pairs) (listed : Tells b 0 dict_in (λ live texts. Some (entries_of live texts pairs))) where
+    pub frame_needs : AreKnownArguments w args → record { keys : AreSettledKeys w.texts pairs; values : AreSettledLists w.texts pairs; index : IsSettled index_given w.texts rows; levels : GivesLevels rows }
+    frame_needs known =
+        let settled : IsSettled (entries_of w.tables) w.texts pairs = λ more. cc (told_settled b 0 dict_in _ w.tables w.texts listed (arguments_given known) more) in
+        record {
+          keys = keys_given _ _ _ settled;
+          values = lists_given _ _ _ settled;
+          index = index_settled known;
+          levels = index_levels _ (ap (λ ps. slice_get ps 1) of) refl;
+        }
+
+    pub frame_given : frame_from (pairs_in (entries_of w.tables w.texts pairs)) (index_given w.texts rows) ≡ made_by function.DataFrame (arguments_in w args)
+    frame_given = grind (arith, frame_same, indexes_are w.tables w.texts rows, listed w.tables w.texts, indexed w.tables w.texts)

@@ -7,4 +7,4 @@ pub mod PairLaws
 pub mod ColumnLaws
 pub mod RowLaws
 pub mod FrameLaws
-pub mod DictLaws
+pub mod Hints

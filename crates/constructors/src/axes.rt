@@ -14,6 +14,7 @@ use multi_index::Axis;
 use std::alloc::Global;
 
 // The axis of 0, 1 and so on, of a table that isn't beyond the limits.
+#[tactic(auto, using(crate::proofs::Hints::counted_axis))]
 fn counted_axis(alloc: Global, rows: usize, columns: usize) -> Result<Axis, OpFault>
     ensures names { IfOk result IsUnnamed }
     ensures labels { (texts : List OneText) → MakesBy meant.axis_labels texts result
@@ -26,6 +27,7 @@ fn counted_axis(alloc: Global, rows: usize, columns: usize) -> Result<Axis, OpFa
 }
 
 // The axis of the labels in a list, one row of them for each row.
+#[tactic(auto, using(crate::proofs::Hints::labelled_axis))]
 fn labelled_axis(
     alloc: Global,
     dict: &TextDict,
@@ -70,6 +72,7 @@ pub(crate) fn index_axis(
 }
 
 // The axis of the labels in the index, as many as there are; the axis without rows where there is no index.
+#[tactic(auto, using(crate::proofs::AxisLaws::free_same))]
 pub(crate) fn bare_axis(
     alloc: Global,
     dict: &TextDict,

@@ -24,6 +24,7 @@ use multi_index::Axis;
 use std::alloc::Global;
 
 // The number of rows that all columns have, if there are columns.
+#[tactic(auto, using(crate::proofs::RowLaws::rows_next))]
 fn common_rows(columns: &Blocks) -> Result<Option<usize>, OpFault>
     requires { All IsSingle columns.now }
     ensures { (texts : List OneText) → MakesBy meant.rows_seen texts result

@@ -15,7 +15,7 @@ missing_column = grind (arith, kind_missing)
 module _ (texts : List Text) (named : Option Kind) (fields : List Text) where
   column_right : (g : Growing) → Grown texts named fields g → is_mixed g ≡ false → column_seen texts (column_so_far (length fields) g) ≡ column_of_fields named fields
   column_right growing.Missing grown _ =
-      (λ i. record { kind = Int64; cells = (na_seen texts (length fields) ∙ sym (all_na Int64 fields grown.1)) i })
+      (λ i. record { kind = Int64; cells = (na_seen texts _ ∙ sym (all_na Int64 fields grown.1)) i })
       ∙ missing_column named fields grown.0 grown.1
   column_right (growing.Cells column) grown _ = grown.1
   column_right growing.Mixed grown kept = search
@@ -53,11 +53,11 @@ module _ (texts : List Text) (rows : List (List Text)) where
   all_right start count size [] (g ∷ gs) same each kept = search
   all_right start count size (k ∷ ks) [] same each kept = search
   all_right start count size (k ∷ ks) (g ∷ gs) same each kept =
-      let both = neither (is_mixed g) (list_any is_mixed gs) kept in
+      let both = neither _ _ kept in
       let fields = column_fields start rows in
       let long : count ≡ length fields = search length-map in
-      let one = ap (λ n. column_seen texts (column_so_far n g)) long ∙ column_right texts k fields g (first_grown start k ks g gs each) both.0 in
-      let more = all_right (suc start) count size ks gs (omega arith) (others_grown start k ks g gs each) both.1 in
+      let one = ap (λ n. column_seen texts (column_so_far n g)) long ∙ column_right _ k _ g (first_grown _ k ks g gs each) both.0 in
+      let more = all_right _ _ size ks gs (omega arith) (others_grown _ k ks g gs each) both.1 in
       λ i. one i ∷ more i
 
   all_settled : (start count : ℕ) → count ≡ length rows → (kinds : List (Option Kind)) (columns : List Growing) → length columns ≡ length kinds → EachGrown texts rows start kinds columns
@@ -69,7 +69,7 @@ module _ (texts : List Text) (rows : List (List Text)) where
       let fields = column_fields start rows in
       let long : count ≡ length fields = search length-map in
       let settled = subst (λ n. IsSettled column_seen texts (column_so_far n g)) (sym long) (search (column_settled, first_grown)) in
-      let more = all_settled (suc start) count size ks gs (omega arith) (others_grown start k ks g gs each) further in
+      let more = all_settled _ _ size ks gs (omega arith) (others_grown _ k ks g gs each) further in
       λ i. settled further i ∷ more i
 
   -- with each kind named, the columns are the same
@@ -80,8 +80,8 @@ module _ (texts : List Text) (rows : List (List Text)) where
   same_columns _ (k ∷ ks) [] same each = search
   same_columns start (k ∷ ks) (g ∷ gs) same each =
       let fields = column_fields start rows in
-      let kind = kind_right texts k fields g (first_grown start k ks g gs each) in
-      let more = same_columns (suc start) ks gs (omega arith) (others_grown start k ks g gs each) in
+      let kind = kind_right _ k fields g (first_grown _ k ks g gs each) in
+      let more = same_columns _ ks gs (omega arith) (others_grown _ k ks g gs each) in
       grind arith
 
 none_mixed : (columns : List Growing) → ((k : ℕ) → k < length columns → is_mixed (get_or columns k growing.Missing) ≡ false) → list_any is_mixed columns ≡ false
@@ -94,7 +94,7 @@ module _ (texts : List Text) (kinds : List (Option Kind)) (rows : List (List Tex
 
   module _ (count : ℕ) (size : count ≡ length rows) (made : List CellColumn) (is : made ≡ map (column_so_far count) columns) where
     pub columns_settled : IsSettled columns_seen texts made
-    columns_settled = rw is (all_settled texts rows 0 count size kinds columns grown.count each_grown)
+    columns_settled = rw is (all_settled _ _ 0 _ size kinds columns grown.count each_grown)
 
     pub columns_right : list_any is_mixed columns ≡ false → columns_seen texts made ≡ columns_from 0 kinds rows
     columns_right kept = cc (all_right texts rows 0 count size kinds columns grown.count each_grown kept)
@@ -108,11 +108,11 @@ module _ (texts : List Text) (kinds : List (Option Kind)) (rows : List (List Tex
     again_grown = grind (arith, as_many)
 
     pub again_kept : list_any is_mixed again.columns.items ≡ false
-    again_kept = none_mixed again.columns.items (λ k lt.
+    again_kept = none_mixed _ (λ k lt.
         let few : k < length found = omega (arith, again_grown.count) in
         let here : k < length columns = omega (arith, as_many) in
         let named : get_or found k None ≡ Some (kind_so_far (get_or columns k growing.Missing)) = grind (arith, get_or-map) in
-        never_mixed new (kind_so_far (get_or columns k growing.Missing)) (column_fields k rows) (get_or again.columns.items k growing.Missing)
+        never_mixed new _ (column_fields k rows) _
         (rw named at (again_grown.each k few)))
 
     pub again_same : columns_from 0 found rows ≡ columns_from 0 kinds rows

@@ -11,4 +11,4 @@ pub field_unwrapped : (fields : List Text) (place : ℕ) → unwrap_or (field_at
 unfolding field_at
 field_unwrapped [] _ = refl
 field_unwrapped (f ∷ fs) zero = refl
-field_unwrapped (f ∷ fs) (suc place) = field_unwrapped fs place
+field_unwrapped (f ∷ fs) (suc place) = field_unwrapped fs _

@@ -18,7 +18,7 @@ module _ (texts : List Text) (rows : List (List Text)) where
   count_columns _ [] [] read = refl
   count_columns _ [] (c ∷ cs) read = Prim.cc
   count_columns _ (k ∷ ks) [] read = Prim.cc
-  count_columns place (k ∷ ks) (c ∷ cs) read = ap suc (count_columns (suc place) ks cs (ap others read))
+  count_columns _ (k ∷ ks) (c ∷ cs) read = ap suc (count_columns _ ks cs (ap others read))
 
   pub filled : (place : ℕ) (kinds : List (Option Kind)) (columns : List CellColumn) → columns_seen texts columns ≡ columns_from place kinds rows → All (λ (c : CellColumn). length c.cells ≡ length rows) columns
   filled _ [] [] read = grind arith
@@ -32,12 +32,12 @@ count_tuples = grind (arith, length-map)
 -- labels whose texts differ
 pub tuples_differ : (texts : List Text) (labels : List Text) (tuples : List (List Label)) → tuples_seen texts tuples ≡ label_tuples labels → IsDistinct same_text labels → AllPairs (λ a b. a ≢ b) tuples
 tuples_differ texts labels tuples read distinct i j d lt below alike =
-    let size = count_tuples texts labels tuples read in
+    let size = count_tuples _ _ _ read in
     let first = label_at i (omega arith) in
     let second = label_at j below in
     let one : slice_index_or labels i [] ≡ slice_index_or labels j [] = cc in
-    let other = apart_from_distinct same_text labels i j [] distinct lt (omega arith) in
-    both (same_text (slice_index_or labels i []) (slice_index_or labels j [])) ((bytes_eq-Decides _ _).1 one) other
+    let other = apart_from_distinct _ _ i j [] distinct lt (omega arith) in
+    both _ ((bytes_eq-Decides _ _).1 one) other
   where
     text_in : List LabelValue → Text
     text_in (text t ∷ ls) = t

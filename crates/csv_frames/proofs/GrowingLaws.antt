@@ -2,9 +2,9 @@
 use Rattle.{
   std.{proofs.{Common.{rules, arith, ◌≡◌, ◌∙◌, ℕ, zero, suc, refl, ap, sym, Bool, true, false, List, [], ◌∷◌, ◌++◌, length, map, replicate, Option, None, unwrap_or}, lemmas.List.{map-append}}, specs.{Prelude.{OnOk, Result, Ok, Err}, List.{list_all}}},
   cell_core.specs.{Texts.{IsLonger}, declared.cell.{Cell.{Cell}, TextId.{TextId}}},
-  meaning.specs.{Text.{Text}, Cell.{CellValue, datum, na_cell, Kind, Int64, string}},
-  column_core.{specs.{Columns.{CellColumn, number_cell, truth_cell, text_cell, column_with}, Lanes.{option_at}, declared.lanes.Owned.{Owned}}, proofs.CellRows.{pushed_column}},
-  table_meaning.specs.{Settled.{IsSettled}, Table.{ColumnOf}},
+  meaning.specs.{Text.{Text}, Cell.{datum, na_cell, Kind, Int64, string}},
+  column_core.{specs.{Columns.{CellColumn, number_cell, text_cell, column_with}, Lanes.{option_at}, declared.lanes.Owned.{Owned}}, proofs.CellRows.{pushed_column}},
+  table_meaning.specs.Settled.{IsSettled},
   csv_meaning.specs.CsvRead.{is_missing, is_of_kind, kind_of_fields, cell_of_field},
   csv_frames.{specs.{Views.{column_seen, cells_seen}, Growing.{IsGrownBy, IsFirst, IsPut, IsTextPut, Grown, number_in}, declared.growing.Growing.{Growing}}, proofs.{SettledLaws.{settled_more, seen_later}, KindsLaws.{all_na, value_pushed, value_stays, kind_first, kind_stays, kind_mixed}}},
 }
@@ -15,17 +15,14 @@ use Rattle.csv_frames.specs.declared.growing.Growing.TheVariants as growing
 pub grown_by : (old new : List Text) (before after : CellColumn) (field : Text) (c : Cell) → IsLonger old new → after ≡ record { kind = before.kind; cells = before.cells ++ c ∷ [] } → IsSettled datum new c → datum new c ≡ cell_of_field before.kind field
     → IsGrownBy old new field before after
 grown_by old new before after _ c longer is settled made before_settled =
-    let cells_settled : IsSettled cells_seen old before.cells = λ more. ap (λ (col : ColumnOf CellValue). col.cells) (before_settled more) in
+    let cells_settled : IsSettled cells_seen old before.cells = λ more. grind (arith, before_settled more) in
     let pushed : after.cells ≡ before.cells ++ c ∷ [] = cc in
-    let more = settled_more datum old new before.cells after.cells c longer cells_settled pushed settled in (
+    let more = settled_more datum old new _ _ c longer cells_settled pushed settled in (
       λ further i. record { kind = after.kind; cells = more further i },
       (λ i. column_seen new (is i))
           ∙ (λ i. record { kind = before.kind; cells = map-append (datum new) before.cells (c ∷ []) i })
-          ∙ (λ i. record { kind = before.kind; cells = seen_later cells_seen old new before.cells longer cells_settled i ++ made i ∷ [] }),
+          ∙ (λ i. record { kind = before.kind; cells = seen_later cells_seen old new _ longer cells_settled i ++ made i ∷ [] }),
     )
-
-pub truth_settled : (texts : List Text) (o : Option Bool) → IsSettled datum texts (truth_cell o)
-truth_settled = grind arith
 
 -- the number of a field is its cell
 pub number_seen : (texts : List Text) (field : Text) → datum texts (number_cell (number_in field)) ≡ cell_of_field Int64 field
@@ -38,16 +35,16 @@ column_kept kind cell rows = column_with kind cell (length rows.values.items) (o
 -- one value more
 pub put_grown : {U E T : Type 0} (r : Result U E) (old new : List Text) (field : Text) (kind : Kind) (cell : Option T → Cell) (o : Option T) (rows rows' : Owned T) (before : CellColumn) → IsLonger old new → column_kept kind cell rows ≡ before
     → IsSettled datum new (cell o) → datum new (cell o) ≡ cell_of_field kind field → OnOk r (IsPut o rows rows') → OnOk r (IsGrownBy old new field before (column_kept kind cell rows'))
-put_grown (Ok u) old new field kind cell o rows rows' before longer was settled seen put =
-    grown_by old new before (column_kept kind cell rows') field (cell o) longer
-    (pushed_column kind cell rows.values.items rows.present.items o rows'.values.items rows'.present.items (cell o) put refl ∙ ap (λ (w : CellColumn). record { kind = w.kind; cells = w.cells ++ cell o ∷ [] }) was)
+put_grown (Ok u) old new field kind cell o _ _ _ longer was settled seen put =
+    grown_by old new _ _ field _ longer
+    (pushed_column _ cell _ _ o _ _ _ put refl ∙ ap (λ (w : CellColumn). record { kind = w.kind; cells = w.cells ++ cell o ∷ [] }) was)
     settled
     (grind arith)
 put_grown (Err e) _ _ _ _ cell o _ _ _ _ _ _ _ put = put
 
 pub text_grown : {U E : Type 0} (r : Result U E) (old new : List Text) (field : Text) (rows rows' : Owned TextId) (before : CellColumn) → IsLonger old new → column_kept string text_cell rows ≡ before → OnOk r (IsTextPut new field rows rows')
     → OnOk r (IsGrownBy old new field before (column_kept string text_cell rows'))
-text_grown (Ok u) old new field rows rows' before longer was put = put_grown {E = Unit {0}} (Ok u) old new field string text_cell put.0 rows rows' before longer was put.1 put.2 put.3
+text_grown (Ok u) old new field rows rows' _ longer was put = put_grown {E = Unit {0}} (Ok u) old new field _ text_cell _ rows rows' _ longer was put.1 put.2 put.3
 text_grown (Err e) _ _ _ _ _ _ _ _ put = put
 
 module _ (old new : List Text) (fields : List Text) (field : Text) where

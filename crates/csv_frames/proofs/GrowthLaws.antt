@@ -20,7 +20,7 @@ fewer = grind arith
 -- a column stays what it is where further texts get numbers
 pub grown_later : (old new : List Text) (named : Option Kind) (fields : List Text) (g : Growing) → IsLonger old new → Grown old named fields g → Grown new named fields g
 grown_later _ _ _ _ growing.Missing _ grown = grown
-grown_later old new _ _ (growing.Cells column) longer grown = (search settled_later, seen_later column_seen old new column longer grown.0 ∙ grown.1, grown.2)
+grown_later old new _ _ (growing.Cells column) longer grown = (search settled_later, seen_later column_seen old new _ longer grown.0 ∙ grown.1, grown.2)
 grown_later _ _ _ _ growing.Mixed _ grown = grown
 
 -- the columns up to a place have a record more

@@ -18,7 +18,7 @@ both_true = grind (arith, no)
 all_fit : (kind : Kind) (fs : List Text) → list_all is_missing fs ≡ true → list_all (is_of_kind kind) fs ≡ true
 all_fit _ [] e = refl
 all_fit kind (f ∷ fs) e =
-    let b = both_true (is_missing f) (list_all is_missing fs) e in
+    let b = both_true (is_missing f) _ e in
     search (all_fit kind fs b.1)
 
 -- only missing fields
@@ -29,7 +29,7 @@ kind_missing = search all_fit
 pub all_na : (kind : Kind) (fs : List Text) → list_all is_missing fs ≡ true → map (cell_of_field kind) fs ≡ replicate (length fs) na_cell
 all_na _ [] e = refl
 all_na kind (f ∷ fs) e =
-    let b = both_true (is_missing f) (list_all is_missing fs) e in
+    let b = both_true (is_missing f) _ e in
     search (missing_cell, all_na kind fs b.1)
 
 -- no truth value is a number
@@ -57,7 +57,7 @@ no_truth = grind arith
 -- where one isn't missing and all are numbers, not all are truth values
 no_truths : (fs : List Text) → list_all is_missing fs ≡ false → list_all (is_of_kind Int64) fs ≡ true → list_all (is_of_kind Boolean) fs ≡ false
 no_truths [] value _ = no (sym value)
-no_truths (f ∷ fs) value numbers = by (no_truths fs) (search both_true) (is_missing f) refl value
+no_truths (f ∷ fs) value numbers = by (no_truths fs) (search both_true) _ refl value
   where
     by : (list_all is_missing fs ≡ false → list_all (is_of_kind Int64) fs ≡ true → list_all (is_of_kind Boolean) fs ≡ false) → (is_of_kind Int64 f ≡ true) × (list_all (is_of_kind Int64) fs ≡ true) → (b : Bool) → is_missing f ≡ b → b && list_all is_missing fs ≡ false → is_of_kind Boolean f && list_all (is_of_kind Boolean) fs ≡ false
     by more both true is later = search no_truth

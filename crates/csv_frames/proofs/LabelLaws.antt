@@ -21,10 +21,6 @@ first_free taken label columns n = position_or_len (is_free taken label) (range_
 from_number : (p : ℕ → Bool) (n columns : ℕ) → n < columns → position_or_len p (range_with_len n (columns - n)) ≡ cond (not (p n)) (1 + position_or_len p (range_with_len (n + 1) (columns - (n + 1)))) 0
 from_number = grind arith
 
--- whether the number is free, as the label was new
-pub is_number_free : (taken now : List Text) (label t u : Text) (n : ℕ) (new : Bool) → now ≡ taken → t ≡ with_number label n → u ≡ t → new ≡ not (list_any (same_text u) now) → new ≡ is_free taken label n
-is_number_free _ _ _ t u n _ same is read test = cc
-
 pub number_found : (taken : List Text) (label t : Text) (n columns : ℕ) → n < columns → t ≡ with_number label n → n + first_free taken label columns n ≡ 1 + first_free taken label columns 1
     → true ≡ is_free taken label n → t ≡ free_label columns taken label
 number_found = grind arith

@@ -4,7 +4,7 @@ use Rattle.{
   cell_core.specs.{Texts.{with_text}, declared.cell.Kind.{Kind}},
   meaning.specs.Text.{Text},
   table_meaning.specs.Valid.{within_limits},
-  csv_meaning.specs.CsvRead.{beyond_limits, has_misfit, named_kind, labels_named, labels_after, labels_of, next_label, columns_under},
+  csv_meaning.specs.CsvRead.{beyond_limits, has_misfit, named_kind, labels_named, labels_after, labels_of, columns_under},
 }
 
 -- where no kind is named, no field is of another one
@@ -21,11 +21,11 @@ no_misfits labels (r ∷ rs) = search (no_misfit, no_misfits labels rs)
 -- there is a label for each field of the header
 count_named : (place : ℕ) (labels : List Text) → length (labels_named place labels) ≡ length labels
 count_named _ [] = refl
-count_named place (l ∷ ls) = ap suc (count_named (suc place) ls)
+count_named _ (l ∷ ls) = ap suc (count_named _ ls)
 
 count_after : (columns : ℕ) (before taken labels : List Text) → length (labels_after columns before taken labels) ≡ length labels
 count_after _ _ _ [] = refl
-count_after columns before taken (l ∷ ls) = ap suc (count_after columns (with_text before l) (with_text taken (next_label columns before taken l)) ls)
+count_after _ before _ (l ∷ ls) = ap suc (count_after _ (with_text before l) _ ls)
 
 pub count_labels : (header : List Text) → length (labels_of header) ≡ length header
 count_labels = search (count_after, count_named)

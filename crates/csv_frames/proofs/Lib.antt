@@ -13,3 +13,4 @@ pub mod ReadLaws
 pub mod LargeLaws
 pub mod FilledLaws
 pub mod NumberedLaws
+pub mod Hints

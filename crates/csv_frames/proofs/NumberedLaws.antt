@@ -1,6 +1,6 @@
 -- The labels of a header, said as a whole.
 use Rattle.{
-  std.{proofs.{Common.{rules, ◌≡◌, ℕ, zero, suc, ◌+◌, ◌-◌, ◌<◌, ◌≤◌, ◌^◌, true, false, ◌||◌, List, [], ◌∷◌, ◌++◌, length, take, refl, sym, ap, ◌∙◌, arith, append_assoc, append-nil}, lemmas.List.{Folds.{list_any-append}, FromFn.{get_or-range_with_len, length-range_with_len}, Sums.{prefix_len_passes, prefix_len-le-length}}}, specs.{Prelude.{slice_get, Option, Some}, List.{position_or_len, range_with_len}}},
+  std.{proofs.{Common.{rules, ◌≡◌, ℕ, zero, suc, ◌+◌, ◌-◌, ◌<◌, ◌≤◌, ◌^◌, true, false, ◌||◌, List, [], ◌∷◌, ◌++◌, length, take, refl, ap, ◌∙◌, arith, append_assoc, append-nil}, lemmas.List.{Folds.{list_any-append}, FromFn.{get_or-range_with_len, length-range_with_len}, Sums.{prefix_len_passes, prefix_len-le-length}}}, specs.{Prelude.{slice_get, Option, Some}, List.{position_or_len, range_with_len}}},
   cell_core.specs.Texts.{with_text},
   meaning.specs.Text.{Text},
   csv_meaning.{specs.CsvRead.{with_number, is_free, next_label, labels_after, with_texts, different_labels}, proofs.DifferentLaws.{IsFair, numbered-free, fair-after, count-texts, header-had, labels_differ}},
@@ -17,12 +17,9 @@ Alike xs ys = (q : Text) → has_text xs q ≡ has_text ys q
 put_has : (xs : List Text) (t q : Text) → has_text (with_text xs t) q ≡ has_text (xs ++ t ∷ []) q
 put_has = search (rules, list_any-append)
 
-put_alike : (xs ys : List Text) (t : Text) → Alike xs ys → Alike (with_text xs t) (ys ++ t ∷ [])
-put_alike = grind (arith, put_has, list_any-append)
-
 all_alike : (xs ys ls : List Text) → Alike xs ys → Alike (with_texts xs ls) (ys ++ ls)
 all_alike _ _ [] alike q = search append-nil
-all_alike xs ys (l ∷ ls) alike q = search (append_assoc, all_alike (with_text xs l) (ys ++ l ∷ []) ls (put_alike xs ys l alike) q)
+all_alike xs ys (l ∷ ls) alike q = search (append_assoc, all_alike (with_text xs l) (ys ++ l ∷ []) ls (grind (arith, put_has, list_any-append)) q)
 
 -- no smaller number is free
 passed : (taken : List Text) (label : Text) (m n : ℕ) → 1 ≤ n → n < 1 + position_or_len (is_free taken label) (range_with_len 1 m) → has_text taken (with_number label n) ≡ true
@@ -45,7 +42,7 @@ module _ (columns : ℕ) (small : columns < 2 ^ 64) (header : List Text) where
 
   next_is : (pre outs before taken : List Text) (label : Text) (rest : List Text) → Alike before pre → Alike taken (header ++ outs) → IsFair columns before taken (label ∷ rest)
       → IsNext pre outs label (Some (next_label columns before taken label))
-  next_is _ outs before taken label rest old used fair =
+  next_is _ outs before taken label _ old used fair =
       let m = 1 + position_or_len (is_free taken label) (range_with_len 1 (columns - 1)) in
       let told : (t : Text) → (has_text header t || has_text outs t) ≡ has_text taken t = grind (arith, list_any-append) in
       record {
@@ -53,8 +50,8 @@ module _ (columns : ℕ) (small : columns < 2 ^ 64) (header : List Text) where
         number = m;
         some = omega arith;
         is = grind arith;
-        free = λ again. told (with_number label m) ∙ numbered-free columns small before taken label rest fair (old label ∙ again);
-        least = λ again n some lt. told (with_number label n) ∙ passed taken label (columns - 1) n some lt;
+        free = λ again. told (with_number label m) ∙ numbered-free _ small before _ _ _ fair (old label ∙ again);
+        least = λ again n some lt. grind (arith, passed);
       }
 
   nexts : (pre outs before taken rest : List Text) → Alike before pre → Alike taken (header ++ outs) → IsFair columns before taken rest → (i : ℕ) (label : Text) → slice_get rest i ≡ Some label
@@ -64,23 +61,23 @@ module _ (columns : ℕ) (small : columns < 2 ^ 64) (header : List Text) where
   nexts pre outs before taken (l ∷ rest) old used fair (suc i) label is =
       let next = next_label columns before taken l in
       let more = labels_after columns (with_text before l) (with_text taken next) rest in
-      let later = nexts (pre ++ l ∷ []) (outs ++ next ∷ []) (with_text before l) (with_text taken next) rest (put_alike before pre l old)
-      (λ q. put_alike taken (header ++ outs) next used q ∙ ap (λ zs. has_text zs q) (append_assoc header outs (next ∷ [])))
-      (search fair-after) i label is in
+      let later = nexts (pre ++ l ∷ []) (outs ++ next ∷ []) (with_text before l) (with_text taken next) _ (grind (arith, put_has, list_any-append))
+      (λ q. grind (arith, put_has, list_any-append, append_assoc))
+      (search fair-after) i _ is in
       grind (arith, append_assoc)
 
 after_count : (columns : ℕ) (before taken rest : List Text) → length (labels_after columns before taken rest) ≡ length rest
 after_count _ _ _ [] = refl
-after_count columns before taken (l ∷ rest) = ap suc (after_count columns (with_text before l) (with_text taken (next_label columns before taken l)) rest)
+after_count _ before _ (l ∷ rest) = ap suc (after_count _ (with_text before l) _ rest)
 
 pub labels_numbered : (header : List Text) → length header < 2 ^ 64 → AreNumbered header (different_labels header)
 labels_numbered header small =
     let fair : IsFair (length header) [] (with_texts [] header) header = grind (arith, count-texts, header-had) in
-    let used : Alike (with_texts [] header) (header ++ []) = λ q. all_alike [] [] header (λ t. refl) q ∙ ap (λ l. has_text l q) (sym (append-nil header)) in
-    let at = nexts (length header) small header [] [] [] (with_texts [] header) header (λ t. refl) used fair in
+    let used : Alike (with_texts [] header) (header ++ []) = λ q. cc (all_alike [] [] header (λ t. refl) q, append-nil header) in
+    let at = nexts _ small _ [] [] [] _ _ (λ t. refl) used fair in
     record {
       count = search after_count;
       first = λ place label is new. (at place label is).first new;
       again = λ place label is old. let n = at place label is in record { number = n.number; some = n.some; is = n.is old; free = n.free old; least = n.least old };
-      different = labels_differ header small;
+      different = labels_differ _ small;
     }

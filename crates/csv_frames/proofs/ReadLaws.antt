@@ -1,11 +1,10 @@
 -- Laws of reading a file.
 use Rattle.{
-  std.{proofs.{Common.{◌≡◌, ◌≤◌, ◌<◌, ◌^◌, ℕ, List, ◌∷◌, length, take, None, true, false, arith}, lemmas.Str.{utf8_valid_len-IsUtf8}, Math.Seq.{take-append_seam}}, specs.Prelude.{Result, Err, IsUtf8, is_err}},
-  csv.specs.Reading.{records},
+  std.{proofs.{Common.{◌≡◌, ◌≤◌, ◌^◌, ℕ, List, length, take, true, false, arith}, lemmas.Str.{utf8_valid_len-IsUtf8}, Math.Seq.{take-append_seam}}, specs.Prelude.{Result, IsUtf8, is_err}},
   cell_core.specs.{Texts.{IsLonger}, declared.cell.Kind.{Kind}},
   meaning.specs.Text.{Text},
-  csv_meaning.specs.CsvRead.{CsvValue, CsvRefusal, beyond_limits, first_long, columns_of_records, columns_of_file},
-  csv_frames.{specs.{Rows.{file_records}, Views.{ReadsAs, ReadAnswers}, declared.table.{CsvTable.{CsvTable}, CsvFault.{CsvFault}}}, proofs.LargeLaws.{wide}},
+  csv_meaning.specs.CsvRead.{CsvValue, CsvRefusal, columns_of_records, columns_of_file},
+  csv_frames.specs.{Rows.{file_records}, Views.{ReadsAs, ReadAnswers}, declared.table.{CsvTable.{CsvTable}, CsvFault.{CsvFault}}},
 }
 
 front : (old inner : List Text) → IsLonger old inner → take (length old) inner ≡ old
@@ -16,11 +15,6 @@ refused = grind (arith, front)
 
 pub answered : (old new : List Text) (result : Result CsvTable CsvFault) (meant : Result CsvValue CsvRefusal) → is_err result ≡ false → ReadsAs new result meant → ReadAnswers old new result meant
 answered = grind arith
-
--- a header that is too wide for a table
-pub wide_read : (entries : List (Text × Kind)) (count : ℕ) (header : List Text) (records rows : List (List Text)) → records ≡ header ∷ rows → count ≡ length entries → count ≡ 0 → 2 ^ 16 < length header → first_long (length header) 2 rows ≡ None
-    → columns_of_records entries records ≡ Err beyond_limits
-wide_read entries count header records rows all counted none broad short = cc (wide entries count header rows counted none broad)
 
 -- a file that is a text and isn't too long
 pub file_read : (bytes : List ℕ) (entries : List (Text × Kind)) → length bytes ≤ 2 ^ 28 → IsUtf8 bytes → columns_of_records entries (file_records bytes) ≡ columns_of_file bytes entries

@@ -1,7 +1,7 @@
 -- Laws of records that are read one after the other.
 use Rattle.{
   std.{proofs.Common.{rules, ◌++◌, length-append, length-drop, ◌≡◌, ◌∷◌, [], ap, List, ℕ, Option, Some, None, Bool, true, false, length, zero, suc, ◌<◌, ◌≤◌, ◌+◌, arith, inl, inr}, specs.{Prelude.{if◌then◌else◌, ◌⊎◌, ◌-◌}, Borrow.{Bor}}},
-  csv.{specs.{Machine.{Read, next_record, ends_at_end, step, is_end, in_field, start_field, after_end}, declared.{parser.{Action.{Action}, Terminator.{Terminator}, Config.{Config}, State.{State}}, reader.Reader.{Reader}}, Reading.{Reached, Ready, ReadRecord, records_from, records_next, strip_bom}}, proofs.ReadFacts.{rows-more}},
+  csv.{specs.{Machine.{Read, next_record, ends_at_end, step, is_end, in_field, after_end}, declared.{parser.{Action.{Action}, Terminator.{Terminator}, Config.{Config}, State.{State}}, reader.Reader.{Reader}}, Reading.{Reached, Ready, ReadRecord, records_from, records_next, strip_bom}}, proofs.ReadFacts.{rows-more}},
   csv_frames.specs.Rows.{Reads, IsNext, known, rows_left, file_records, file_rows},
 }
 use Rattle.csv.specs.declared.reader.Trim.TheVariants as trim
@@ -21,12 +21,9 @@ quiet-end = grind arith
 quiet-in : (cfg : Config) (c : ℕ) → Quiet (in_field cfg c)
 quiet-in = search (quiet-if, no, quiet-end)
 
-quiet-start : (cfg : Config) (c : ℕ) → Quiet (start_field cfg c)
-quiet-start = search (quiet-if, no, quiet-in)
-
 -- a step that ends a record leaves no record begun
 quiet : (cfg : Config) (s : State) (c : ℕ) → Quiet (step cfg s c)
-quiet = grind (arith, quiet-if, no, quiet-start, quiet-in)
+quiet = grind (arith, quiet-if, no, quiet-in)
 
 inner : {A : Type 0} (x y : A) → Some x ≡ Some y → x ≡ y
 inner x y e = cc

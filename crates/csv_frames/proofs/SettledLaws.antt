@@ -46,7 +46,7 @@ module _ {X Y : Type 0} (view : List Text → X → Y) (old new : List Text) (xs
 text_kept : (texts more : List Text) (i : ℕ) (t : Text) → slice_get texts i ≡ Some t → slice_index_or (texts ++ more) i [] ≡ slice_index_or texts i []
 text_kept [] _ i t given = Prim.cc
 text_kept (u ∷ us) _ zero t given = refl
-text_kept (u ∷ us) more (suc i) t given = text_kept us more i t given
+text_kept (u ∷ us) _ (suc i) t given = text_kept us _ i t given
 
 text_given : (texts : List Text) (i : ℕ) (t : Text) → slice_get texts i ≡ Some t → slice_index_or texts i [] ≡ t
 text_given [] i t given = Prim.cc

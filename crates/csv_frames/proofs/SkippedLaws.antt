@@ -17,11 +17,11 @@ passed_all = grind (arith, passed_from)
 
 -- the first number that is free, and the last one
 pub label_found : (taken : List Text) (label t : Text) (n columns : ℕ) → 1 ≤ n → n < columns → IsSkipped taken label n → t ≡ with_number label n → true ≡ is_free taken label n → t ≡ free_label columns taken label
-label_found taken label t n columns some lt skipped is free = number_found taken label t n columns lt is (grind (arith, passed_all)) free
+label_found _ _ t n _ some lt skipped is free = number_found _ _ t n _ lt is (grind (arith, passed_all)) free
 
 pub label_last : (taken : List Text) (label t : Text) (n columns : ℕ) → 0 < columns → columns ≤ n → IsSkipped taken label n → t ≡ with_number label columns → t ≡ free_label columns taken label
-label_last taken label t n columns some le skipped is =
-    let passed = passed_all taken label columns columns (omega arith) (omega arith) (λ m one lt. skipped m one (omega arith)) in
+label_last _ label t n columns some le skipped is =
+    let passed = passed_all _ label columns columns (omega arith) (omega arith) (λ m one lt. skipped m one (omega arith)) in
     grind arith
 
 -- what is taken stays so
@@ -45,13 +45,13 @@ is_old : (b : Bool) (n m : ℕ) → nat_eq n m ≡ not b → n ≢ m → b ≡ t
 is_old = grind arith
 
 pub old_text : (texts : List Text) (t : Text) (n : ℕ) → n ≡ number_of texts t → n ≢ length texts → list_any (same_text t) texts ≡ true
-old_text texts t n is other = is_old (list_any (same_text t) texts) n (length texts) (new_number texts t n (length texts) is refl) other
+old_text = search (is_old, new_number)
 
 is_not_new : (b : Bool) (n m : ℕ) → nat_eq n m ≡ not b → n ≡ m → b ≡ false
 is_not_new = grind arith
 
 pub new_text : (texts : List Text) (t : Text) (n : ℕ) → n ≡ number_of texts t → n ≡ length texts → list_any (same_text t) texts ≡ false
-new_text texts t n is same = is_not_new (list_any (same_text t) texts) n (length texts) (new_number texts t n (length texts) is refl) same
+new_text = search (is_not_new, new_number)
 
 kept : (texts texts' : List Text) (t : Text) → texts' ≡ with_text texts t → list_any (same_text t) texts ≡ true → texts' ≡ texts
 kept _ _ t put old = cc
@@ -99,7 +99,7 @@ any_default (x ∷ xs) (suc i) d e lt = any_default xs i d e (omega arith)
 pub next_number_of : (before before' taken : List Text) (next : List ℕ) (label : Text) (n first : ℕ) → AreSkipped before taken next → before' ≡ with_text before label → n ≡ number_of before label → n ≢ length before
     → slice_get before' n ≡ Some label → first ≡ slice_index_or next n first → (1 ≤ first) × IsSkipped taken label first
 next_number_of before before' _ next label n first inv put is other given read =
-    let lt = number_within before label n is other in
+    let lt = number_within _ _ n is other in
     let at : first ≡ slice_index_or next n 0 = grind (arith, any_default) in (
       grind arith,
       grind (arith, text_numbered before before' label n put is other given),

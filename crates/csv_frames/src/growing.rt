@@ -141,6 +141,7 @@ impl Growing {
     }
 
     /// Appends a field to so many fields, and says whether it isn't of the kind that is named for the column.
+    #[tactic(auto, using(crate::proofs::GrowingLaws::mixed_grown))]
     pub(crate) fn push(
         &mut self,
         alloc: Global,

@@ -41,6 +41,7 @@ fn is_misfit(named: Option<Kind>, row: &StringRecord, place: usize) -> bool
 }
 
 // Whether a record has such a field.
+#[tactic(auto, using(crate::proofs::MisfitLaws::misfit_done))]
 fn has_misfit(kinds: &[Option<Kind>], row: &StringRecord) -> bool
     ensures { result ≡ meant.has_misfit kinds.now (fields_of row.now) }
 {
@@ -147,6 +148,7 @@ impl Growth {
 
 /// The columns of a file's records after the header, of these kinds where they are named; or else the first record that
 /// is longer than the header.
+#[tactic(auto, using(crate::proofs::RecordLaws::few_before))]
 pub(crate) fn growth_of(
     alloc: Global,
     dict: &mut TextDict,

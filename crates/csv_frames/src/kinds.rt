@@ -10,6 +10,7 @@ use indexmap::IndexMap;
 use std::alloc::Global;
 
 // The kinds by label.
+#[tactic(auto, using(crate::proofs::KindLaws::kind_step))]
 fn kinds_by_label(
     alloc: Global,
     dict: &TextDict,
@@ -28,6 +29,7 @@ fn kinds_by_label(
     Ok(named)
 }
 
+#[tactic(auto, using(crate::proofs::KindLaws::kind_found))]
 fn kind_of_label(named: &IndexMap<String, Kind>, label: &str) -> Option<Kind>
     ensures { result ≡ kind_at (kinds_seen named.now.entries) label.now }
 {

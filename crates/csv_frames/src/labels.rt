@@ -37,6 +37,7 @@ fn labels_named(alloc: Global, header: &StringRecord) -> Result<Vec<String>, NoM
 }
 
 // Puts a text among others, and says whether it is new.
+#[tactic(auto, using(crate::proofs::LabelLaws::new_number))]
 fn is_new(texts: &mut TextDict, text: &str) -> Result<bool, NoMemory>
     ensures texts { OnOk result (texts.new ≡ with_text texts.old text.now) }
     ensures new { IfOk result (λ new. new ≡ not (list_any (same_text text.now) texts.old)) }
@@ -72,6 +73,7 @@ struct Labels {
 
 // The label with the least number that gives no label that is taken, and where to look for the next one. No number
 // before `first` is free. The label is taken then.
+#[tactic(auto, using(crate::proofs::SkippedLaws::label_last, std::proofs::Common::string_bytes))]
 fn free_label(
     alloc: Global,
     columns: usize,
@@ -100,6 +102,7 @@ fn free_label(
 }
 
 // The label of the next column, which stands among the others then and is taken.
+#[tactic(auto, using(crate::proofs::Hints::next_label))]
 fn next_label(
     alloc: Global,
     columns: usize,
@@ -150,6 +153,7 @@ fn different_labels(alloc: Global, header: &[String]) -> Result<Vec<String>, NoM
 }
 
 /// The labels of the columns that the header gives, which all differ.
+#[tactic(auto, using(crate::proofs::Hints::labels_of))]
 pub(crate) fn labels_of(alloc: Global, header: &StringRecord) -> Result<Vec<String>, NoMemory>
     ensures labels { IfOk result (λ labels. texts_seen labels.items
         ≡ meant.labels_of (fields_of header.now)) }

@@ -25,6 +25,7 @@ const MOST_BYTES: usize = 1 << 28;
 
 // The columns of a file's records. Where the cells of one weren't kept, the records are read once more, with the kind
 // of each column named.
+#[tactic(auto, using(crate::proofs::Hints::columns_read))]
 fn columns_read(
     alloc: Global,
     dict: &mut TextDict,
@@ -53,6 +54,7 @@ fn columns_read(
 }
 
 // The columns of a file's records, with these labels.
+#[tactic(auto, using(crate::proofs::Hints::labelled_columns))]
 fn labelled_columns(
     alloc: Global,
     dict: &mut TextDict,
@@ -115,6 +117,7 @@ fn columns_of_rows(
 }
 
 // The columns under a header.
+#[tactic(auto, using(crate::proofs::Hints::columns_under))]
 fn columns_under(
     alloc: Global,
     dict: &mut TextDict,
@@ -180,6 +183,7 @@ fn columns_of_text(
 /// header, with its number (the header is record 1), the header's length and its own; `NotCast` where a field isn't of
 /// the kind that is named for its column; `TooLarge` for more than 2^26 records after the header, 2^16 columns or 2^26
 /// cells. `NoMemory` may come in place of any answer. After any other refusal `dict` is as it was.
+#[tactic(auto, using(crate::proofs::Hints::read_csv))]
 pub fn read_csv(
     alloc: Global,
     dict: &mut TextDict,

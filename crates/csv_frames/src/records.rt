@@ -20,6 +20,7 @@ pub(crate) fn reader_of(alloc: Global, text: &[u8]) -> Reader<&[u8]>
 }
 
 /// Reads the next record into `row`, and says whether there was one.
+#[tactic(auto, using(crate::proofs::RecordLaws::read_next))]
 pub(crate) fn next_record(
     reader: &mut Reader<&[u8]>,
     row: &mut StringRecord,

@@ -46,16 +46,16 @@ module _ (texts : List Text) (keys : List (List Label)) (levels : ℕ) (alike : 
   kept = kept_numbers sorted dropna less holds_na how_many
 
   pub kept_below : All (λ number. number < how_many) kept
-  kept_below = law.kept_below (seen_rules texts) tuple_laws [] sorted dropna keys less holds_na below missing
+  kept_below = law.kept_below (seen_rules texts) tuple_laws [] sorted dropna keys _ _ below missing
 
   pub keys_counted : length (group_keys (seen_rules texts) sorted dropna keys) ≡ length kept
-  keys_counted = law.keys_counted (seen_rules texts) tuple_laws [] sorted dropna keys less holds_na below missing
+  keys_counted = law.keys_counted _ tuple_laws [] _ _ _ _ _ below missing
 
   pub codes_recoded : group_codes (seen_rules texts) sorted dropna keys ≡ recoded (places_of kept how_many) (codes_of same_tuple keys)
-  codes_recoded = law.codes_recoded (seen_rules texts) tuple_laws [] sorted dropna keys less holds_na below missing
+  codes_recoded = law.codes_recoded _ tuple_laws [] _ _ _ _ _ below missing
 
   pub firsts_kept : map (place_among same_tuple keys) (group_keys (seen_rules texts) sorted dropna keys) ≡ map (first_row firsts) kept
-  firsts_kept = law.firsts_kept (seen_rules texts) tuple_laws [] sorted dropna keys less holds_na below missing
+  firsts_kept = law.firsts_kept _ tuple_laws [] _ _ _ _ _ below missing
 
   -- what is made step by step
   module _ (firsts' : List ℕ) (first : firsts' ≡ firsts) where
@@ -91,15 +91,15 @@ module _ (texts : List Text) (keys : List (List Label)) (sorted dropna : Bool) w
 
   -- each group's first row is a row, and has the group's tuple
   pub rows_inside : All (λ row. row < length keys) (map (place_among same_tuple keys) group_tuples)
-  rows_inside = All-map (λ row. row < length keys) (place_among same_tuple keys) group_tuples (λ k d lt. position_in (same_tuple (slice_index_or group_tuples k d)) keys (groups_there k d lt))
+  rows_inside = All-map (λ row. row < length keys) (place_among same_tuple keys) group_tuples (λ k d lt. position_in _ _ (groups_there k d lt))
 
   pub tuples_there : tuples_at keys (map (place_among same_tuple keys) group_tuples) ≡ group_tuples
   tuples_there =
-      map_map (λ row. slice_index_or keys row []) (place_among same_tuple keys) group_tuples
-      ∙ map_on (IsThere same_tuple keys) (λ key. slice_index_or keys (place_among same_tuple keys key) []) (λ key. key)
+      map_map _ _ _
+      ∙ map_on (IsThere same_tuple keys) (λ key. slice_index_or keys (place_among same_tuple keys key) []) _
       (λ key here. sym (grind (arith, tuple_decides, passes_at_first, position_in))) group_tuples groups_there
-      ∙ map-id group_tuples
+      ∙ map-id _
 
   pub law_of : (rows : List ℕ) (codes : List (Option ℕ)) → rows ≡ map (place_among same_tuple keys) group_tuples → codes ≡ group_codes (seen_rules texts) sorted dropna keys
       → AreGroups (seen_rules texts) sorted dropna keys (tuples_at keys rows) codes
-  law_of _ _ first coded = grind (arith, tuples_there, are_groups (seen_rules texts) tuple_laws (ranks_by (lists_total label_total) (tuple_seen texts)) (λ a b e. ap (λ key. list_any is_na (tuple_seen texts key)) ((tuple_decides a b).0 e)) sorted dropna keys)
+  law_of = grind (arith, tuples_there, are_groups (seen_rules texts) tuple_laws (ranks_by (lists_total label_total) (tuple_seen texts)) (λ a b e. grind (arith, tuple_decides)) sorted dropna keys)

@@ -23,14 +23,14 @@ module _ (texts : List Text) (sorted : Bool) (rows : List (List Label)) where
   pub rows_known : All IsKnown rows
   rows_known k d lt =
       let key = slice_index_or rows k d in
-      let known = all_known same_tuple tuple_laws rows k d lt in
+      let known = all_known _ tuple_laws rows k d lt in
       grind (arith, keys_are, any_in_order)
 
   -- each row is in the group of its key's number
   groups_are : group_codes (seen_rules texts) sorted false rows ≡ map Some (map (place_among same_tuple keys) rows)
   groups_are =
-      map_on IsKnown (group_of same_tuple keys) (λ key. Some (place_among same_tuple keys key)) (λ key known. there (same_tuple key) keys (position_in (same_tuple key) keys known)) rows rows_known
-      ∙ sym (map_map Some (place_among same_tuple keys) rows)
+      map_on _ (group_of same_tuple keys) _ (λ key known. there _ keys (position_in _ _ known)) rows rows_known
+      ∙ sym (map_map _ _ _)
 
   -- numbers in the order of the keys
   module _ (levels : ℕ) (alike : HaveLevels levels rows) (firsts ordered : List ℕ) (first : firsts ≡ first_rows same_tuple rows)

@@ -10,7 +10,6 @@ use Rattle.{
   multi_index.specs.Axes.{HaveLevels},
   label_align.{specs.Tuples.{tuple_seen, labels_of}, proofs.OrderLaws.{label_there, labels_counted}},
 }
-use Rattle.cell_core.specs.declared.cell.Cell.TheVariants as cell
 use Rattle.cell_core.specs.declared.cell.Label.TheVariants as label
 
 pub labels_there : (texts : List Text) (keys : List (List Label)) (levels row : ℕ) → HaveLevels levels keys → row < length keys → labels_of texts keys levels row ≡ tuple_seen texts (slice_index_or keys row [])
@@ -19,7 +18,7 @@ labels_there texts keys levels row alike lt =
     same_lists (labels_of texts keys levels row) (tuple_seen texts key) (grind (arith, labels_counted, length-map))
     (λ k d inside.
     let below : k < levels = omega (arith, labels_counted texts keys levels row, inside) in
-    label_there texts keys levels row k d below
+    label_there _ _ _ row k d below
     ∙ sym (get_or-map (label_datum texts) key k label.Na)
     ∙ get_or_default (tuple_seen texts key) k (label_datum texts label.Na) d (omega (arith, below, (alike row [] lt), length-map key (label_datum texts))))
 
@@ -27,7 +26,7 @@ labels_there texts keys levels row alike lt =
 pub columns_alike : (columns : List CellColumn) (count : ℕ) → HaveLevels (length columns) (column_keys columns count)
 columns_alike columns count =
     All-map (λ key. length key ≡ length columns) (row_key columns) (range_with_len 0 count)
-    (λ k d lt. length-map columns (λ column. label_of_cell (slice_index_or column.cells (slice_index_or (range_with_len 0 count) k d) cell.Na)))
+    (λ k d lt. length-map columns _)
 
 pub columns_counted : (columns : List CellColumn) (count : ℕ) → count ≡ length (column_keys columns count)
 columns_counted = search length-map-range_with_len

@@ -6,7 +6,7 @@ use Rattle.{
   align_meaning.proofs.OrderLaws.{all_put_in, all_in_order},
   pick_meaning.{specs.Rows.{rows_where}, proofs.RowLaws.{rows_where-map}},
   row_keys.proofs.{KeyLaws.{position_in, all_known, any_at}, RecodeLaws.{Apart, All-distinct, apart_distinct, apart_at}},
-  group_meaning.specs.{Keys.{KeyRules, is_kept, ordered_if, group_keys, group_of, group_codes}, Rows.{is_in, rows_of_group}, Grouping.{HasGroup, AreGroups}},
+  group_meaning.specs.{Keys.{KeyRules, is_kept, group_keys, group_of, group_codes}, Rows.{is_in, rows_of_group}, Grouping.{HasGroup, AreGroups}},
   factorize.proofs.PlaceLaws.{there},
 }
 
@@ -51,7 +51,7 @@ module _ {K : Type 0} (same : K → K → Bool) (laws : IsEquivalence same) wher
 
     apart_in_order : (xs : List K) → Apart same xs → Apart same (in_order less xs)
     apart_in_order [] _ = tt
-    apart_in_order (x ∷ xs) apart = apart_put_in x (in_order less xs) (all_in_order (λ q. not (same q x) ≡ true) less xs apart.0) (apart_in_order xs apart.1)
+    apart_in_order (x ∷ xs) apart = apart_put_in x _ (all_in_order (λ q. not (same q x) ≡ true) _ xs apart.0) (apart_in_order xs apart.1)
 
   -- a key's place among keys of which no two are the same
   module _ (keys : List K) (apart : Apart same keys) where
@@ -92,18 +92,18 @@ module _ {K : Type 0} (rules : KeyRules K) (laws : IsEquivalence rules.same) (we
     in_none = grind (arith, coded, none_at, true≢false, filter_passes)
 
   rows_of : (group : ℕ) (d : K) → group < length keys → rows_of_group group codes ≡ rows_where (rules.same (slice_index_or keys group d)) 0 rows
-  rows_of group d lt = rows_where-map (λ k. Unit {0}) (is_in group) (rules.same (slice_index_or keys group d)) (group_of rules.same keys) (λ k _. told rules.same laws keys keys_apart group d k lt) 0 rows (λ k d' below. tt)
+  rows_of group d lt = rows_where-map (λ k. Unit {0}) _ _ _ (λ k _. told _ laws _ keys_apart group d k lt) 0 _ _
 
 -- a key that a row has
 abbrev pub IsThere : {K : Type 0} → (K → K → Bool) → List K → K → Type 0
 IsThere same rows key = list_any (same key) rows ≡ true
 
 pub keys_there : {K : Type 0} (rules : KeyRules K) → IsEquivalence rules.same → (sorted dropna : Bool) (rows : List K) → All (IsThere rules.same rows) (group_keys rules sorted dropna rows)
-keys_there {K} rules laws sorted dropna rows =
+keys_there {K} rules laws sorted _ rows =
     let there = IsThere rules.same rows in
     let keys = distinct rules.same rows in
-    let all = All-distinct there rules.same rows (λ k d lt. any_at (rules.same (slice_index_or rows k d)) rows k d lt (laws.refl (slice_index_or rows k d))) in
-    All-filter (is_kept dropna rules.holds_na) there (ordered_if sorted rules.less keys)
+    let all = All-distinct there rules.same _ (λ k d lt. any_at _ _ k d lt (laws.refl (slice_index_or rows k d))) in
+    All-filter _ there _
     (elim sorted as (λ b. All there (cond b (in_order rules.less keys) keys)) [
       | true ↦ search all_in_order
       | false ↦ all
@@ -131,7 +131,7 @@ module _ {X : Type 0} (wrong : X → X → Bool) where
 
 in_order_rises : {X : Type 0} (less : X → X → Bool) → IsStrictWeakOrder less → (xs : List X) → Rises less (in_order less xs)
 in_order_rises {X} _ _ [] = tt
-in_order_rises {X} less weak (x ∷ xs) = put x (in_order less xs) (in_order_rises less weak xs)
+in_order_rises {X} less weak (x ∷ xs) = put x _ (in_order_rises _ weak xs)
   where
     put : (x : X) (ys : List X) → Rises less ys → Rises less (put_in less x ys)
     put x [] up = grind arith
@@ -156,7 +156,7 @@ module _ {K : Type 0} (same : K → K → Bool) where
       above a qs other all j d lt =
           let b = slice_index_or (filter (λ q. not (same q k)) qs) j d in
           let apart : same b k ≡ false = grind (arith, not-true, filter_passes) in
-          let before = not-false (nat_lt (position_or_len (same a) ks) (position_or_len (same b) ks)) (All-filter (λ q. not (same q k)) (λ q. not_after ks q a ≡ false) qs all j d lt) in
+          let before = not-false _ (All-filter _ (λ q. not_after ks q a ≡ false) qs all j d lt) in
           grind (arith, lt-ltb, one_later, ltb-true)
 
       moved : (qs : List K) → Rises (not_after ks) qs → Rises (not_after (k ∷ ks)) (filter (λ q. not (same q k)) qs)

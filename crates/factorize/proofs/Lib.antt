@@ -4,3 +4,4 @@ pub mod NumberLaws
 pub mod GroupLaws
 pub mod LawOfGroups
 pub mod KeyNumberLaws
+pub mod Hints

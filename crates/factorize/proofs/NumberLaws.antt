@@ -34,10 +34,10 @@ module _ {K : Type 0} (rules : KeyRules K) (laws : IsEquivalence rules.same) (d 
   numbers = range_with_len 0 how_many
 
   all_numbers : All IsNumber numbers
-  all_numbers = below_range how_many
+  all_numbers = below_range _
 
   keys_numbered : keys ≡ map key_at numbers
-  keys_numbered = fill_by_all key_at keys how_many d refl (λ k lt. refl)
+  keys_numbered = fill_by_all _ keys _ d refl (λ k lt. refl)
 
   module _ (less : ℕ → ℕ → Bool) (holds_na : ℕ → Bool) (below : (i j : ℕ) → IsNumber i → IsNumber j → rules.less (key_at i) (key_at j) ≡ less i j)
       (missing : (i : ℕ) → IsNumber i → rules.holds_na (key_at i) ≡ holds_na i) where
@@ -51,13 +51,13 @@ module _ {K : Type 0} (rules : KeyRules K) (laws : IsEquivalence rules.same) (d 
     ordered_numbers = elim sorted as (λ b. All IsNumber (cond b (in_order less numbers) numbers)) [ true ↦ search (all_in_order, all_numbers) | false ↦ all_numbers ]
 
     pub kept_below : All IsNumber kept
-    kept_below = All-filter (is_kept dropna holds_na) IsNumber ordered ordered_numbers
+    kept_below = All-filter _ IsNumber _ ordered_numbers
 
     ordered_keys : ordered_if sorted rules.less keys ≡ map key_at ordered
     ordered_keys =
         ap (ordered_if sorted rules.less) keys_numbered
         ∙ (elim sorted as (λ b. cond b (in_order rules.less (map key_at numbers)) (map key_at numbers) ≡ map key_at (cond b (in_order less numbers) numbers)) [
-          | true ↦ in_order_map IsNumber key_at less rules.less below numbers all_numbers
+          | true ↦ in_order_map _ _ _ _ below numbers all_numbers
           | false ↦ refl
         ])
 
@@ -85,9 +85,9 @@ module _ {K : Type 0} (rules : KeyRules K) (laws : IsEquivalence rules.same) (d 
     codes_recoded =
         map_on IsKnown (group_of rules.same (group_keys rules sorted dropna rows)) (λ k. slice_index_or (places_of kept how_many) (rank k) None)
         (λ k known. group_by_number k ∙ sym (grind (arith, get_or-map-range_with_len, position_in)))
-        rows (all_known rules.same laws rows)
+        rows (all_known _ laws rows)
         ∙ sym (search map_map)
 
     -- the first row of each group is that of its number
     pub firsts_kept : map (place_among rules.same rows) (group_keys rules sorted dropna rows) ≡ map (first_row (first_rows rules.same rows)) kept
-    firsts_kept = cc (keys_kept, map_map (place_among rules.same rows) key_at kept, map_on IsNumber (λ i. place_among rules.same rows (key_at i)) (first_row (first_rows rules.same rows)) (λ i lt. sym (get_or-map (place_among rules.same rows) keys i d 0 lt)) kept kept_below)
+    firsts_kept = cc (keys_kept, map_map (place_among rules.same rows) key_at kept, map_on IsNumber (λ i. place_among rules.same rows (key_at i)) (first_row (first_rows rules.same rows)) (λ i lt. grind (arith, get_or-map, rules.same)) kept kept_below)

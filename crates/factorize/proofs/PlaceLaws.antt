@@ -1,6 +1,6 @@
 -- The first place that passes a test, with one element more.
 use Rattle.{
-  std.{proofs.{Common.{◌≡◌, ◌∙◌, ◌+◌, ◌<◌, ◌≤◌, sym, subst, arith, ℕ, Bool, false, cond, List, [], ◌∷◌, ◌++◌, ◌==◌, length, slice_index_or, Option, Some, None, length-append, map, All}, lemmas.{Bool.{lt-ltb, le-ltb, ne_eqb, eq-eqb, eqb-true, eqb-false, cases_lt}, List.{length-map, get_or-map, get_or-set_same, get_or-set_other, get_or_default, same_lists, Folds.{position_or_len_push}, Elements.{All-map}, FromFn.{length-map-range_with_len, get_or-map-range_with_len}}}}, specs.List.{position, position_or_len}},
+  std.{proofs.{Common.{◌≡◌, ◌∙◌, ◌+◌, ◌<◌, ◌≤◌, sym, subst, arith, ℕ, Bool, false, List, [], ◌∷◌, ◌++◌, ◌==◌, length, slice_index_or, Option, Some, None, length-append, map, All}, lemmas.{Bool.{lt-ltb, le-ltb, ne_eqb, eq-eqb, eqb-true, eqb-false, cases_lt}, List.{length-map, get_or-map, get_or-set_same, get_or-set_other, get_or_default, same_lists, Folds.{position_or_len_push}, Elements.{All-map}, FromFn.{length-map-range_with_len, get_or-map-range_with_len}}}}, specs.List.{position, position_or_len}},
   column_core.specs.Moves.{IsPlaceOf},
   row_keys.proofs.DistinctLaws.{prefix-le},
   group_meaning.proofs.ListLaws.{map_map},
@@ -21,9 +21,6 @@ module _ {X : Type 0} (p : X → Bool) where
     few : position_or_len p xs ≤ length xs
     few = search prefix-le
 
-    place_at_end : length xs ≤ position_or_len p xs → position_or_len p (xs ++ y ∷ []) ≡ length xs + cond (p y) 0 1
-    place_at_end = grind (arith, position_or_len_push, eq-eqb, few)
-
     longer : length (xs ++ y ∷ []) ≡ length xs + 1
     longer = length-append xs (y ∷ [])
 
@@ -41,10 +38,10 @@ module _ (numbers : List ℕ) (count number : ℕ) (before after : List (Option 
   other = grind (arith, get_or-set_other, eqb-false)
 
   here : (o : Option ℕ) → slice_index_or before number None ≡ o → slice_index_or after number None ≡ position (λ k. number == k) (numbers ++ number ∷ [])
-  here = grind (arith, get_or-set_same, cases_lt, there, place_at_end, longer, eq-eqb, stays, nowhere)
+  here = grind (arith, get_or-set_same, cases_lt, there, position_or_len_push, eq-eqb, few, longer, stays, nowhere)
 
   pub placed_more : (n : ℕ) → n < count → slice_index_or after n None ≡ position (λ k. n == k) (numbers ++ number ∷ [])
-  placed_more = grind (arith, eqb-true, here, other, cases_lt, stays, nowhere, place_at_end, longer)
+  placed_more = grind (arith, eqb-true, here, other, cases_lt, stays, nowhere, position_or_len_push, eq-eqb, few, longer)
 
 pub codes_placed : (kept : List ℕ) (count : ℕ) (places : List (Option ℕ)) (codes : List ℕ) → places ≡ places_of kept count → All (λ code. code < count) codes → All (λ code. code < length places) codes
 codes_placed = grind (arith, length-map-range_with_len)
@@ -61,6 +58,6 @@ pub all_recoded : (places : List (Option ℕ)) (codes made : List ℕ) → lengt
     → ((k : ℕ) → k < length codes → slice_index_or made k 0 ≡ number_in (slice_index_or places (slice_index_or codes k 0) None)) → made ≡ map number_in (recoded places codes)
 all_recoded places codes made size each =
     let place : ℕ → ℕ = λ n. number_in (slice_index_or places n None) in
-    same_lists made (map place codes) (size ∙ sym (length-map codes place))
-    (λ k d lt. get_or_default made k d 0 lt ∙ each k (omega (arith, lt, size)) ∙ sym (get_or-map place codes k 0 d (omega (arith, lt, size))))
-    ∙ sym (map_map number_in (λ n. slice_index_or places n None) codes)
+    same_lists made (map place codes) (size ∙ sym (length-map codes _))
+    (λ k d lt. grind (arith, get_or_default, get_or-map))
+    ∙ sym (map_map _ _ _)

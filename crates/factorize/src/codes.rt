@@ -65,6 +65,7 @@ impl RowGroups for Codes {
 }
 
 // The tuples at these rows.
+#[tactic(auto, using(multi_index::proofs::SideLaws::every_row))]
 fn tuples_of(alloc: Global, tuples: &Tuples, rows: &Places) -> Result<Tuples, NoMemory>
     requires { All (λ row. row < length tuples.now) rows.now }
     ensures { IfOk result (λ made. made ≡ tuples_at tuples.now rows.now) }
@@ -80,6 +81,7 @@ fn tuples_of(alloc: Global, tuples: &Tuples, rows: &Places) -> Result<Tuples, No
 /// sight. With `dropna` those that hold an NA are left out, and their rows have no number ("Group by:
 /// split-apply-combine" in the pandas user guide, and `factorize` in "Reshaping and pivot tables"). Texts are told
 /// apart by their numbers and ordered by what they say. `NoMemory` is the only refusal.
+#[tactic(auto, using(crate::proofs::GroupLaws::tuples_there))]
 pub fn factorize(
     alloc: Global,
     dict: &TextDict,

@@ -51,6 +51,7 @@ fn groups_of_all(alloc: Global, numbers: Numbers) -> Result<KeyGroups, NoMemory>
 }
 
 // The groups of rows whose numbers are kept, in the order of these.
+#[tactic(auto, using(crate::proofs::PlaceLaws::codes_placed))]
 fn groups_of_kept(alloc: Global, numbers: &Numbers, kept: &[usize]) -> Result<KeyGroups, NoMemory>
     requires kept { All (λ n. n < length numbers.now.firsts.items) kept.now }
     requires codes { All (λ code. code < length numbers.now.firsts.items) numbers.now.codes.items }
@@ -73,6 +74,7 @@ fn groups_of_kept(alloc: Global, numbers: &Numbers, kept: &[usize]) -> Result<Ke
 /// With `dropna` a row whose key holds an NA is in no group ("Group by: split-apply-combine" in the pandas user
 /// guide, "GroupBy sorting" and "GroupBy dropna"). Texts are told apart by their numbers and ordered by what they
 /// say. No tuple is made. `NoMemory` is the only refusal.
+#[tactic(auto, using(crate::proofs::KeyNumberLaws::all_counted))]
 pub fn group_by_keys<R: KeyLevels>(
     alloc: Global,
     dict: &TextDict,

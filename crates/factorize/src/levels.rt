@@ -75,6 +75,7 @@ fn first_length(tuples: &Tuples) -> usize
 }
 
 // The label of a tuple at a level; NA where there is none.
+#[tactic(auto, using(crate::proofs::Hints::tuple_label))]
 fn tuple_label(tuples: &Tuples, row: usize, level: usize) -> Label
     ensures { result ≡ label_in level (slice_index_or tuples.now row []) }
 {

@@ -90,6 +90,7 @@ pub(crate) fn numbered<R: KeyLevels>(alloc: Global, rows: &R) -> Result<Numbers,
 
 /// Numbers the keys of rows: in the order of the keys where they are to be sorted, and else by first sight. Texts are
 /// told apart by their numbers and ordered by what they say. No tuple is made. `NoMemory` is the only refusal.
+#[tactic(auto, using(crate::proofs::Hints::number_keys))]
 pub fn number_keys<R: KeyLevels>(
     alloc: Global,
     dict: &TextDict,

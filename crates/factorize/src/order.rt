@@ -48,6 +48,7 @@ pub(crate) fn row_of(firsts: &[usize], number: usize) -> usize
 }
 
 // The numbers below a count, one by one.
+#[tactic(auto, using(sorting::proofs::RangeLaws::one_more))]
 fn in_sequence(alloc: Global, count: usize) -> Result<Places, NoMemory>
     ensures { IfOk result (λ numbers. numbers ≡ range_with_len 0 count) }
 {

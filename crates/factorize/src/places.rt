@@ -126,6 +126,7 @@ pub(crate) fn codes_by(
 }
 
 // The place of each row's number in its stead; 0 where the number has none.
+#[tactic(auto, using(crate::proofs::PlaceLaws::all_recoded))]
 pub(crate) fn recode(codes: &mut [usize], places: &[Option<usize>])
     requires { All (λ code. code < length places.now) codes.old }
     ensures { codes.new ≡ map number_in (recoded places.now codes.old) }

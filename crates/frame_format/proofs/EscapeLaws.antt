@@ -20,7 +20,7 @@ shown_text-plain (b ∷ bs) plain = cc (shown_byte-plain b (plain 0 (omega arith
 -- a byte below 128 is all of its character
 plain_inside : (c k : ℕ) → IsPlain c → k < length (encode_utf8 c) → IsPlain (get_or (encode_utf8 c) k 0)
 plain_inside c k plain within =
-    let same = inside_one c [] (encode_utf8 c) k (sym (append-nil _)) within in
+    let same = inside_one c [] _ k (sym (append-nil _)) within in
     grind arith
 
 -- another character stands for itself

@@ -4,7 +4,7 @@ use Rattle.{
   meaning.specs.Text.{Text},
   table_meaning.specs.Table.{Table},
   format_meaning.specs.Print.{repeats, same_above, width, widest, right_set, spaces, side_by_side, places},
-  frame_format.specs.Layouts.{set_columns, gap_before},
+  frame_format.specs.Layouts.{set_columns},
 }
 
 range_more : (a n : ℕ) → range_with_len a (n + 1) ≡ range_with_len a n ++ (a + n) ∷ []
@@ -40,20 +40,16 @@ both_at_last = grind (arith, append_assoc)
 pub at_last : {T E : Type 0} (r : Result T E) (o o' a b : Text) → a ≡ b → OnOk r (o' ≡ o ++ a) → OnOk r (o' ≡ o ++ b)
 at_last = grind arith
 
--- a part more of what is written, with the gap before it
-pub join_pushed : (f : ℕ → Text) (gap : Text) (n : ℕ) (first out out' out'' t : Text) → out ≡ first ++ join_by f gap (places n) → out' ≡ out ++ gap_before gap n → out'' ≡ out' ++ t → t ≡ f n → out'' ≡ first ++ join_by f gap (places (n + 1))
-join_pushed = grind (arith, append_assoc, append-nil, places_more, flat_map-append)
-
 -- a piece more of what is written
 pub flat_pushed : (f : ℕ → Text) (n : ℕ) (first out out' t : Text) → out ≡ first ++ flat_map f (places n) → out' ≡ out ++ t → t ≡ f n → out' ≡ first ++ flat_map f (places (n + 1))
 flat_pushed = grind (arith, append_assoc, flat_more)
 
 -- what is the same at each place
 same_texts : (f g : ℕ → Text) (n : ℕ) → ((k : ℕ) → k < n → f k ≡ g k) → map f (places n) ≡ map g (places n)
-same_texts f g n same = fill_by_all g (map f (places n)) n [] (length-map-range_with_len f 0 n) (λ k h. get_or-map-range_with_len f 0 n k k [] h (omega arith) ∙ same k h)
+same_texts f g n same = fill_by_all g (map f (places n)) n [] (length-map-range_with_len f 0 n) (λ k h. grind (arith, get_or-map-range_with_len))
 
 pub join_same : (f g : ℕ → Text) (gap : Text) (n : ℕ) → ((k : ℕ) → k < n → f k ≡ g k) → join_by f gap (places n) ≡ join_by g gap (places n)
-join_same f g gap n same = joined f (places n) ∙ ap (join_by (λ t. t) gap) (same_texts f g n same) ∙ sym (joined g (places n))
+join_same f g gap n same = joined f _ ∙ ap (join_by (λ t. t) gap) (same_texts f g n same) ∙ sym (joined g _)
   where
     joined : (h : ℕ → Text) (xs : List ℕ) → join_by h gap xs ≡ join_by (λ t. t) gap (map h xs)
     joined h [] = refl
@@ -83,15 +79,15 @@ repeats_no_more = grind arith
 pub column_pushed : (ws : List ℕ) (texts : ℕ → Text) (n : ℕ) (first out out' out'' t : Text)
     → out ≡ first ++ set_columns n (λ k. get_or ws k 0) texts → out' ≡ out ++ spaces 2 → out'' ≡ out' ++ right_set (get_or ws n 0) t → t ≡ texts n
     → out'' ≡ first ++ set_columns (n + 1) (λ k. get_or ws k 0) texts
-column_pushed ws texts n first out _ out'' t before spaced pushed is =
-    flat_pushed (λ k. spaces 2 ++ right_set (get_or ws k 0) (texts k)) n first out out'' (spaces 2 ++ right_set (get_or ws n 0) t) before
+column_pushed ws texts n _ out _ _ t before spaced pushed is =
+    flat_pushed (λ k. spaces 2 ++ right_set (get_or ws k 0) (texts k)) n _ out _ _ before
     (search both)
     (ap (λ l. spaces 2 ++ right_set (get_or ws n 0) l) is)
 
 -- a line more, behind a line feed
 pub line_pushed : (line : ℕ → Text) (feed : Text) (n : ℕ) (first out out' out'' : Text)
     → out ≡ first ++ flat_map (λ row. feed ++ line row) (places n) → out' ≡ out ++ feed → out'' ≡ out' ++ line n → out'' ≡ first ++ flat_map (λ row. feed ++ line row) (places (n + 1))
-line_pushed line feed n first out out' out'' before fed pushed = flat_pushed (λ row. feed ++ line row) n first out out'' (feed ++ line n) before (both out out' out'' feed (line n) fed pushed) refl
+line_pushed _ _ n _ _ _ _ before fed pushed = flat_pushed _ n _ _ _ _ before (both _ _ _ _ _ fed pushed) refl
 
 -- where there are several levels, or one
 several : (n m : ℕ) → n ≡ m → n ≢ 1 → (m == 1) ≡ false

@@ -5,3 +5,4 @@ pub mod RecordLaws
 pub mod WholeLaws
 pub mod ReadBack
 pub mod TextOfRecords
+pub mod Hints

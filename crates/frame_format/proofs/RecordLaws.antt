@@ -6,18 +6,14 @@ use Rattle.{
   table_meaning.specs.Table.{Table, ColumnOf, RowOf, no_column, row_of, rows_of},
   csv.specs.{Records.{Row, fields_of, partial_of, AllText}, declared.writer.{Writer.{Writer}, WriterBuilder.{WriterBuilder}}, Writing.{row_text, text_written, writer_under, writer_pending, writer_setup, fields_written, has_written, default_writer}},
   format_meaning.specs.{CsvWrite.{cell_field, record_text}, Print.{places}},
-  frame_format.{specs.Written.{HasWritten, IsFilled}, proofs.{FieldLaws.{map_more, flat_more}, TextOfRecords.{texts_more, no_texts, record_utf8}}},
+  frame_format.{specs.Written.{HasWritten, IsFilled}, proofs.{FieldLaws.{flat_more}, TextOfRecords.{texts_more, no_texts, record_utf8}}},
 }
 use Rattle.csv.specs.declared.writer.QuoteStyle.TheVariants as style
-
--- a field more
-pub field_pushed : (f : ℕ → Text) (n : ℕ) (first fields fields' : List Text) (partial t : Text) → fields ≡ first ++ map f (places n) → partial ≡ [] → fields' ≡ fields ++ (partial ++ t) ∷ [] → t ≡ f n → fields' ≡ first ++ map f (places (n + 1))
-field_pushed = grind (arith, append_assoc, map_more)
 
 -- what is made of each item, place by place
 pub each_placed : {A : Type 0} (f : A → Text) (xs : List A) (d : A) (n : ℕ) → length xs ≡ n → map (λ k. f (get_or xs k d)) (places n) ≡ map f xs
 each_placed f xs d n is =
-    sym (fill_by_all (λ k. f (get_or xs k d)) (map f xs) n [] (length-map xs f ∙ is) (λ k h. get_or-map f xs k d [] (let lt : k < length xs = omega arith in lt)))
+    sym (fill_by_all _ (map f xs) n [] (length-map xs f ∙ is) (λ k h. get_or-map f xs k d [] (let lt : k < length xs = omega arith in lt)))
 
 -- all fields of a record's part
 pub fields_placed : {A : Type 0} (f : A → Text) (xs : List A) (d : A) (n : ℕ) (first fields : List Text) → fields ≡ first ++ map (λ k. f (get_or xs k d)) (places n) → length xs ≡ n → fields ≡ first ++ map f xs
@@ -30,8 +26,8 @@ map-map g f (x ∷ xs) = cc (map-map g f xs)
 -- the fields of a row's cells
 pub cells_placed : (columns : List (ColumnOf CellValue)) (row n : ℕ) (first fields : List Text) → fields ≡ first ++ map (λ k. cell_field (get_or (get_or columns k no_column).cells row na_cell)) (places n) → length columns ≡ n
     → fields ≡ first ++ map cell_field (map (λ (c : ColumnOf CellValue). get_or c.cells row na_cell) columns)
-cells_placed columns row n first fields made is =
-    fields_placed (λ c. cell_field (get_or c.cells row na_cell)) columns no_column n first fields made is
+cells_placed _ row n first _ made is =
+    fields_placed (λ c. cell_field (get_or c.cells row na_cell)) _ _ n _ _ made is
     ∙ ap (λ l. first ++ l) (search map-map)
 
 -- the records of all rows
@@ -46,9 +42,6 @@ nothing_written {A} = grind arith
 appended : (old new : Option (List ℕ)) (bytes bs : List ℕ) → old ≡ Some bytes → Appends old new bs → new ≡ Some (bytes ++ bs)
 appended = grind arith
 
-necessary : style.Necessary ≢ style.NonNumeric
-necessary e = cc
-
 pub record_more : {A : Type 0} (w w' : Writer (Vec ℕ A)) (bytes : List ℕ) (fields : List Text) → HasWritten w bytes → AllText fields → writer_setup w' ≡ writer_setup w → fields_written w' ≡ 0 → has_written w' ≡ false
     → (fields_written w ≡ 0 → has_written w ≡ false → (writer_setup w).style ≢ style.NonNumeric → Appends (text_written (λ (v : Vec ℕ A). Some v.items) w) (text_written (λ (v : Vec ℕ A). Some v.items) w') (row_text (writer_setup w) fields))
     → HasWritten w' (bytes ++ record_text fields)
@@ -57,8 +50,8 @@ record_more {A} w _ bytes fields before texts setup ended clean grows =
       setup = search;
       fields = ended;
       wrote = clean;
-      utf8 = IsUtf8-append bytes (record_text fields) before.utf8 (record_utf8 fields texts);
-      text = (appended _ _ bytes _ before.text (grows before.fields before.wrote (subst (λ b. b.style ≢ style.NonNumeric) (sym before.setup) necessary))) ∙ ap (λ b. Some (bytes ++ row_text b fields)) before.setup;
+      utf8 = IsUtf8-append bytes (record_text fields) before.utf8 (record_utf8 _ texts);
+      text = grind (arith, appended);
     }
 
 -- a record without a field, and one with a field more

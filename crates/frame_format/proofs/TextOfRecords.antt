@@ -1,5 +1,5 @@
 -- The record of fields that are texts is a text.
-use lib.Utf8.{scalar, scalars, encode}
+use lib.Utf8.{scalars, encode}
 use Rattle.{
   std.{proofs.{Common.{rules, ◌&&◌, ◌≡◌, ◌≢◌, ◌==◌, ℕ, suc, ◌<◌, Bool, true, false, inl, inr, List, [], ◌∷◌, ◌++◌, length, get_or, encode_utf8, refl, sym, ◌∙◌, append_assoc, append-nil, arith}, lemmas.{Bool.{cases_Bool, Decides.{nat_tests}}, Str.{inside_one, IsUtf8-nil, IsUtf8-append, IsUtf8-encode}}}, specs.{Prelude.{if◌then◌else◌}, Str.{IsUtf8, encode_utf8_all}}},
   csv.specs.{Records.{AllText}, Writing.{escaped, quoted, fields_text, row_body, default_writer}},
@@ -39,7 +39,7 @@ escaped-plain (b ∷ bs) plain = cc (step (b == 34) b (escaped default_writer bs
 
 -- a byte below 128 is all of its character
 inside_plain : (c : ℕ) → c ≢ 34 → (k : ℕ) → k < length (encode_utf8 c) → get_or (encode_utf8 c) k 0 ≢ 34
-inside_plain c plain k within = λ e. plain (inside_one c [] (encode_utf8 c) k (sym (append-nil _)) within (omega arith) ∙ e)
+inside_plain c plain k within = λ e. plain (inside_one c [] _ k (sym (append-nil _)) within (omega arith) ∙ e)
 
 is_quote : (c : ℕ) → (c == 34) ≡ true → c ≡ 34
 is_quote = grind (arith, nat_tests)
@@ -79,7 +79,7 @@ escaped_chars : (cs : List ℕ) → scalars cs ≡ true → IsUtf8 (escaped defa
 unfolding escaped
 escaped_chars [] e = IsUtf8-nil
 escaped_chars (c ∷ cs) e =
-    let parts = both_true (scalar c) (scalars cs) e in
+    let parts = both_true _ _ e in
     rw (escaped-append (encode_utf8 c) (encode_utf8_all cs)) (IsUtf8-append _ _ (escaped-encode c (IsUtf8-encode c parts.0)) (escaped_chars cs parts.1))
 
 quoted_utf8 : (t : Text) → IsUtf8 t → IsUtf8 (quoted default_writer t)
@@ -100,5 +100,5 @@ body_utf8 [] _ = IsUtf8-nil
 body_utf8 (f ∷ fs) all = IsUtf8-append _ _ (search (chosen_utf8, quoted_utf8)) (fields_utf8 fs all.1)
 
 pub record_utf8 : (fields : List Text) → AllText fields → IsUtf8 (record_text fields)
-record_utf8 fields all =
-    IsUtf8-append _ _ (body_utf8 fields all) (IsUtf8-append _ (10 ∷ []) (grind (arith, chosen_utf8, quotes_utf8)) line_feed_utf8)
+record_utf8 _ all =
+    IsUtf8-append _ _ (body_utf8 _ all) (IsUtf8-append _ (10 ∷ []) (grind (arith, chosen_utf8, quotes_utf8)) line_feed_utf8)

@@ -34,7 +34,7 @@ columns_name_told _ g = refl
 -- a value of what was tabulated
 at : {X Y : Type 0} (v : X → Y) (f : ℕ → X) (n k : ℕ) (e : Y) → k < n → get_or (map v (tabulate n f)) k e ≡ v (f k)
 at v f n k e h =
-    get_or-map v (tabulate n f) k (f k) e (let is = length-map-range_with_len f 0 n in omega arith) ∙ ap v (get_or-map-range_with_len f 0 n k k (f k) h (omega arith))
+    get_or-map v (tabulate n f) k (f k) e (let is = length-map-range_with_len f 0 n in omega arith) ∙ ap v (get_or-map-range_with_len f 0 n k k _ h (omega arith))
 
 pub level_name_told : (texts : List Text) (g : GridValue) (level : ℕ) → level < g.levels → level_name (told texts g) level ≡ heading_value texts (g.level_name level)
 unfolding told

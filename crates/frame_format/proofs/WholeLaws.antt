@@ -11,7 +11,7 @@ use Rattle.cell_core.specs.declared.cell.Cell.TheVariants as cell
 
 -- a list, place by place
 placed : {X : Type 0} (xs : List X) (n : ℕ) (d : X) → length xs ≡ n → tabulate n (λ k. get_or xs k d) ≡ xs
-placed xs n d is = sym (fill_by_all (λ k. get_or xs k d) xs n d is (λ k h. refl))
+placed xs n d is = sym (fill_by_all _ xs n d is (λ k h. refl))
 
 placed_by : {X : Type 0} (f : ℕ → X) (xs : List X) (n : ℕ) (d : X) → length xs ≡ n → ((k : ℕ) → k < length xs → get_or xs k d ≡ f k) → tabulate n f ≡ xs
 placed_by f xs n d is same = sym (fill_by_all f xs n d is (λ k h. same k (omega (arith, is, h))))
@@ -33,14 +33,14 @@ read_off t =
     }
 
 column_placed : (c : ColumnOf Cell) (n : ℕ) → length c.cells ≡ n → record { kind = c.kind; cells = tabulate n (λ row. get_or c.cells row cell.Na) } ≡ c
-column_placed c n is = λ i. record { kind = c.kind; cells = placed c.cells n cell.Na is i }
+column_placed c n is = λ i. record { kind = c.kind; cells = placed _ n cell.Na is i }
 
 whole_numbered : (t : NumberedTable) → length t.headings ≡ length t.columns → All (λ (c : ColumnOf Cell). length c.cells ≡ length t.labels) t.columns → All (λ (tuple : List Label). length tuple ≡ length t.level_names) t.labels
     → numbered (read_off t) ≡ t
 whole_numbered t headed filled levels =
-    let names = placed t.level_names (length t.level_names) None refl in
+    let names = placed t.level_names _ None refl in
     let labels = placed_by (λ row. tabulate (length t.level_names) (λ level. get_or (get_or t.labels row []) level label.Na)) t.labels (length t.labels) [] refl (λ row h. sym (search placed)) in
-    let headings = placed t.headings (length t.columns) None headed in
+    let headings = placed t.headings _ None headed in
     let columns = placed_by (λ column. record { kind = (column_at t.columns column).kind; cells = tabulate (length t.labels) (λ row. get_or (column_at t.columns column).cells row cell.Na) }) t.columns (length t.columns) no_column refl (λ column h. sym (search column_placed)) in
     grind arith
 

@@ -23,6 +23,7 @@ pub(crate) fn push_empty<G: Grid>(
     out.push_str("]")
 }
 
+#[tactic(auto, using(crate::proofs::Hints::push_all_headings))]
 fn push_all_headings<G: Grid>(
     out: &mut Words,
     text: &mut String,
@@ -40,6 +41,7 @@ fn push_all_headings<G: Grid>(
     Ok(())
 }
 
+#[tactic(auto, using(crate::proofs::Hints::push_all_headings))]
 fn push_all_labels<G: Grid>(
     out: &mut Words,
     text: &mut String,
@@ -75,6 +77,7 @@ fn push_whole_label<G: Grid>(
     out.push_str(")")
 }
 
+#[tactic(auto, using(crate::proofs::Hints::push_all_headings))]
 fn push_each_level<G: Grid>(
     out: &mut Words,
     text: &mut String,

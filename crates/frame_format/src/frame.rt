@@ -122,6 +122,7 @@ fn frame_layout<G: Grid>(
     })
 }
 
+#[tactic(auto, using(crate::proofs::FieldLaws::length_measured))]
 fn push_header<G: Grid>(
     out: &mut Words,
     text: &mut String,
@@ -172,6 +173,7 @@ fn push_names_below<G: Grid>(
     push_names_line(out, text, source, layout)
 }
 
+#[tactic(auto, using(crate::proofs::FieldLaws::length_measured))]
 fn push_names_line<G: Grid>(
     out: &mut Words,
     text: &mut String,
@@ -216,6 +218,7 @@ fn push_frame_lines<G: Grid>(
     Ok(())
 }
 
+#[tactic(auto, using(crate::proofs::FieldLaws::length_measured))]
 fn push_frame_line<G: Grid>(
     out: &mut Words,
     text: &mut String,

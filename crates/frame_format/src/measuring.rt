@@ -88,6 +88,7 @@ pub(crate) fn has_level_names<G: Grid>(source: &Source<'_, G>) -> bool
 }
 
 /// Appends the names of the levels side by side.
+#[tactic(auto, using(crate::proofs::Hints::push_all_headings))]
 pub(crate) fn push_names<G: Grid>(
     out: &mut Words,
     text: &mut String,

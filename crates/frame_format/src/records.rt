@@ -42,6 +42,7 @@ pub fn csv_text<G: Grid>(
 
 // Writes a record; memory is all that can be wanting, since a vector takes every byte and all
 // records of a table have one length.
+#[tactic(auto, using(crate::proofs::RecordLaws::record_more))]
 fn write_record(writer: &mut Writer<Vec<u8>>, record: &ByteRecord) -> Result<(), NoMemory>
     requires { IsFilled record.now }
     ensures { OnOk result ((bytes : List ℕ) → HasWritten writer.old bytes →
@@ -68,6 +69,7 @@ fn words_of(alloc: Global, writer: Writer<Vec<u8>>) -> Result<Words, NoMemory>
 }
 
 // The record of the names of the levels, if they are wanted, and of the headings.
+#[tactic(auto, using(crate::proofs::RecordLaws::cleared))]
 fn fill_header<G: Grid>(
     record: &mut ByteRecord,
     text: &mut String,
@@ -134,6 +136,7 @@ fn put_headings<G: Grid>(
 }
 
 // The record of the labels of a row, if they are wanted, and of its cells.
+#[tactic(auto, using(crate::proofs::RecordLaws::cleared))]
 fn fill_row<G: Grid>(
     record: &mut ByteRecord,
     text: &mut String,

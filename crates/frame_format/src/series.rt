@@ -27,6 +27,7 @@ struct SeriesLayout {
 /// Each row is a line: its labels, four spaces, and the value, set to the right. The last line has
 /// the name and the kind. A Series without a row is one line.
 /// In the manner of pandas (user guide, "Essential basic functionality"); the layout is this project's own.
+#[tactic(auto, using(crate::proofs::ToldLaws::one_column))]
 pub fn series_text<G: Grid>(alloc: Global, dict: &TextDict, grid: &G) -> Result<Words, NoMemory>
     requires shape { (G.table grid.now).shape ≡ Series }
     requires column { (G.table grid.now).columns ≡ 1 }
@@ -95,6 +96,7 @@ fn push_names_above<G: Grid>(
     out.push_str("\n")
 }
 
+#[tactic(auto, using(crate::proofs::Hints::push_series_names))]
 fn push_series_names<G: Grid>(
     out: &mut Words,
     text: &mut String,
@@ -130,6 +132,7 @@ fn push_series_lines<G: Grid>(
     Ok(())
 }
 
+#[tactic(auto, using(crate::proofs::FieldLaws::length_measured))]
 fn push_series_line<G: Grid>(
     out: &mut Words,
     text: &mut String,

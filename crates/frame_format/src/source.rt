@@ -35,12 +35,14 @@ impl<'a, G: Grid> Source<'a, G> {
         Source { dict, grid }
     }
 
+    #[tactic(auto, using(crate::proofs::ToldLaws::rows_told))]
     pub(crate) fn rows(&self) -> usize
         ensures { result ≡ length self.now.labels }
     {
         self.grid.rows()
     }
 
+    #[tactic(auto, using(crate::proofs::Hints::columns))]
     pub(crate) fn columns(&self) -> usize
         ensures count { result ≡ length self.now.columns }
         ensures headings { length self.now.headings ≡ length self.now.columns }
@@ -48,6 +50,7 @@ impl<'a, G: Grid> Source<'a, G> {
         self.grid.columns()
     }
 
+    #[tactic(auto, using(crate::proofs::Hints::levels))]
     pub(crate) fn levels(&self) -> usize
         ensures count { result ≡ length self.now.level_names }
         ensures tuples { (row : ℕ) → row < length self.now.labels →
@@ -56,6 +59,7 @@ impl<'a, G: Grid> Source<'a, G> {
         self.grid.levels()
     }
 
+    #[tactic(auto, using(crate::proofs::Hints::kind))]
     pub(crate) fn kind(&self, column: usize) -> Kind
         requires { column < length self.now.columns }
         ensures { result ≡ (column_at self.now.columns column).kind }
@@ -63,6 +67,7 @@ impl<'a, G: Grid> Source<'a, G> {
         self.grid.kind(column)
     }
 
+    #[tactic(auto, using(crate::proofs::Hints::has_level_name))]
     pub(crate) fn has_level_name(&self, level: usize) -> bool
         requires { level < length self.now.level_names }
         ensures { result ≡ is_some (level_name self.now level) }
@@ -70,6 +75,7 @@ impl<'a, G: Grid> Source<'a, G> {
         self.grid.level_name(level).is_some()
     }
 
+    #[tactic(auto, using(crate::proofs::Hints::has_heading))]
     pub(crate) fn has_heading(&self, column: usize) -> bool
         requires { column < length self.now.columns }
         ensures { result ≡ is_some (heading_at self.now column) }
@@ -78,6 +84,7 @@ impl<'a, G: Grid> Source<'a, G> {
     }
 
     /// Whether a row's label at a level is that of the row above.
+    #[tactic(auto, using(crate::proofs::Hints::same_above))]
     pub(crate) fn same_above(&self, row: usize, level: usize) -> bool
         requires row { row < length self.now.labels }
         requires level { level < length self.now.level_names }
@@ -91,6 +98,7 @@ impl<'a, G: Grid> Source<'a, G> {
         texts::same_label(self.dict, above, label)
     }
 
+    #[tactic(auto, using(crate::proofs::Hints::show_label))]
     pub(crate) fn show_label(
         &self,
         text: &mut String,
@@ -104,6 +112,7 @@ impl<'a, G: Grid> Source<'a, G> {
         texts::show_label(text, self.dict, self.grid.label(row, level))
     }
 
+    #[tactic(auto, using(crate::proofs::Hints::show_cell))]
     pub(crate) fn show_cell(
         &self,
         text: &mut String,
@@ -117,6 +126,7 @@ impl<'a, G: Grid> Source<'a, G> {
         texts::show_cell(text, self.dict, self.grid.cell(row, column))
     }
 
+    #[tactic(auto, using(crate::proofs::ToldLaws::level_within))]
     pub(crate) fn show_level_name(&self, text: &mut String, level: usize) -> Result<(), NoMemory>
         requires { level < length self.now.level_names }
         ensures { OnOk result (string_bytes text.new ≡ shown_name (level_name self.now level)) }
@@ -124,6 +134,7 @@ impl<'a, G: Grid> Source<'a, G> {
         texts::show_name(text, self.dict, self.grid.level_name(level))
     }
 
+    #[tactic(auto, using(crate::proofs::ToldLaws::column_within))]
     pub(crate) fn show_heading(&self, text: &mut String, column: usize) -> Result<(), NoMemory>
         requires { column < length self.now.columns }
         ensures { OnOk result (string_bytes text.new ≡ shown_name (heading_at self.now column)) }
@@ -137,6 +148,7 @@ impl<'a, G: Grid> Source<'a, G> {
         texts::show_name(text, self.dict, self.grid.columns_name())
     }
 
+    #[tactic(auto, using(crate::proofs::Hints::show_label))]
     pub(crate) fn write_label(
         &self,
         text: &mut String,
@@ -150,6 +162,7 @@ impl<'a, G: Grid> Source<'a, G> {
         texts::write_label(text, self.dict, self.grid.label(row, level))
     }
 
+    #[tactic(auto, using(crate::proofs::Hints::show_cell))]
     pub(crate) fn write_cell(
         &self,
         text: &mut String,
@@ -163,6 +176,7 @@ impl<'a, G: Grid> Source<'a, G> {
         texts::write_cell(text, self.dict, self.grid.cell(row, column))
     }
 
+    #[tactic(auto, using(crate::proofs::ToldLaws::level_within))]
     pub(crate) fn write_level_name(&self, text: &mut String, level: usize) -> Result<(), NoMemory>
         requires { level < length self.now.level_names }
         ensures { OnOk result (string_bytes text.new ≡ name_field (level_name self.now level)) }
@@ -170,6 +184,7 @@ impl<'a, G: Grid> Source<'a, G> {
         texts::write_name(text, self.dict, self.grid.level_name(level))
     }
 
+    #[tactic(auto, using(crate::proofs::ToldLaws::column_within))]
     pub(crate) fn write_heading(&self, text: &mut String, column: usize) -> Result<(), NoMemory>
         requires { column < length self.now.columns }
         ensures { OnOk result (string_bytes text.new ≡ heading_field (heading_at self.now column)) }

@@ -125,6 +125,7 @@ pub(crate) fn word_of_kind(kind: Kind) -> &'static str
 }
 
 /// Whether two labels are equal. Equal numbers of texts are equal texts, which need not be compared.
+#[tactic(auto, using(crate::proofs::Hints::same_label))]
 pub(crate) fn same_label(dict: &TextDict, a: Label, b: Label) -> bool
     ensures { result ≡ is_eq (label_cmp (label_datum dict.now a) (label_datum dict.now b)) }
 {
@@ -161,6 +162,7 @@ fn put_escaped(text: &mut String, piece: &str) -> Result<(), NoMemory>
     Ok(())
 }
 
+#[tactic(auto, using(crate::proofs::Hints::put_character))]
 fn put_character(text: &mut String, character: char) -> Result<(), NoMemory>
     ensures { OnOk result (string_bytes text.new
         ≡ string_bytes text.old ++ shown_text (encode_utf8 character)) }

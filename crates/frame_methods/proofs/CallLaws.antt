@@ -18,7 +18,7 @@ refused_made earlier texts tables m _ _ meant was is longer settled makes =
     subst (λ r. FormAnswers texts r meant (shown earlier tables) (shown texts tables)) (sym is) (grind (arith, go))
   where
     kept : shown texts tables ≡ shown earlier tables
-    kept = seen_later shown earlier texts tables longer settled
+    kept = seen_later shown _ _ _ longer settled
 
     go : (f : OpFault) → MakesBy made_value texts (Err f) meant → FormAnswers texts (Err f) meant (shown earlier tables) (shown texts tables)
     go (Refused code) m = (m, kept)
@@ -42,9 +42,9 @@ cell_of (value.table t) = na_cell
 pub scalar_answered : (earlier texts : List Text) (tables : Tables) (m : Result Made OpFault) (one : Made) (c : Cell) (meant : Result Entry FaultValue)
     → m ≡ Ok one → one ≡ made.Scalar c → IfOk m (IsSettled made_value texts) → IsLonger earlier texts → IsSettled shown earlier tables → MakesBy made_value texts m meant
     → (meant ≡ Ok (value.cell (datum texts c))) × ((shown texts tables ≡ shown earlier tables) × IsSettled datum texts c)
-scalar_answered earlier texts tables m _ c _ was is given longer settled makes =
+scalar_answered _ texts _ m _ c _ was is given longer settled makes =
     let here : IsSettled made_value texts (made.Scalar c) = rw (was ∙ ap Ok is) at given in
-    (grind arith, (seen_later shown earlier texts tables longer settled, grind arith))
+    (grind arith, (seen_later shown _ _ _ longer settled, grind arith))
 
 -- a table is meant, and it is settled
 pub table_meant : (texts : List Text) (m : Result Made OpFault) (one : Made) (t : NumberedTable) (meant : Result Entry FaultValue) → m ≡ Ok one → one ≡ made.Table t → IfOk m (IsSettled made_value texts)

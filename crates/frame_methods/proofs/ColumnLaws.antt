@@ -14,18 +14,18 @@ use Rattle.{
 
 -- what was given stays so
 pub given_later : (old new : List Text) (cells : List Cell) → IsLonger old new → AreGiven old cells → AreGiven new cells
-given_later old new cells longer given = cells_given new cells (settled_later cells_value old new cells longer (cells_settled old cells given))
+given_later old new _ longer given = cells_given _ _ (settled_later cells_value old new _ longer (cells_settled _ _ given))
 
 -- the column at a place, and those after it
 pub at_place : (columns : List (ColumnOf Cell)) (place : ℕ) (a : ColumnOf Cell) → place < length columns → column_at columns place ≡ a → drop place columns ≡ a ∷ drop (place + 1) columns
 at_place columns place a lt is =
-    let here : slice_get columns place ≡ Some a = slice_get-get_or columns place no_column lt ∙ ap Some is in
+    let here : slice_get columns place ≡ Some a = slice_get-get_or _ _ _ lt ∙ ap Some is in
     let next : suc place ≡ place + 1 = omega arith in
     drop_next columns place a here ∙ ap (λ k. a ∷ drop k columns) next
 
 one_more : (P : ColumnOf Cell → Type 0) (made : List CellBlock) (b : CellBlock) → All P (map block_column made) → P (block_column b) → All P (map block_column (made ++ b ∷ []))
 one_more P made b all here =
-    subst (All P) (sym (map-append block_column made (b ∷ []))) (All-append P (map block_column made) (block_column b ∷ []) all (All-cons P (block_column b) [] here (All-nil P)))
+    subst (All P) (sym (map-append _ made (b ∷ []))) (All-append P (map _ made) (block_column b ∷ []) all (All-cons P (block_column b) [] here (All-nil P)))
 
 abbrev placed_front : (ColumnOf CellValue → Result (ColumnOf CellValue) FaultValue) → List (ColumnOf CellValue) → List (ColumnOf CellValue) → Result (List (ColumnOf CellValue)) FaultValue
 placed_front f made rest = with_front made (try_all f rest)
@@ -57,19 +57,19 @@ front_step f first dict dict' columns rows place made _ a new so_far lt at longe
 pub front_refused : (f : ColumnOf CellValue → Result (ColumnOf CellValue) FaultValue) (first dict : List Text) (columns : List (ColumnOf Cell)) (rows place : ℕ) (made : List CellBlock) (a : CellColumn) (fault : FaultValue)
     → IsFront f first dict columns rows place made → place < length columns → column_at columns place ≡ table_column a → f (column_value first (table_column a)) ≡ Err fault
     → try_all f (columns_value first columns) ≡ Err fault
-front_refused f first dict columns _ place made a fault so_far lt at is =
-    front_fails f (columns_value dict (map block_column made)) (column_value first (table_column a)) fault (columns_value first (drop (place + 1) columns)) (try_all f (columns_value first columns))
-    (ap (λ l. placed_front f (columns_value dict (map block_column made)) (columns_value first l)) (sym (at_place columns place (table_column a) lt at)) ∙ so_far.answer) is
+front_refused f first dict _ _ _ made a _ so_far lt at is =
+    front_fails f _ _ _ _ _
+    (ap (λ l. placed_front f (columns_value dict (map block_column made)) (columns_value first l)) (sym (at_place _ _ _ lt at)) ∙ so_far.answer) is
 
 -- the column at a place was given
 pub place_given : (dict : List Text) (t : NumberedTable) (place : ℕ) (a : CellColumn) → IsSettled table_value dict t → place < length t.columns → column_at t.columns place ≡ table_column a → AreGiven dict a.cells
-place_given dict t place a settled lt is = subst (λ (c : ColumnOf Cell). AreGiven dict c.cells) is (columns_given dict t.columns (columns_part dict t settled) place no_column lt)
+place_given dict t place a settled lt is = subst (λ (c : ColumnOf Cell). AreGiven dict c.cells) is (columns_given _ _ (columns_part _ t settled) place no_column lt)
 
 -- what is made of it at the later dictionary is what is made of it at the first one
 pub same_answer : {A : Type 0} (answer : List CellValue → ColumnOf CellValue → A) (held : List Cell) (first dict : List Text) (a : CellColumn) → IsLonger first dict → AreGiven first held → AreGiven first a.cells
     → answer (cells_value first held) (column_value first (table_column a)) ≡ answer (cells_value dict held) (column_value dict (table_column a))
 same_answer answer held first dict a longer own given = λ j.
-    answer (sym (seen_later cells_value first dict held longer (cells_settled first held own)) j) (sym (seen_later column_value first dict (table_column a) longer (column_settled first (table_column a) given)) j)
+    answer (sym (seen_later cells_value first dict held longer (cells_settled first held own)) j) (sym (seen_later column_value first dict (table_column a) longer (column_settled _ _ given)) j)
 
 -- a refused column is a refused list of columns
 pub refused_columns : (fault : ArrayFault) (one : Result (ColumnOf CellValue) FaultValue) (all : Result (List (ColumnOf CellValue)) FaultValue)

@@ -71,8 +71,8 @@ numbered_more old cells row number before c numbers numbers' keys keys' stored s
 -- different keys stand at different places
 not_before : (keys : List Key) (a b : ℕ) (x : Key) → IsDistinct same_key keys → slice_get keys a ≡ Some x → slice_get keys b ≡ Some x → a < b → ⊥
 not_before keys a b x unique at_a at_b lt =
-    let apart = apart_from_distinct same_key keys a b x unique lt (slice_get_within keys b x at_b) in
-    let other = (λ j. same_key (sym (get_or_from_slice_get keys a x x at_a) j) (sym (get_or_from_slice_get keys b x x at_b) j)) ∙ apart in
+    let apart = apart_from_distinct _ _ a b x unique lt (slice_get_within keys b x at_b) in
+    let other = (λ j. same_key (sym (get_or_from_slice_get _ a x x at_a) j) (sym (get_or_from_slice_get _ b x x at_b) j)) ∙ apart in
     grind (arith, key_decides)
 
 one_place : (keys : List Key) (a b : ℕ) (x : Key) → IsDistinct same_key keys → slice_get keys a ≡ Some x → slice_get keys b ≡ Some x → a ≡ b
@@ -83,8 +83,8 @@ places_apart = search (rules, same_from_decides, nat_eq, slice_get, one_place, k
 
 pub numbers_apart : (old : List ℕ) (cells : List Cell) (row : ℕ) (numbers : List ℕ) (keys : List Key) → AreNumbered old cells row numbers keys → (i j : ℕ) → i < row → j < row
     → nat_eq (slice_index numbers i) (slice_index numbers j) ≡ (nat_eq (slice_index old i) (slice_index old j) && same_number (slice_index_or cells i cell.Na) (slice_index_or cells j cell.Na))
-numbers_apart _ _ _ numbers keys so_far i j hi hj =
-    places_apart keys (slice_index numbers i) (slice_index numbers j) _ _ so_far.unique (so_far.told i hi) (so_far.told j hj)
+numbers_apart _ _ _ _ _ so_far i j hi hj =
+    places_apart _ _ _ _ _ so_far.unique (so_far.told i hi) (so_far.told j hj)
 
 -- lists that are equal but for their last elements
 and_true : (b : Bool) → (b && true) ≡ b
@@ -101,11 +101,11 @@ pointwise_more same f g (p ∷ ps) place = search (and_assoc, pointwise_more sam
 -- one column more
 pub numbers_more : (t : NumberedTable) (place row : ℕ) (column : ColumnOf Cell) (old numbers : List ℕ) (keys : List Key) → column_at t.columns place ≡ column → length t.labels ≤ row → AreNumbered old column.cells row numbers keys
     → (places : List ℕ) → AreNumbers t places old → AreNumbers t (places ++ place ∷ []) numbers
-numbers_more t _ row column old numbers keys is end done places before =
+numbers_more t _ _ _ _ _ _ is end done places before =
     record {
       count = search;
       equal = λ i j hi hj.
-          numbers_apart old column.cells row numbers keys done i j (omega (arith, hi, end)) (omega (arith, hj, end))
+          numbers_apart _ _ _ _ _ done i j (omega (arith, hi, end)) (omega (arith, hj, end))
           ∙ (λ k. before.equal i j hi hj k && same_number (slice_index_or (sym is k).cells i cell.Na) (slice_index_or (sym is k).cells j cell.Na))
           ∙ sym (search pointwise_more);
     }
@@ -137,7 +137,7 @@ repeats_alike : {X Y : Type 0} (n : ℕ) (same : X → X → Bool) (same' : Y �
     → All (λ row. row < n) before → All (λ row. row < n) rows → repeats same (map f before) (map f rows) ≡ repeats same' (map g before) (map g rows)
 repeats_alike n _ _ f g _ _ [] _ _ = refl
 repeats_alike n same same' f g alike before (r ∷ rs) below all =
-    λ j. stands before below j ∷ repeats_alike n same same' f g alike (r ∷ before) rs (All-cons (λ row. row < n) r before here below) (λ k d lt. all (suc k) d (omega arith)) j
+    λ j. stands _ below j ∷ repeats_alike n same same' f g alike (r ∷ before) rs (All-cons (λ row. row < n) r before here below) (λ k d lt. all (suc k) d (omega arith)) j
   where
     here : r < n
     here = all 0 r (omega arith)
@@ -151,15 +151,15 @@ row_by_number : (texts : List Text) (t : NumberedTable) (i j : ℕ) (places : Li
     → pointwise same_number (row_cells t places i) (row_cells t places j) ≡ pointwise same_cell (cells_in (table_value texts t) places i) (cells_in (table_value texts t) places j)
 row_by_number _ t i j [] distinct known inside hi hj = refl
 row_by_number texts t i j (p ∷ ps) distinct known inside hi hj =
-    λ k. (cell_by_number texts (cell_across t i p) (cell_across t j p) distinct (given i hi) (given j hj) ∙ (λ l. same_cell (seen i l) (seen j l))) k
-    && row_by_number texts t i j ps distinct known (λ m d lt. inside (suc m) d (omega arith)) hi hj k
+    λ k. (cell_by_number _ _ _ distinct (given i hi) (given j hj) ∙ (λ l. same_cell (seen i l) (seen j l))) k
+    && row_by_number _ t i j ps distinct known (λ m d lt. inside (suc m) d (omega arith)) hi hj k
   where
     column : ColumnOf Cell
     column = column_at t.columns p
 
     given : (row : ℕ) → row < length t.labels → IsGiven texts (cell_across t row p)
     given _ lt =
-        let all = All-get_or (λ c. AreGiven texts c.cells) t.columns p no_column (inside 0 p (omega arith)) (columns_given texts t.columns (columns_part texts t known.given)) in
+        let all = All-get_or (λ c. AreGiven texts c.cells) t.columns p no_column (inside 0 p (omega arith)) (columns_given _ _ (columns_part _ t known.given)) in
         grind arith
 
     seen : (row : ℕ) → datum texts (cell_across t row p) ≡ slice_index_or (column_at (table_value texts t).columns p).cells row na_cell
@@ -168,7 +168,7 @@ row_by_number texts t i j (p ∷ ps) distinct known inside hi hj =
 -- as many marks as rows
 repeats_count : {X : Type 0} (same : X → X → Bool) (before xs : List X) → length (repeats same before xs) ≡ length xs
 repeats_count _ _ [] = refl
-repeats_count same before (x ∷ xs) = ap suc (repeats_count same (x ∷ before) xs)
+repeats_count same _ (x ∷ xs) = ap suc (repeats_count same _ xs)
 
 pub marks_count : (t : NumberedTable) (places numbers : List ℕ) (cells : List Cell) (axis : AxisValue) → AreNumbers t places numbers → cells ≡ map cell.Bool (repeats nat_eq [] numbers) → axis ≡ axis_of t
     → length cells ≡ length axis.tuples
@@ -179,9 +179,9 @@ marks_alike : (texts : List Text) (t : NumberedTable) (places numbers : List ℕ
     → repeats nat_eq [] numbers ≡ repeats (pointwise same_cell) [] (cells_by_row (table_value texts t) places)
 marks_alike texts t places numbers distinct known inside told =
     let n = length t.labels in
-    ap (repeats nat_eq []) (sym (list_is (slice_index numbers) numbers 0 0 (λ k lt. let e : 0 + k ≡ k = omega arith in ap (slice_index numbers) e)) ∙ ap (λ m. map (slice_index numbers) (range_with_len 0 m)) told.count)
-    ∙ repeats_alike n nat_eq (pointwise same_cell) (slice_index numbers) (cells_in (table_value texts t) places) (λ i j hi hj. told.equal i j hi hj ∙ row_by_number texts t i j places distinct known inside hi hj)
-    [] (range_with_len 0 n) (All-nil (λ row. row < n)) (below_range n)
+    ap (repeats nat_eq []) (sym (list_is _ _ 0 0 (λ k lt. let e : 0 + k ≡ k = omega arith in ap (slice_index numbers) e)) ∙ ap (λ m. map (slice_index numbers) (range_with_len 0 m)) told.count)
+    ∙ repeats_alike n _ _ _ (cells_in (table_value texts t) places) (λ i j hi hj. told.equal i j hi hj ∙ row_by_number _ t i j _ distinct known inside hi hj)
+    [] _ (All-nil (λ row. row < n)) (below_range n)
     ∙ ap (repeats (pointwise same_cell) []) (grind (arith, cells_in, length-map, by_rows))
   where
     below_range : (n : ℕ) → All (λ row. row < n) (range_with_len 0 n)
@@ -200,8 +200,8 @@ pub duplicated_made : (texts : List Text) (t made : NumberedTable) (axis : AxisV
 duplicated_made texts t _ axis marks places numbers distinct known inside told kind cells within same is = (
   grind (arith, limited_within, T, bs, length-map, shown),
   subst (IsSettled table_value texts) (sym (is ∙ ap (λ a. marks_table a marks) same))
-      (table_settled texts (marks_table (axis_of t) marks) (λ more. refl) (level_names_part texts t known.given) (labels_part texts t known.given) (λ more. refl)
-      (columns_settled texts (table_column marks ∷ []) (grind (arith, given)))),
+      (table_settled _ (marks_table (axis_of t) marks) (λ more. refl) (level_names_part _ t known.given) (labels_part _ t known.given) (λ more. refl)
+      (columns_settled _ (table_column marks ∷ []) (grind (arith, given)))),
 )
   where
     T : Table

@@ -9,12 +9,12 @@ use Rattle.{
 -- by the list, and one by one
 pub each_given : (texts : List Text) (cs : List Cell) → AreGiven texts cs → EachGiven texts cs
 each_given _ [] _ = tt
-each_given texts (c ∷ cs) given = (given 0 c (omega arith), each_given texts cs (λ k d lt. given (suc k) d (omega (arith, lt))))
+each_given _ (c ∷ cs) given = (given 0 c (omega arith), each_given _ cs (λ k d lt. given (suc k) d (omega (arith, lt))))
 
 pub are_given : (texts : List Text) (cs : List Cell) → EachGiven texts cs → AreGiven texts cs
 are_given texts [] _ = All-nil (IsGiven texts)
-are_given texts (c ∷ cs) given = All-cons (IsGiven texts) c cs given.0 (are_given texts cs given.1)
+are_given texts (c ∷ cs) given = All-cons (IsGiven texts) c cs given.0 (are_given _ cs given.1)
 
 -- what was given one by one stays so
 pub each_later : (old new : List Text) (cs : List Cell) → IsLonger old new → EachGiven old cs → EachGiven new cs
-each_later old new cs longer given = each_given new cs (given_later old new cs longer (are_given old cs given))
+each_later _ _ cs longer given = each_given _ cs (given_later _ _ cs longer (are_given _ cs given))

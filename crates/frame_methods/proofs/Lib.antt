@@ -14,3 +14,4 @@ pub mod RowLaws
 pub mod DuplicateLaws
 pub mod SortLaws
 pub mod ShapeLaws
+pub mod Hints

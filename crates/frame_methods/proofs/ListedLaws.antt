@@ -34,20 +34,20 @@ label_settled = search (label_seen, cell_settled)
 pub cell_by_number : (texts : List Text) (a b : Cell) → AreDistinct texts → IsGiven texts a → IsGiven texts b → same_number a b ≡ same_cell (datum texts a) (datum texts b)
 cell_by_number texts a b distinct f g =
     let labels : Decides (same_number a b) (label_of a ≡ label_of b) = grind arith in
-    same_by_number texts (label_of a) (label_of b) (same_number a b) distinct (label_settled texts a f) (label_settled texts b g) labels
+    same_by_number _ _ _ _ distinct (label_settled _ a f) (label_settled _ b g) labels
     ∙ (λ j. same_label (label_seen texts a j) (label_seen texts b j))
 
 any_by_number : (texts : List Text) (c : Cell) (values : List Cell) → AreDistinct texts → IsGiven texts c → AreGiven texts values
     → list_any (same_cell (datum texts c)) (cells_value texts values) ≡ list_any (same_number c) values
 any_by_number _ c [] _ _ _ = refl
-any_by_number texts c (v ∷ vs) distinct here given =
-    λ j. sym (cell_by_number texts c v distinct here (given 0 v (omega arith))) j || any_by_number texts c vs distinct here (λ k d lt. given (suc k) d (omega arith)) j
+any_by_number _ c (v ∷ vs) distinct here given =
+    λ j. sym (cell_by_number _ c v distinct here (given 0 v (omega arith))) j || any_by_number _ c vs distinct here (λ k d lt. given (suc k) d (omega arith)) j
 
 marks : (texts : List Text) (values cells : List Cell) → AreDistinct texts → AreGiven texts values → AreGiven texts cells
     → map (is_in (cells_value texts values)) (cells_value texts cells) ≡ cells_value texts (map (listed_mark values) cells)
 marks _ _ [] _ _ _ = refl
-marks texts values (c ∷ cs) distinct given all =
-    λ j. truth_cell (any_by_number texts c values distinct (all 0 c (omega arith)) given j) ∷ marks texts values cs distinct given (λ k d lt. all (suc k) d (omega arith)) j
+marks _ _ (c ∷ cs) distinct given all =
+    λ j. truth_cell (any_by_number _ c _ distinct (all 0 c (omega arith)) given j) ∷ marks _ _ cs distinct given (λ k d lt. all (suc k) d (omega arith)) j
 
 pub listed_answer : (texts : List Text) (values : List Cell) (a new : CellColumn) → AreDistinct texts → AreGiven texts values → AreGiven texts a.cells → new ≡ record { kind = Boolean; cells = map (listed_mark values) a.cells }
     → listed_column (cells_value texts values) (column_value texts (table_column a)) ≡ Ok (column_value texts (table_column new))
@@ -76,14 +76,14 @@ both_settled = grind (arith, cell_given)
 
 pub first_settled : (texts : List Text) (items : List Item) (i : ℕ) (item : Item) (o : Option Cell) → i < length items → item ≡ get_or items i item → IsScalarOf o item
     → IsSettled scalars texts (drop i items) → AreBoth texts o (λ ts. scalars ts (drop (i + 1) items))
-first_settled texts items i item o lt is scalar settled =
-    both_settled texts o (λ ts. scalars ts (drop (i + 1) items))
-    (λ more. sym (scalars_from (texts ++ more) items i item o lt is scalar) ∙ settled more ∙ scalars_from texts items i item o lt is scalar)
+first_settled _ items i _ o lt is scalar settled =
+    both_settled _ o (λ ts. scalars ts (drop (i + 1) items))
+    (λ more. sym (scalars_from _ _ i _ o lt is scalar) ∙ settled more ∙ scalars_from _ _ i _ o lt is scalar)
 
 -- one cell more among the different ones
 pub noted_given : (texts : List Text) (values : List Cell) (o : Option Cell) → AreGiven texts values → IfSome o (IsGiven texts) → AreGiven texts (noted values o)
 noted_given _ _ None given _ = given
-noted_given texts values (Some c) given here = go (list_any (same_number c) values)
+noted_given texts values (Some c) given here = go _
   where
     go : (b : Bool) → AreGiven texts (cond b values (values ++ c ∷ []))
     go true = given
@@ -102,7 +102,7 @@ or_last = grind arith
 
 noted_more : (test : CellValue → Bool) (texts : List Text) (values : List Cell) (c : Cell) (r : Bool)
     → (list_any test (cells_value texts (noted values (Some c))) || r) ≡ (list_any test (cells_value texts values) || (test (datum texts c) || r))
-noted_more test texts values c r = go (list_any (same_number c) values) refl
+noted_more test texts values c r = go _ refl
   where
     go : (b : Bool) → list_any (same_number c) values ≡ b → (list_any test (cells_value texts (cond b values (values ++ c ∷ []))) || r) ≡ (list_any test (cells_value texts values) || (test (datum texts c) || r))
     go true among = search (or_more, passes_at)
@@ -120,7 +120,7 @@ isin_of t parts = each_column (listed_column (cells_of parts)) t
 pub isin_meant : (live : Tables) (dict : List Text) (items : List Item) (values : List Cell) (o : Option GivenList) (t : Table) → Some (items_of live dict items) ≡ o
     → ((test : CellValue → Bool) → list_any test (cells_value dict values) ≡ list_any test (scalars dict items))
     → each_column (listed_column (cells_value dict values)) t ≡ on o (isin_of t)
-isin_meant live dict items _ o t is same =
+isin_meant _ _ items _ o t is same =
     ap (λ f. each_column (mapped Boolean f) t) (λ j c. truth_cell (same (same_cell c) j))
-    ∙ ap (λ cells. each_column (listed_column cells) t) (sym (scalars_are live dict items))
+    ∙ ap (λ cells. each_column (listed_column cells) t) (sym (scalars_are _ _ items))
     ∙ ap (λ p. on p (isin_of t)) is

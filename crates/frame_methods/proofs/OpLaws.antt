@@ -1,6 +1,6 @@
 -- What is made of a column, with texts.
 use Rattle.{
-  std.{proofs.{Common.{arith, ◌≡◌, ◌∙◌, refl, ap, sym, subst, ℕ, suc, ◌+◌, ◌-◌, ℤ, pos, negsuc, nat_lt, Bool, true, List, [], ◌∷◌, ◌++◌, map, length, Result, Ok, Err, IfOk, Option, slice_index_or, if◌then◌else◌}, lemmas.{List.{length-map, FromFn.{length-map-range_with_len}, Elements.{All-map}}, Simd.{map-map}}, Math.ListN.{get_or-map}}, specs.List.{range_with_len}},
+  std.{proofs.{Common.{arith, ◌≡◌, ◌∙◌, refl, ap, sym, subst, ℕ, suc, ◌+◌, ◌-◌, ℤ, pos, negsuc, nat_lt, Bool, true, List, [], ◌∷◌, map, length, Result, Ok, Err, IfOk, Option, if◌then◌else◌}, lemmas.{List.{length-map, FromFn.{length-map-range_with_len}, Elements.{All-map}}, Simd.{map-map}}, Math.ListN.{get_or-map}}, specs.List.{range_with_len}},
   cell_core.specs.declared.cell.{Cell.{Cell}, Kind.{Kind, TheVariants.{Int64, Boolean}}},
   meaning.specs.{Text.{Text}, Cell.{CellValue, na_cell, datum, holds, IsGiven, AreGiven}, Column.{ColumnValue, ColumnFault, kind_mismatch, then_rows, try_each, column_of, tabulate, shifted, shifted_row}, Cast.{cast_column}, Cumulate.{Cumulation, running, cumulation_cell, cumulate_column}, Fault.{wrong_kind}},
   column_core.specs.Columns.{CellColumn},
@@ -18,7 +18,7 @@ use Rattle.column_core.specs.Columns as kernel
 -- cells by themselves
 map_values : (f : CellValue → CellValue) (made : Cell → Cell) (texts : List Text) → ((c : Cell) → f (datum texts c) ≡ datum texts (made c)) → (cs : List Cell) → map f (map (datum texts) cs) ≡ map (datum texts) (map made cs)
 map_values f _ _ _ [] = refl
-map_values f made texts same (c ∷ cs) = λ j. same c j ∷ map_values f made texts same cs j
+map_values f _ _ same (c ∷ cs) = λ j. same c j ∷ map_values f _ _ same cs j
 
 mark_given : (missing : Bool) (texts : List Text) (c : Cell) → IsGiven texts (missing_mark missing c)
 mark_given = grind arith
@@ -31,7 +31,7 @@ marked_answer missing texts a _ is =
 
 pub marked_given : (missing : Bool) (texts : List Text) (a new : CellColumn) → new ≡ record { kind = Boolean; cells = map (missing_mark missing) a.cells } → AreGiven texts new.cells
 marked_given missing texts a _ is =
-    subst (λ (n : CellColumn). AreGiven texts n.cells) (sym is) (All-map (IsGiven texts) (missing_mark missing) a.cells (λ k d lt. mark_given missing texts (slice_index_or a.cells k d)))
+    subst (λ (n : CellColumn). AreGiven texts n.cells) (sym is) (All-map (IsGiven texts) (missing_mark missing) a.cells (λ k d lt. mark_given _ _ _))
 
 fill_given : (value : Cell) (texts : List Text) (c : Cell) → IsGiven texts value → IsGiven texts c → IsGiven texts (filled_cell value c)
 fill_given = grind arith
@@ -49,7 +49,7 @@ filled_answer value texts kind a _ same fits is =
 pub filled_given : (value : Cell) (texts : List Text) (kind : Kind) (a new : CellColumn) → IsGiven texts value → AreGiven texts a.cells → new ≡ record { kind = kind; cells = map (filled_cell value) a.cells } → AreGiven texts new.cells
 filled_given value texts _ a _ given all is =
     subst (λ (n : CellColumn). AreGiven texts n.cells) (sym is)
-    (All-map (IsGiven texts) (filled_cell value) a.cells (λ k d lt. fill_given value texts (slice_index_or a.cells k d) given (all k d lt)))
+    (All-map (IsGiven texts) (filled_cell value) a.cells (λ k d lt. fill_given _ _ _ given (all k d lt)))
 
 -- a shift
 map_same : {A B : Type 0} (f g : A → B) → ((x : A) → f x ≡ g x) → (xs : List A) → map f xs ≡ map g xs
@@ -60,13 +60,13 @@ either_value : (texts : List Text) (b : Bool) (c : Cell) → (if b then na_cell 
 either_value = grind arith
 
 shifted_at : (texts : List Text) (cs : List Cell) (z : ℤ) (i : ℕ) → shifted_row na_cell (map (datum texts) cs) z i ≡ datum texts (shifted_row cell.Na cs z i)
-shifted_at texts cs (pos n) i = ap (λ c. if nat_lt i n then na_cell else c) (get_or-map (datum texts) cs (i - n) cell.Na) ∙ either_value texts (nat_lt i n) (slice_index_or cs (i - n) cell.Na)
+shifted_at texts cs (pos n) i = ap (λ c. if nat_lt i n then na_cell else c) (get_or-map (datum texts) cs (i - n) cell.Na) ∙ either_value _ _ _
 shifted_at texts cs (negsuc n) i = get_or-map (datum texts) cs (i + suc n) cell.Na
 
 shifted_values : (texts : List Text) (cs : List Cell) (z : ℤ) → shifted na_cell (map (datum texts) cs) z ≡ map (datum texts) (shifted cell.Na cs z)
 shifted_values texts cs z =
-    ap (λ n. tabulate n (shifted_row na_cell (map (datum texts) cs) z)) (length-map cs (datum texts))
-    ∙ map_same (shifted_row na_cell (map (datum texts) cs) z) (λ i. datum texts (shifted_row cell.Na cs z i)) (shifted_at texts cs z) (range_with_len 0 (length cs))
+    ap (λ n. tabulate n (shifted_row na_cell (map (datum texts) cs) z)) (length-map cs _)
+    ∙ map_same _ _ (shifted_at _ cs z) (range_with_len 0 (length cs))
     ∙ sym (map-map (datum texts) (shifted_row cell.Na cs z) (range_with_len 0 (length cs)))
 
 pub shifted_answer : (z : ℤ) (texts : List Text) (a new : CellColumn) → new.kind ≡ a.kind → new.cells ≡ shifted cell.Na a.cells z → shifted_column z (column_value texts (table_column a)) ≡ Ok (column_value texts (table_column new))
@@ -75,17 +75,17 @@ shifted_answer z texts a _ kind cells = λ j. Ok record { kind = sym kind j; cel
 pub shifted_given : (z : ℤ) (texts : List Text) (a new : CellColumn) → AreGiven texts a.cells → new.cells ≡ shifted cell.Na a.cells z → AreGiven texts new.cells
 shifted_given z texts a _ given cells =
     subst (AreGiven texts) (sym cells)
-    (cells_given texts (shifted cell.Na a.cells z) (settled_by cells_value cells_value (λ vs. shifted na_cell vs z) texts a.cells (shifted cell.Na a.cells z) (λ ts. shifted_values ts a.cells z) (cells_settled texts a.cells given)))
+    (cells_given _ _ (settled_by cells_value cells_value (λ vs. shifted na_cell vs z) _ _ _ (λ ts. shifted_values ts _ z) (cells_settled _ _ given)))
 
 pub shifted_rows : (z : ℤ) (a new : CellColumn) → new.cells ≡ shifted cell.Na a.cells z → length new.cells ≡ length a.cells
-shifted_rows z a _ cells = ap length cells ∙ length-map-range_with_len (shifted_row cell.Na a.cells z) 0 (length a.cells)
+shifted_rows z a _ cells = ap length cells ∙ length-map-range_with_len _ 0 _
 
 then_length : {C : Type 0} (o : Option C) (row : ℕ) (rest : Result (List C) ℕ) (n : ℕ) → ((ys : List C) → rest ≡ Ok ys → length ys ≡ n) → (ys : List C) → then_rows o row rest ≡ Ok ys → length ys ≡ suc n
 then_length = grind arith
 
 each_length : {A C : Type 0} (f : A → Option C) (row : ℕ) (xs : List A) (ys : List C) → try_each f row xs ≡ Ok ys → length ys ≡ length xs
 each_length f _ [] ys is = let here : [] ≡ ys = cc in ap length (sym here)
-each_length f row (x ∷ xs) ys is = then_length (f x) row (try_each f (suc row) xs) (length xs) (each_length f (suc row) xs) ys is
+each_length f row (x ∷ xs) ys is = then_length _ _ _ _ (each_length f (suc row) xs) ys is
 
 column_cells : (kind : Kind) (refuse : ℕ → ColumnFault) (made : Result (List CellValue) ℕ) (col : ColumnValue) → column_of kind refuse made ≡ Ok col → made ≡ Ok col.cells
 column_cells = grind arith
@@ -97,7 +97,7 @@ cast_count _ _ _ a (Err fault) _ = tt
 -- a cumulation
 running_length : (f : List CellValue → CellValue) (before cs : List CellValue) → length (running f before cs) ≡ length cs
 running_length f _ [] = refl
-running_length f before (c ∷ cs) = ap suc (running_length f (before ++ c ∷ []) cs)
+running_length f _ (c ∷ cs) = ap suc (running_length f _ cs)
 
 cumulated_cells : (op : Cumulation) (takes : Bool) (cells : List CellValue) (col : ColumnValue) → (if takes then Ok record { kind = Int64; cells = running (cumulation_cell op) [] cells } else Err kind_mismatch) ≡ Ok col → col.cells ≡ running (cumulation_cell op) [] cells
 cumulated_cells = grind arith

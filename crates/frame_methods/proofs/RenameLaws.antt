@@ -18,23 +18,23 @@ key_settled : (texts : List Text) (e : Label × Option Label) (es : List (Label 
 key_settled = grind (arith, head_settled)
 
 found_settled : (texts : List Text) (e : Label × Option Label) (es : List (Label × Option Label)) → IsSettled pairs_seen texts (e ∷ es) → IsSettled heading_value texts e.1
-found_settled texts e es settled = λ more. ap (λ p. p.1) (head_settled pair_seen texts e es settled more)
+found_settled _ e es settled = λ more. ap (λ p. p.1) (head_settled pair_seen _ e es settled more)
 
 -- one pair more
 inserted_settled : (texts : List Text) (es : List (Label × Option Label)) (k : Label) (v : Option Label) → IsSettled pairs_seen texts es → IsSettled label_datum texts k → IsSettled heading_value texts v
     → IsSettled pairs_seen texts (insert_entry same_number es k v)
 inserted_settled _ [] k v _ key value = λ more j. (key more j, value more j) ∷ []
-inserted_settled texts (e ∷ es) k v settled key value = go (inserted_settled texts es k v (rest_settled pair_seen texts e es settled) key value) (same_number k e.0)
+inserted_settled texts (e ∷ es) k v settled key value = go (inserted_settled _ es k v (rest_settled pair_seen _ e es settled) key value) _
   where
     go : IsSettled pairs_seen texts (insert_entry same_number es k v) → (b : Bool) → IsSettled pairs_seen texts (if b then (e.0, v) ∷ es else e ∷ insert_entry same_number es k v)
-    go _ true = λ more j. (key_settled texts e es settled more j, value more j) ∷ rest_settled pair_seen texts e es settled more j
+    go _ true = λ more j. (key_settled _ e es settled more j, value more j) ∷ rest_settled pair_seen _ e es settled more j
     go later false = grind (arith, head_settled)
 
 inserted_seen : (texts : List Text) (es : List (Label × Option Label)) (k : Label) (v : Option Label) → AreDistinct texts → IsSettled pairs_seen texts es → IsSettled label_datum texts k
     → pairs_seen texts (insert_entry same_number es k v) ≡ insert_entry same_label (pairs_seen texts es) (label_datum texts k) (heading_value texts v)
 inserted_seen _ [] k v _ _ _ = refl
 inserted_seen texts (e ∷ es) k v distinct settled key =
-    go (inserted_seen texts es k v distinct (rest_settled pair_seen texts e es settled) key) (same_number k e.0)
+    go (inserted_seen _ es k v distinct (rest_settled pair_seen _ e es settled) key) _
     ∙ ap (λ b. if b then (label_datum texts e.0, heading_value texts v) ∷ pairs_seen texts es else pair_seen texts e ∷ insert_entry same_label (pairs_seen texts es) (label_datum texts k) (heading_value texts v))
     (search (same_by_number, key_settled, label_decides))
   where
@@ -60,9 +60,9 @@ name_seen texts a o _ scalar named = cc (named texts, scalar (λ id. None) texts
 
 pub labels_settled : (texts : List Text) (pairs : List (Label × Argument)) (i : ℕ) (p : Label × Argument) (o : Option Cell) (name : Option Label) (es es' : List (Label × Option Label)) → IsSettled given_labels texts pairs
     → i < length pairs → p ≡ get_or pairs i p → IsScalarOf o p.1 → IsNameOf name o → es' ≡ insert_entry same_number es p.0 name → IsSettled pairs_seen texts es → IsSettled pairs_seen texts es'
-labels_settled texts _ i p o name es _ given lt is scalar named more settled =
+labels_settled texts _ i p o _ es _ given lt is scalar named more settled =
     let here : IsSettled given_label texts p = grind (arith, given_at) in
-    rw more (inserted_settled texts es p.0 name settled (λ m. ap (λ v. v.0) (here m)) (λ m. name_seen (texts ++ m) p.1 o name scalar named ∙ ap (λ v. v.1) (here m) ∙ sym (name_seen texts p.1 o name scalar named)))
+    rw more (inserted_settled _ es _ _ settled (λ m. ap (λ v. v.0) (here m)) (λ m. name_seen _ p.1 o _ scalar named ∙ ap (λ v. v.1) (here m) ∙ sym (name_seen _ p.1 o _ scalar named)))
 
 pub labels_step : (texts : List Text) (pairs : List (Label × Argument)) (i : ℕ) (p : Label × Argument) (o : Option Cell) (name : Option Label) (es es' : List (Label × Option Label)) (whole : List (LabelValue × Option LabelValue)) → AreDistinct texts → IsSettled given_labels texts pairs
     → i < length pairs → p ≡ get_or pairs i p → IsScalarOf o p.1 → IsNameOf name o → es' ≡ insert_entry same_number es p.0 name → IsSettled pairs_seen texts es
@@ -80,9 +80,9 @@ label_found : (texts : List Text) (es : List (Label × Option Label)) (l : Label
     → heading_value texts (found_label (lookup (same_number l) es)) ≡ label_from (pairs_seen texts es) (label_datum texts l)
 label_found _ [] l _ _ _ = refl
 label_found texts (e ∷ es) l distinct settled here =
-    go (label_found texts es l distinct (rest_settled pair_seen texts e es settled) here) (same_number l e.0)
+    go (label_found _ es l distinct (rest_settled pair_seen _ e es settled) here) _
     ∙ ap (λ b. if b then heading_value texts e.1 else label_from (pairs_seen texts es) (label_datum texts l))
-    (same_by_number texts e.0 l (same_number l e.0) distinct (key_settled texts e es settled) here (grind (arith, label_decides)))
+    (same_by_number _ _ l _ distinct (key_settled _ e es settled) here (grind (arith, label_decides)))
   where
     go : heading_value texts (found_label (lookup (same_number l) es)) ≡ label_from (pairs_seen texts es) (label_datum texts l) → (b : Bool)
         → heading_value texts (found_label (cond b (Some e.1) (lookup (same_number l) es))) ≡ (if b then heading_value texts e.1 else label_from (pairs_seen texts es) (label_datum texts l))
@@ -105,7 +105,7 @@ headings_seen texts es (h ∷ hs) distinct settled here = search (heading_seen, 
 -- new headings are settled
 lookup_settled : (texts : List Text) (test : Label → Bool) (es : List (Label × Option Label)) → IsSettled pairs_seen texts es → IsSettled heading_value texts (found_label (lookup test es))
 lookup_settled _ _ [] _ = λ more. refl
-lookup_settled texts test (e ∷ es) settled = go (lookup_settled texts test es (rest_settled pair_seen texts e es settled)) (test e.0)
+lookup_settled texts test (e ∷ es) settled = go (lookup_settled _ _ es (rest_settled pair_seen _ e es settled)) _
   where
     go : IsSettled heading_value texts (found_label (lookup test es)) → (b : Bool) → IsSettled heading_value texts (found_label (cond b (Some e.1) (lookup test es)))
     go later true = search found_settled
@@ -121,8 +121,8 @@ heading_settled _ _ (Some l) settled here = search (either_settled, lookup_settl
 
 pub headings_settled : (texts : List Text) (es : List (Label × Option Label)) (hs : List (Option Label)) → IsSettled pairs_seen texts es → IsSettled headings_value texts hs → IsSettled headings_value texts (map (heading_by es) hs)
 headings_settled _ _ [] _ _ = λ more. refl
-headings_settled texts es (h ∷ hs) settled here = λ more j.
-    heading_settled texts es h settled (head_settled heading_value texts h hs here) more j ∷ headings_settled texts es hs settled (rest_settled heading_value texts h hs here) more j
+headings_settled _ es (h ∷ hs) settled here = λ more j.
+    heading_settled _ es h settled (head_settled heading_value _ h hs here) more j ∷ headings_settled _ es hs settled (rest_settled heading_value _ h hs here) more j
 
 heading_labelled : (es : List (Label × Option Label)) (h : Option Label) → IsSome h → IsSome (heading_by es h)
 heading_labelled = grind arith
@@ -196,7 +196,7 @@ labels_there texts (e ∷ es) = search (label_there, labels_there texts es)
 pub relabelled_by : (texts : List Text) (es : List (Label × Option Label)) (hs : List (Option Label)) (all : List (LabelValue × Option LabelValue)) → AreDistinct texts → IsSettled pairs_seen texts es → IsSettled headings_value texts hs → pairs_seen texts es ≡ all
     → relabelled all (headings_value texts hs) ≡ when (have_labels es) (heading_value texts (repeated_heading (map (heading_by es) hs))) (Ok (headings_value texts (map (heading_by es) hs)))
 relabelled_by texts es hs _ distinct settled here is =
-    let seen = headings_seen texts es hs distinct settled here in
+    let seen = headings_seen _ es hs distinct settled here in
     ap (λ l. relabelled l (headings_value texts hs)) (sym is)
     ∙ (λ j. when (labels_there texts es j) (first_repeated (sym seen j)) (Ok (sym seen j)))
     ∙ ap (λ o. when (have_labels es) o (Ok (headings_value texts (map (heading_by es) hs)))) (search (repeated_seen, headings_settled))
@@ -211,7 +211,7 @@ frame_heads = grind (arith, different)
 -- a frame's new headings
 pub new_heads : (es : List (Label × Option Label)) (name : Option Label) (hs new : List (Option Label)) (r : Result HeadingList OpFault) → new ≡ map (heading_by es) hs → All IsSome hs
     → IfOk r (λ made. repeated_heading new ≡ None) → IfOk r (λ made. made ≡ heads name new) → IfOk r (λ made. AreHeadings Frame made.columns_name made.labels)
-new_heads es name hs new (Ok made) is all none same = rw same (frame_heads name new (subst (All IsSome) (sym is) (headings_labelled es hs all)) none)
+new_heads es _ hs _ (Ok made) is all none same = rw same (frame_heads _ _ (subst (All IsSome) (sym is) (headings_labelled es hs all)) none)
 new_heads _ _ _ _ (Err fault) _ _ _ _ = tt
 
 pub new_settled : (texts : List Text) (es : List (Label × Option Label)) (name : Option Label) (hs new : List (Option Label)) (r : Result HeadingList OpFault) → new ≡ map (heading_by es) hs → IsSettled pairs_seen texts es → IsSettled headings_value texts hs
@@ -228,12 +228,12 @@ unless_all = grind (arith, repeated_settled)
 pub new_meant : (texts : List Text) (es : List (Label × Option Label)) (name : Option Label) (hs new : List (Option Label)) (all : List (LabelValue × Option LabelValue)) (r : Result HeadingList OpFault) → AreDistinct texts → IsSettled pairs_seen texts es
     → IsSettled headings_value texts hs → pairs_seen texts es ≡ all → new ≡ map (heading_by es) hs → have_labels es ≡ true
     → IfOk r (λ made. repeated_heading new ≡ None) → IfOk r (λ made. made ≡ heads name new) → IfErr r (λ fault. NamesRepeated fault (repeated_heading new)) → MakesBy labels_seen texts r (relabelled all (headings_value texts hs))
-new_meant texts es name hs new all r distinct settled here is same labels none made refused =
+new_meant texts es _ hs _ _ r distinct settled here is same labels none made refused =
     subst (MakesBy labels_seen texts r)
     (sym
-    (relabelled_by texts es hs all distinct settled here is
+    (relabelled_by _ es hs _ distinct settled here is
     ∙ (λ j. when (labels j) (heading_value texts (repeated_heading (sym same j))) (Ok (headings_value texts (sym same j))))))
-    (unless_all texts new name r (rw same (headings_settled texts es hs settled here)) none made refused)
+    (unless_all _ _ _ r (rw same (headings_settled _ es hs settled here)) none made refused)
 
 pub no_labels : (texts : List Text) (es : List (Label × Option Label)) (all : List (LabelValue × Option LabelValue)) (hs : List (Option LabelValue)) → pairs_seen texts es ≡ all → have_labels es ≡ false → relabelled all hs ≡ Err wrong_kind
 no_labels texts es _ _ is none = cc (labels_there texts es)
@@ -249,10 +249,10 @@ labels_are live texts (p ∷ rest) = grind (arith, scalar_same, labels_are live 
 
 pub pairs_settled : (b : Bound) (place : ℕ) (pairs : List (Label × Argument)) (live : Tables) (dict : List Text) → Tells b place dict_in (λ live texts. Some (entries_of live texts pairs))
     → IsSettled (arguments_of live) dict b.args.now → IsSettled given_labels dict pairs
-pairs_settled b _ pairs live dict tells settled = λ more.
-    sym (labels_are live (dict ++ more) pairs)
+pairs_settled b _ pairs live _ tells settled = λ more.
+    sym (labels_are live _ _)
     ∙ ap labels_in (grind (arith, some_same, told_settled))
-    ∙ labels_are live dict pairs
+    ∙ labels_are live _ pairs
 
 -- a frame under the labels of a dict
 abbrev pub frame_of : Table → GivenPairs → Result Entry FaultValue
@@ -266,9 +266,9 @@ frame_meant = search (frame_relabelled, pairs_are)
 
 pub frame_refused : (live : Tables) (texts : List Text) (pairs : List (Label × Argument)) (source t : NumberedTable) (fault : OpFault) (objects : Shown) → source ≡ t
     → MakesBy labels_seen texts (Err fault) (relabelled_with texts pairs (headings_value texts source.headings)) → FormAnswers texts (Err fault) (frame_of (table_value texts t) (entries_of live texts pairs)) objects objects
-frame_refused live texts pairs _ t (Refused code) _ at makes = (
+frame_refused _ texts pairs _ t (Refused code) _ at makes = (
   (
-    frame_meant live texts pairs (table_value texts t)
+    frame_meant _ _ pairs (table_value texts t)
         ∙ ap (λ n. limited_under (table_value texts t) (relabelled_with texts pairs (headings_value texts n.headings))) (sym at)
         ∙ ap (limited_under (table_value texts t)) makes.0,
     makes.1,

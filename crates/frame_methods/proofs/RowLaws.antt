@@ -4,7 +4,7 @@ use Rattle.{
   cell_core.specs.declared.{cell.Cell.{Cell}, grid.Rows.{Rows}},
   column_core.proofs.MoveLaws.{get_or-tabulate},
   meaning.specs.{Cell.{na_cell}, Fault.{FaultValue}, Reduce.{is_present}, Text.{Text}},
-  table_meaning.specs.{Settled.{IsSettled}, Table.{ColumnOf, NumberedTable, Table, row_of, column_at, no_column, table_value, tuple_value}, Value.{Entry, table}},
+  table_meaning.specs.{Settled.{IsSettled}, Table.{ColumnOf, NumberedTable, Table, row_of, column_at, table_value, tuple_value}, Value.{Entry, table}},
   form_meaning.specs.Finish.{limited, within_limits},
   pick_meaning.{specs.{Keys.{place_slice}, Positions.{rows_before}, Rows.{rows_of, rows_where}}, proofs.{InsideLaws.{rows_inside}, RowLaws.{rows_more_yes, rows_more_no}}},
   select_meaning.specs.Select.{rows_taken},
@@ -61,7 +61,7 @@ pub rows_made : (texts : List Text) (t made : NumberedTable) (headings : Heading
     → made ≡ chosen t.shape headings rows columns t → within_limits (length rows) (length t.columns) ≡ true → IsSettled table_value texts t
     → Makes texts (Ok made) (limited (rows_taken (table_value texts t) rows))
 rows_made texts t _ headings rows columns named all is within settled = (
-  limited_within (rows_taken T rows) (length rows) (length t.columns) (length-map rows (λ row. slice_index_or T.labels row [])) (search length-map) within
+  limited_within _ _ _ (length-map rows _) (search length-map) within
       ∙ ap (λ v. Ok (table v)) (cc (chosen_rows texts headings rows columns t named all)),
   subst (IsSettled table_value texts) (sym is)
       (search (chosen_settled, own_name, own_labels)),
@@ -74,7 +74,7 @@ pub makes_so : (texts : List Text) (r : Result NumberedTable OpFault) (meant mea
 makes_so = grind arith
 
 pub all_columns_are : (t : Table) → map (column_at t.columns) (all_places t) ≡ t.columns
-all_columns_are t = list_is (column_at t.columns) t.columns 0 no_column (λ k lt. let e : 0 + k ≡ k = omega arith in ap (column_at t.columns) e)
+all_columns_are t = list_is _ _ 0 _ (λ k lt. let e : 0 + k ≡ k = omega arith in ap (column_at t.columns) e)
 
 pub row_there : (t : Table) (row : ℕ) → row < length t.labels → slice_index_or (cells_by_row t (all_places t)) row [] ≡ (row_of na_cell t row).cells
 row_there t row lt = cc (by_rows t (all_places t), get_or-tabulate (length t.labels) (cells_in t (all_places t)) row [] lt, all_columns_are t)

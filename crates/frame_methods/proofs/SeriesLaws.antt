@@ -50,9 +50,9 @@ pub frame_settled : (texts : List Text) (t made : NumberedTable) (axis : AxisVal
     → IsSettled table_value texts made
 frame_settled texts t _ _ cells settled given axis_is is =
     subst (IsSettled table_value texts) (sym (is ∙ ap (λ a. summaries_table t a cells) axis_is))
-    (table_settled texts (summaries_table t (summaries_axis t) cells)
+    (table_settled _ (summaries_table t (summaries_axis t) cells)
     (λ more. refl)
-    (λ more. ap (λ n. n ∷ []) (columns_name_part texts t settled more))
-    (settled_by headings_value labels_value (map label_tuple) texts t.headings (map column_tuple t.headings) (λ ts. tuples_seen ts t.headings) (headings_part texts t settled))
+    (λ more. ap (λ n. n ∷ []) (columns_name_part _ t settled more))
+    (settled_by headings_value labels_value (map _) _ _ _ (λ ts. tuples_seen ts _) (headings_part _ t settled))
     (λ more. refl)
-    (columns_settled texts (table_column cells ∷ []) (grind arith)))
+    (columns_settled _ (table_column cells ∷ []) (grind arith)))

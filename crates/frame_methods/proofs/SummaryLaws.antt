@@ -43,6 +43,6 @@ cells_step f dict columns kind place made _ a x so_far lt at given more is = sub
 pub cells_refused : (f : ColumnOf CellValue → Result CellValue FaultValue) (dict : List Text) (columns : List (ColumnOf Cell)) (kind : Kind) (place : ℕ) (made a : CellColumn) (fault : FaultValue)
     → AreCells f dict columns kind place made → place < length columns → column_at columns place ≡ table_column a → f (column_value dict (table_column a)) ≡ Err fault
     → try_all f (columns_value dict columns) ≡ Err fault
-cells_refused f dict columns _ place made a fault so_far lt at is =
-    front_fails f (map (datum dict) made.cells) (column_value dict (table_column a)) fault (columns_value dict (drop (place + 1) columns)) (try_all f (columns_value dict columns))
+cells_refused f dict columns _ place made a _ so_far lt at is =
+    front_fails f (map (datum dict) made.cells) _ _ (columns_value dict (drop (place + 1) columns)) _
     (cc (at_place columns place (table_column a) lt at, so_far.answer)) is

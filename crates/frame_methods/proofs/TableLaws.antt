@@ -29,4 +29,4 @@ pub columns_settled_later : (old new : List Text) (t made : NumberedTable) (head
     → All (λ c. AreGiven new c.cells) (map block_column bs) → IsSettled table_value new made
 columns_settled_later old new t _ _ bs longer settled same is given =
     subst (IsSettled table_value new) (sym (is ∙ ap (λ h. table_with t.shape (axis_of t) h (map block_column bs)) same))
-    (with_columns_settled new t (map block_column bs) (settled_later table_value old new t longer settled) given)
+    (with_columns_settled _ t _ (settled_later table_value old new t longer settled) given)

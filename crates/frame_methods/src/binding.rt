@@ -63,6 +63,7 @@ pub(crate) fn given_scalar(store: &Store, dict: &TextDict, bound: &Bound<'_>, pl
 }
 
 // The call of the method of the name that an object has, if it is built and takes the arguments.
+#[tactic(auto, using(form_meaning::proofs::ShapeLaws::named_fits))]
 pub(crate) fn bound_call<'a>(
     alloc: Global,
     store: &Store,

@@ -68,6 +68,7 @@ fn chained(alloc: Global, store: &Store, on: Value, name: &str) -> OpFault
 }
 
 // The table that a method makes of rows.
+#[tactic(auto, using(selections::proofs::PickedLaws::places_inside))]
 fn rows_made(
     alloc: Global,
     store: &Store,
@@ -151,6 +152,7 @@ fn levels_made(
 }
 
 // The table that a method makes of the rows, or of the columns, that labels name.
+#[tactic(auto, using(crate::proofs::ShapeLaws::reindex_of_frame))]
 fn labels_made(
     alloc: Global,
     store: &Store,
@@ -184,6 +186,7 @@ fn labels_made(
 }
 
 // The answer of a method of the whole table.
+#[tactic(auto, using(crate::proofs::Hints::table_answer))]
 fn table_answer(
     alloc: Global,
     store: &mut Store,

@@ -127,6 +127,7 @@ impl ColumnOp for Cumulated {
 }
 
 // The answer of a method that makes new columns.
+#[tactic(auto, using(crate::proofs::HeldLaws::each_given))]
 pub(crate) fn columns_answer(
     alloc: Global,
     store: &mut Store,

@@ -41,6 +41,7 @@ pub(crate) trait ColumnOp {
 }
 
 // What is made of each column of a table, each in a block of its own, or the first fault.
+#[tactic(auto, using(crate::proofs::HeldLaws::each_later))]
 pub(crate) fn each_column<O: ColumnOp>(
     alloc: Global,
     dict: &mut TextDict,

@@ -18,6 +18,7 @@ use frame_store::{ObjId, ObjRef, OpFault, Store};
 use std::alloc::Global;
 
 // The CSV text of a table as a cell, with the labels of the rows or without them.
+#[tactic(auto, using(crate::proofs::CsvLaws::csv_seen))]
 fn csv_cell(
     alloc: Global,
     dict: &mut TextDict,
@@ -37,6 +38,7 @@ fn csv_cell(
 }
 
 // The table as CSV text; without the labels of the rows there must be a column.
+#[tactic(auto, using(crate::proofs::Hints::to_csv))]
 pub(crate) fn to_csv(
     alloc: Global,
     store: &Store,

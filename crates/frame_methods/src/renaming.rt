@@ -43,6 +43,7 @@ pub(crate) fn rename_series(
 }
 
 // A frame under the labels that a dict gives to its columns.
+#[tactic(auto, using(crate::proofs::NameLaws::meant_so, crate::proofs::RenameLaws::frame_renamed))]
 pub(crate) fn rename_frame(
     alloc: Global,
     store: &mut Store,

@@ -78,6 +78,7 @@ pub(crate) fn rows_by_keys(
 }
 
 // The columns at these places.
+#[tactic(auto, using(crate::proofs::SortLaws::one_place_more))]
 pub(crate) fn columns_at<'a>(
     alloc: Global,
     on: &'a ObjRef<'_>,

@@ -16,6 +16,7 @@ use frame_store::{ObjRef, OpFault, Table};
 use std::alloc::Global;
 
 // The rows in the order of their keys.
+#[tactic(auto, using(crate::proofs::SortLaws::sorted_below))]
 fn sorted_table(
     alloc: Global,
     dict: &TextDict,
@@ -49,6 +50,7 @@ pub(crate) fn sort_values(
 }
 
 // The rows in the order of their labels.
+#[tactic(auto, using(crate::proofs::Hints::sort_index))]
 pub(crate) fn sort_index(
     alloc: Global,
     dict: &TextDict,

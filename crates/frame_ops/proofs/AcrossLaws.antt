@@ -1,15 +1,15 @@
 -- A frame and a Series of other labels than its columns.
 use Rattle.{
-  std.{proofs.{Common.{◌≡◌, ◌≢◌, ◌∙◌, ◌<◌, ◌+◌, ◌&&◌, ◌||◌, ℕ, suc, nat_eq, Bool, true, false, List, [], ◌∷◌, length, map, drop, refl, sym, arith, add-one, All, Result, Err, slice_index_or, if◌then◌else◌}, Math.Seq.{drop-cons}, lemmas.{List.{get_or-map, Elements.{All-head, All-tail}, Folds.{list_all-map}}, Bool.Decides.{nat_tests}}}, specs.List.{list_any}},
+  std.{proofs.{Common.{◌≡◌, ◌≢◌, ◌∙◌, ◌<◌, ◌+◌, ◌&&◌, ◌||◌, ℕ, nat_eq, Bool, true, false, List, [], ◌∷◌, length, map, drop, refl, arith, add-one, All, Result, Err, slice_index_or, if◌then◌else◌}, Math.Seq.{drop-cons}, lemmas.{List.{get_or-map, Elements.{All-head, All-tail}, Folds.{list_all-map}}, Bool.Decides.{nat_tests}}}, specs.List.{list_any}},
   cell_core.specs.{declared.cell.{Cell.{Cell}, Kind.{Kind}, Label.{Label}}, Texts.{AreDistinct}},
-  meaning.specs.{Text.{Text}, Cell.{CellValue}, Fault.{FaultValue, wrong_kind, bad_value, levels, not_aligned, then_value}, Symbol.{Binary}},
+  meaning.specs.{Text.{Text}, Cell.{CellValue}, Fault.{FaultValue, wrong_kind, bad_value, not_aligned, then_value}, Symbol.{Binary}},
   pick_meaning.specs.Rows.{rows_where, are_some},
   row_keys.specs.{Keys.{same_tuple as same_numbers}, Partners.{rows_with}},
-  table_meaning.specs.{Settled.{IsSettled}, Table.{ColumnOf, NumberedTable, Table, column_at, column_value, tuple_value, table_value, no_column}, Value.{Entry}},
+  table_meaning.specs.{Settled.{IsSettled}, Table.{ColumnOf, NumberedTable, Table, column_at, column_value, tuple_value, table_value}, Value.{Entry}},
   form_meaning.specs.{Finish.{column_labels, same_kind}, Infix.{same_tuple, on_levels, compares, takes_twice, takes_rows, takes_each, labels_fit, spread_frame, joined_turned, across_unequal}},
   frame_store.{specs.Shown.{labels_value, columns_value}, proofs.Settling.{labels_part}},
   form_parts.proofs.RowLaws.{tuple_by_number, tuples_settled},
-  frame_ops.{specs.Widening.{heading_tuple, labels_axis}, proofs.{MeetingLaws.{first_column, levels_one}, WideLaws.{tuples_seen, labels_given}}},
+  frame_ops.{specs.Widening.{heading_tuple}, proofs.{MeetingLaws.{first_column, levels_one}, WideLaws.{tuples_seen, labels_given}}},
 }
 
 -- a Series has a row, or none
@@ -33,37 +33,38 @@ any_rows p row (x ∷ xs) = grind (arith, any_rows p (row + 1) xs)
 
 -- one column more
 module _ (kind : Kind) (labels keys : List (List Label)) (cs : List (ColumnOf Cell)) where
-  fits_from : (place : ℕ) (rows : List ℕ) → place < length keys → place < length cs → rows ≡ slice_index_or (map (rows_with labels) keys) place []
-      → labels_fit same_numbers kind labels (drop place keys) (drop place cs) ≡ ((if are_some rows then same_kind (column_at cs place).kind kind else true) && labels_fit same_numbers kind labels (drop (place + 1) keys) (drop (place + 1) cs))
-  fits_from place rows lt lt' is =
-      let key = slice_index_or keys place [] in
-      let found : rows ≡ rows_where (same_numbers key) 0 labels = grind (arith, get_or-map) in
-      let there : list_any (same_numbers key) labels ≡ are_some rows = grind (arith, any_rows) in
-      (λ i. labels_fit same_numbers kind labels (drop-cons keys place [] lt i) (drop-cons cs place no_column lt' i))
-      ∙ (λ i. (if there i then same_kind (column_at cs place).kind kind else true) && labels_fit same_numbers kind labels (drop (suc place) keys) (drop (suc place) cs))
-      ∙ (λ i. (if are_some rows then same_kind (column_at cs place).kind kind else true) && labels_fit same_numbers kind labels (drop (sym (add-one place) i) keys) (drop (sym (add-one place) i) cs))
+  module _ (place : ℕ) (rows : List ℕ) (lt : place < length keys) (lt' : place < length cs) (is : rows ≡ slice_index_or (map (rows_with labels) keys) place []) where
+    abbrev fits : Bool
+    fits = if are_some rows then same_kind (column_at cs place).kind kind else true
 
-  pub one_more_fits : (place : ℕ) (rows : List ℕ) (whole : Bool) → place < length keys → place < length cs → rows ≡ slice_index_or (map (rows_with labels) keys) place [] → (if are_some rows then same_kind (column_at cs place).kind kind else true) ≡ true
-      → labels_fit same_numbers kind labels (drop place keys) (drop place cs) ≡ whole → labels_fit same_numbers kind labels (drop (place + 1) keys) (drop (place + 1) cs) ≡ whole
-  one_more_fits place rows _ lt lt' is fits before = cc (fits_from place rows lt lt' is)
+    abbrev fit_at : ℕ → Bool
+    fit_at k = labels_fit same_numbers kind labels (drop k keys) (drop k cs)
 
-  pub one_unfit : (place : ℕ) (rows : List ℕ) (whole : Bool) → place < length keys → place < length cs → rows ≡ slice_index_or (map (rows_with labels) keys) place [] → (if are_some rows then same_kind (column_at cs place).kind kind else true) ≡ false
-      → labels_fit same_numbers kind labels (drop place keys) (drop place cs) ≡ whole → false ≡ whole
-  one_unfit place rows _ lt lt' is unfit before = cc (fits_from place rows lt lt' is)
+    fits_from : fit_at place ≡ (fits && fit_at (place + 1))
+    fits_from =
+        let key = slice_index_or keys place [] in
+        let found : rows ≡ rows_where (same_numbers key) 0 labels = grind (arith, get_or-map) in
+        grind (arith, any_rows, drop-cons, add-one)
+
+    pub one_more_fits : (whole : Bool) → fits ≡ true → fit_at place ≡ whole → fit_at (place + 1) ≡ whole
+    one_more_fits _ fit before = cc fits_from
+
+    pub one_unfit : (whole : Bool) → fits ≡ false → fit_at place ≡ whole → false ≡ whole
+    one_unfit _ unfit before = cc fits_from
 
 -- with texts
 any_seen : (texts : List Text) (key : List Label) (labels : List (List Label)) → AreDistinct texts → IsSettled tuple_value texts key → All (IsSettled tuple_value texts) labels → list_any (same_tuple (tuple_value texts key)) (labels_value texts labels) ≡ list_any (same_numbers key) labels
 any_seen _ _ [] _ _ _ = refl
-any_seen texts key (t ∷ ts) distinct here all =
-    λ j. tuple_by_number texts key t distinct here (All-head (IsSettled tuple_value texts) t ts all) j || any_seen texts key ts distinct here (All-tail (IsSettled tuple_value texts) t ts all) j
+any_seen texts _ (t ∷ ts) distinct here all =
+    λ j. tuple_by_number _ _ t distinct here (All-head (IsSettled tuple_value texts) t ts all) j || any_seen _ _ ts distinct here (All-tail (IsSettled tuple_value texts) t ts all) j
 
 fit_seen : (texts : List Text) (kind : Kind) (labels keys : List (List Label)) (cs : List (ColumnOf Cell)) → AreDistinct texts → All (IsSettled tuple_value texts) labels → All (IsSettled tuple_value texts) keys
     → labels_fit same_tuple kind (labels_value texts labels) (labels_value texts keys) (columns_value texts cs) ≡ labels_fit same_numbers kind labels keys cs
 fit_seen _ _ _ [] _ _ _ _ = refl
 fit_seen _ _ _ (k ∷ ks) [] _ _ _ = refl
-fit_seen texts kind labels (k ∷ ks) (c ∷ cs) distinct all each =
-    λ j. (if any_seen texts k labels distinct (All-head (IsSettled tuple_value texts) k ks each) all j then same_kind c.kind kind else true)
-    && fit_seen texts kind labels ks cs distinct all (All-tail (IsSettled tuple_value texts) k ks each) j
+fit_seen texts kind _ (k ∷ ks) (c ∷ cs) distinct all each =
+    λ j. (if any_seen _ k _ distinct (All-head (IsSettled tuple_value texts) k ks each) all j then same_kind c.kind kind else true)
+    && fit_seen _ kind _ ks cs distinct all (All-tail (IsSettled tuple_value texts) k ks each) j
 
 module _ (op : Binary) (texts : List Text) (f s : NumberedTable) (left : Bool) where
   abbrev v : Table
@@ -87,33 +88,11 @@ module _ (op : Binary) (texts : List Text) (f s : NumberedTable) (left : Bool) w
   fit_is : AreDistinct texts → IsSettled table_value texts f → IsSettled table_value texts s → fit_meant ≡ labels_fit same_numbers kind s.labels (map heading_tuple f.headings) f.columns
   fit_is distinct given given' =
       (λ i. labels_fit same_tuple (first_column texts s.columns i).kind w.labels (tuples_seen texts f.headings i) v.columns)
-      ∙ fit_seen texts kind s.labels (map heading_tuple f.headings) f.columns distinct (tuples_settled texts s.labels (labels_part texts s given')) (tuples_settled texts (map heading_tuple f.headings) (labels_given texts (labels_axis f) f refl given))
+      ∙ fit_seen _ _ _ _ _ distinct (tuples_settled _ _ (labels_part _ s given')) (tuples_settled _ _ (labels_given _ _ f refl given))
 
-  by_tests : (k l : Bool) → takes_each op f s ≡ k → nat_eq (length s.level_names) 1 ≡ l → across_unequal op left v w ≡ on_levels k l (rest fit_meant (compares op))
+  pub by_tests : (k l : Bool) → takes_each op f s ≡ k → nat_eq (length s.level_names) 1 ≡ l → across_unequal op left v w ≡ on_levels k l (rest fit_meant (compares op))
   by_tests = grind (arith, takes_seen, levels_one)
 
-  equal : (n : ℕ) → n ≡ 1 → nat_eq n 1 ≡ true
-  equal = grind (arith, nat_tests)
-
-  not_equal : (n : ℕ) → n ≢ 1 → nat_eq n 1 ≡ false
-  not_equal = grind (arith, nat_tests)
-
-  pub across_kinds : takes_each op f s ≡ false → across_unequal op left v w ≡ Err wrong_kind
-  across_kinds kinds = by_tests false (nat_eq (length s.level_names) 1) kinds refl
-
-  module _ (kinds : takes_each op f s ≡ true) where
-    pub across_levels : length s.level_names ≢ 1 → across_unequal op left v w ≡ Err (bad_value levels)
-    across_levels apart = by_tests true false kinds (not_equal (length s.level_names) apart)
-
-    module _ (one : length s.level_names ≡ 1) (distinct : AreDistinct texts) (given : IsSettled table_value texts f) (given' : IsSettled table_value texts s) where
-      by_labels : (fit : Bool) → fit ≡ labels_fit same_numbers kind s.labels (map heading_tuple f.headings) f.columns → across_unequal op left v w ≡ rest fit (compares op)
-      by_labels _ is = cc (by_tests true true kinds (equal (length s.level_names) one), fit_is distinct given given')
-
-      pub across_unfit : false ≡ labels_fit same_numbers kind s.labels (map heading_tuple f.headings) f.columns → across_unequal op left v w ≡ Err wrong_kind
-      across_unfit is = by_labels false is
-
-      pub across_compared : true ≡ labels_fit same_numbers kind s.labels (map heading_tuple f.headings) f.columns → compares op ≡ true → across_unequal op left v w ≡ Err (bad_value not_aligned)
-      across_compared is compared = cc (by_labels true is)
-
-      pub across_met : true ≡ labels_fit same_numbers kind s.labels (map heading_tuple f.headings) f.columns → compares op ≡ false → met ≡ across_unequal op left v w
-      across_met is compared = cc (by_labels true is)
+  pub by_labels : (fit compared : Bool) → takes_each op f s ≡ true → length s.level_names ≡ 1 → AreDistinct texts → IsSettled table_value texts f → IsSettled table_value texts s
+      → fit ≡ labels_fit same_numbers kind s.labels (map heading_tuple f.headings) f.columns → compares op ≡ compared → across_unequal op left v w ≡ rest fit compared
+  by_labels _ _ kinds one distinct given given' is compared = cc (by_tests true true kinds (grind (arith, nat_tests)), fit_is distinct given given')

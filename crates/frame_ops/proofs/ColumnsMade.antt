@@ -1,6 +1,6 @@
 -- Columns that are made one after the other.
 use Rattle.{
-  std.{proofs.{Common.{◌≡◌, ◌∙◌, ℕ, ◌+◌, ◌<◌, Bool, true, false, ◌&&◌, List, [], ◌∷◌, ◌++◌, length, map, drop, ap, sym, subst, arith, add-one, append_assoc, Result, Ok, Err, All}, Math.Seq.{drop-cons}, lemmas.List.{map-append, length_push, Elements.{All-push, All-replicate}}}, specs.List.{list_all}},
+  std.{proofs.{Common.{◌≡◌, ℕ, ◌+◌, ◌<◌, Bool, true, false, ◌&&◌, List, [], ◌∷◌, ◌++◌, length, map, drop, ap, sym, subst, arith, add-one, append_assoc, Result, Ok, Err, All}, Math.Seq.{drop-cons}, lemmas.List.{map-append, length_push, Elements.{All-push, All-replicate}}}, specs.List.{list_all}},
   cell_core.specs.{Texts.{IsLonger, AreGiven, IsGiven}, declared.cell.{Cell.{Cell}, Kind.{Kind}}},
   meaning.specs.{Text.{Text}, Cell.{CellValue}, Fault.{FaultValue, then_value}},
   column_core.specs.Blocks.{CellBlock},
@@ -15,12 +15,10 @@ pub columns_later : (old new : List Text) (cs : List (ColumnOf Cell)) → IsLong
 columns_later = search (cells_given, settled_later, cells_settled)
 
 -- two columns that meet are seen alike through more texts
-pair_settled : (texts : List Text) (a b : ColumnOf Cell) → AreGiven texts a.cells → AreGiven texts b.cells → IsSettled meeting_value texts (a, b)
-pair_settled texts a b f g = λ more j. (value_of_column (column_settled texts a f more j), value_of_column (column_settled texts b g more j))
 
 turned_settled : (texts : List Text) (left : Bool) (a b : ColumnOf Cell) → AreGiven texts a.cells → AreGiven texts b.cells → IsSettled meeting_value texts (turned_pair left a b)
-turned_settled texts true a b f g = pair_settled texts b a g f
-turned_settled texts false a b f g = pair_settled texts a b f g
+turned_settled _ true a b f g = λ more j. (value_of_column (column_settled _ b g more j), value_of_column (column_settled _ a f more j))
+turned_settled _ false a b f g = λ more j. (value_of_column (column_settled _ a f more j), value_of_column (column_settled _ b g more j))
 
 repeated_given : (texts : List Text) (kind : Kind) (n : ℕ) (c : Cell) → IsGiven texts c → AreGiven texts (repeated kind n c).cells
 repeated_given texts _ n c given = All-replicate (IsGiven texts) n c given
@@ -30,7 +28,7 @@ met_settled : (texts : List Text) (on : NumberedTable) (other : Other) (place : 
 met_settled _ _ (Scalar c left) _ a lt opposite given here = search (turned_settled, repeated_given)
 met_settled _ _ (Beside t) place a lt opposite given here =
     let inside : place < length t.columns = omega (arith, opposite.0) in
-    search pair_settled
+    turned_settled _ false a _ here (given place _ inside)
 met_settled _ _ (Across s left) place a lt opposite given here =
     let inside : place < length (column_at s.columns 0).cells = omega (arith, opposite.1) in
     search (turned_settled, repeated_given)
@@ -50,15 +48,6 @@ module _ {A B : Type 0} (f : A → Result B FaultValue) where
   pub nothing_made : (all : List A) → then_value (try_all f all) (λ rest. Ok ([] ++ rest)) ≡ try_all f all
   nothing_made = grind arith
 
-  -- one more is made
-  pub one_more_made : (x : A) (xs : List A) (done : List B) (y : B) (whole : Result (List B) FaultValue) → f x ≡ Ok y → then_value (try_all f (x ∷ xs)) (λ rest. Ok (done ++ rest)) ≡ whole
-      → then_value (try_all f xs) (λ rest. Ok ((done ++ y ∷ []) ++ rest)) ≡ whole
-  one_more_made = grind (arith, append_assoc)
-
-  -- one is refused
-  pub one_refused : (x : A) (xs : List A) (done : List B) (fault : FaultValue) (whole : Result (List B) FaultValue) → f x ≡ Err fault → then_value (try_all f (x ∷ xs)) (λ rest. Ok (done ++ rest)) ≡ whole → whole ≡ Err fault
-  one_refused x _ _ _ _ here before = cc
-
 -- the blocks, with one more
 blocks_more : (mid new : List Text) (made made' : List CellBlock) (block : CellBlock) → IsLonger mid new → All (λ c. AreGiven mid c.cells) (map block_column made) → made' ≡ made ++ block ∷ []
     → blocks_value new made' ≡ blocks_value mid made ++ block_value new block ∷ []
@@ -67,13 +56,13 @@ blocks_more = grind (arith, map-append, seen_later, columns_settled)
 -- columns with one more
 pub columns_more : (mid new : List Text) (rows columns : ℕ) (made made' : List CellBlock) (block : CellBlock) → IsLonger mid new → AreColumns mid rows columns made → made' ≡ made ++ block ∷ []
     → IsSingle block → length (block_column block).cells ≡ rows → AreGiven new (block_column block).cells → AreColumns new rows (columns + 1) made'
-columns_more mid new rows columns made _ block longer before pushed single here given =
+columns_more _ new rows columns made _ block longer before pushed single here given =
     subst (AreColumns new rows (columns + 1)) (sym pushed)
     (record {
-      single = All-push IsSingle made block before.single single;
+      single = All-push IsSingle made _ before.single single;
       count = grind (arith, length_push);
-      filled = rw (map-append block_column made (block ∷ [])) (All-push (λ c. length c.cells ≡ rows) (map block_column made) (block_column block) before.filled here);
-      given = rw (map-append block_column made (block ∷ [])) (All-push (λ c. AreGiven new c.cells) (map block_column made) (block_column block) (columns_later mid new (map block_column made) longer before.given) given);
+      filled = rw (map-append block_column made (block ∷ [])) (All-push (λ c. length c.cells ≡ rows) (map _ made) _ before.filled here);
+      given = rw (map-append block_column made (block ∷ [])) (All-push (λ c. AreGiven new c.cells) (map _ made) _ (columns_later _ _ _ longer before.given) given);
     })
 
 module _ (f : Meeting → Result (ColumnOf CellValue) FaultValue) (old mid new : List Text) (on : NumberedTable) (other : Other) (place : ℕ) (made : List CellBlock) (whole : Result (List (ColumnOf CellValue)) FaultValue) where
@@ -87,18 +76,13 @@ module _ (f : Meeting → Result (ColumnOf CellValue) FaultValue) (old mid new :
   abbrev pub IsWholeSoFar : Type 0
   IsWholeSoFar = then_value (try_all f (meetings_value old (pairs_from other place (drop place on.columns)))) (λ rest. Ok (blocks_value mid made ++ rest)) ≡ whole
 
-  met_as_before : place < length on.columns → IsOpposite on other → IsGivenOther old other → All (λ c. AreGiven old c.cells) on.columns → IsLonger old mid → f (meeting_value old pair) ≡ f (meeting_value mid pair)
-  met_as_before lt opposite beside given longer =
-      ap f (sym (seen_later meeting_value old mid pair longer (search met_settled)))
+  module _ (lt : place < length on.columns) (opposite : IsOpposite on other) (beside : IsGivenOther old other) (given : All (λ c. AreGiven old c.cells) on.columns) (longer : IsLonger old mid) where
+    met_as_before : f (meeting_value old pair) ≡ f (meeting_value mid pair)
+    met_as_before = ap f (sym (seen_later meeting_value old mid _ longer (search met_settled)))
 
-  split : place < length on.columns → IsWholeSoFar → then_value (try_all f (meeting_value old pair ∷ later)) (λ rest. Ok (blocks_value mid made ++ rest)) ≡ whole
-  split = grind (arith, pairs_here)
+    pub whole_more : (made' : List CellBlock) (block : CellBlock) → IsLonger mid new → All (λ c. AreGiven mid c.cells) (map block_column made) → made' ≡ made ++ block ∷ [] → f (meeting_value mid pair) ≡ Ok (block_value new block) → IsWholeSoFar
+        → then_value (try_all f later) (λ rest. Ok (blocks_value new made' ++ rest)) ≡ whole
+    whole_more made' block further kept pushed is before = grind (arith, append_assoc, pairs_here, blocks_more mid new made made' block further kept pushed, met_as_before)
 
-  pub whole_more : (made' : List CellBlock) (block : CellBlock) → place < length on.columns → IsOpposite on other → IsGivenOther old other → All (λ c. AreGiven old c.cells) on.columns → IsLonger old mid → IsLonger mid new
-      → All (λ c. AreGiven mid c.cells) (map block_column made) → made' ≡ made ++ block ∷ [] → f (meeting_value mid pair) ≡ Ok (block_value new block) → IsWholeSoFar
-      → then_value (try_all f later) (λ rest. Ok (blocks_value new made' ++ rest)) ≡ whole
-  whole_more made' block lt opposite beside given longer further kept pushed is before = grind (arith, blocks_more mid new made made' block further kept pushed, one_more_made f (meeting_value old pair) later (blocks_value mid made) (block_value new block) whole (met_as_before lt opposite beside given longer ∙ is) (split lt before))
-
-  pub whole_refused : (fault : OpFault) → place < length on.columns → IsOpposite on other → IsGivenOther old other → All (λ c. AreGiven old c.cells) on.columns → IsLonger old mid
-      → MakesBy block_value new (Err fault) (f (meeting_value mid pair)) → IsWholeSoFar → MakesBy blocks_value new (Err fault) whole
-  whole_refused = grind (arith, one_refused, met_as_before, split)
+    pub whole_refused : (fault : OpFault) → MakesBy block_value new (Err fault) (f (meeting_value mid pair)) → IsWholeSoFar → MakesBy blocks_value new (Err fault) whole
+    whole_refused = grind (arith, met_as_before, pairs_here)

@@ -1,12 +1,13 @@
 -- Labels of columns, and labels of rows that are those of columns.
 use Rattle.{
-  std.{proofs.{Common.{◌≡◌, ◌∙◌, ℕ, suc, ◌+◌, ◌<◌, Bool, true, false, ◌&&◌, List, [], ◌∷◌, ◌++◌, length, drop, refl, ap, sym, subst, arith, nat_eq, add-one, Option, Some, None, slice_index_or}, Math.Seq.{drop-cons}, lemmas.{List.{get_or-map, length-map}, Bool.Decides.{nat_tests}}}, specs.Prelude.{◌≢◌}},
+  std.{proofs.{Common.{◌≡◌, ◌∙◌, ℕ, ◌+◌, ◌<◌, Bool, true, false, List, [], ◌∷◌, ◌++◌, length, map, drop, refl, ap, sym, subst, arith, nat_eq, add-one, Option, Some, None, slice_index_or}, Math.Seq.{drop-cons}, lemmas.{List.{get_or-map, length-map}, Bool.Decides.{nat_tests}}}, specs.{Prelude.{◌≢◌}, Cmp.Lexicographic.{as_long}}},
   cell_core.specs.declared.cell.Label.{Label},
   meaning.specs.{Text.{Text}, Cell.{LabelValue, na, label_datum}},
   multi_index.specs.Axes.{HaveLevels},
-  table_meaning.specs.{Settled.{IsSettled}, Table.{heading_value, tuple_value}},
-  form_meaning.specs.{Finish.{same_heading}, Infix.{same_headings, are_headings}},
+  table_meaning.specs.{Settled.{IsSettled}, Table.{heading_value}},
+  form_meaning.specs.{Finish.{same_heading}, Infix.{same_headings, are_headings, tuple_heading}},
   frame_store.specs.Shown.{headings_value, labels_value},
+  form_parts.proofs.RowLaws.{tuples_settled},
 }
 use Rattle.cell_core.specs.declared.cell.Label.TheVariants as label
 
@@ -20,33 +21,18 @@ pub label_settled : (texts : List Text) (ls : List (List Label)) (l : Label) (k 
 label_settled texts ls l k settled alike lt is =
     let t = slice_index_or ls k [] in
     let inside : 0 < length t = omega (arith, alike k [] lt) in
-    let tuple : IsSettled tuple_value texts t = λ more.
-    sym (get_or-map (tuple_value (texts ++ more)) ls k [] [] lt) ∙ ap (λ x. slice_index_or x k []) (settled more) ∙ get_or-map (tuple_value texts) ls k [] [] lt in
+    let tuple = tuples_settled _ ls settled k [] lt in
     subst (λ x. IsSettled heading_value texts (Some x)) (sym is) (λ more.
     ap Some (cc (get_or-map (label_datum (texts ++ more)) t 0 label.Na na inside, tuple more, get_or-map (label_datum texts) t 0 label.Na na inside)))
 
-and_false : (b : Bool) → (b && false) ≡ false
-and_false = grind arith
-
-headings_differ : (x y : List (Option LabelValue)) → length x ≢ length y → same_headings x y ≡ false
-headings_differ [] [] n = absurd (n refl)
-headings_differ [] (b ∷ bs) n = refl
-headings_differ (a ∷ as') [] n = refl
-headings_differ (a ∷ as') (b ∷ bs) n = search (and_false, headings_differ as' bs (λ e. n (ap suc e)))
-
 -- tables with columns of different numbers
 pub other_count : (texts : List Text) (a b : List (Option Label)) → length a ≢ length b → false ≡ same_headings (headings_value texts a) (headings_value texts b)
-other_count = grind (arith, headings_differ, length-map)
+other_count = grind (arith, as_long same_heading, length-map)
 
 labels_differ : (x : List (List LabelValue)) (y : List (Option LabelValue)) → length x ≢ length y → are_headings x y ≡ false
-labels_differ [] [] n = absurd (n refl)
-labels_differ [] (h ∷ hs) n = refl
-labels_differ ([] ∷ ls) [] n = refl
-labels_differ ((l ∷ []) ∷ ls) [] n = refl
-labels_differ ((l ∷ m ∷ r) ∷ ls) [] n = refl
-labels_differ ([] ∷ ls) (h ∷ hs) n = refl
-labels_differ ((l ∷ m ∷ r) ∷ ls) (h ∷ hs) n = refl
-labels_differ ((l ∷ []) ∷ ls) (h ∷ hs) n = search (and_false, labels_differ ls hs (λ e. n (ap suc e)))
+labels_differ [] _ n = grind arith
+labels_differ (t ∷ ls) [] n = grind arith
+labels_differ (t ∷ ls) (h ∷ hs) n = grind (arith, labels_differ ls hs)
 
 -- another number of rows than of columns
 pub other_rows : (texts : List Text) (ls : List (List Label)) (hs : List (Option Label)) → length ls ≢ length hs → false ≡ are_headings (labels_value texts ls) (headings_value texts hs)
@@ -62,21 +48,16 @@ other_levels _ _ _ ([] ∷ ls) (h ∷ hs) alike n is same = grind (arith, nat_te
 other_levels _ _ _ ((l ∷ []) ∷ ls) (h ∷ hs) alike n is same = absurd (n (sym (alike 0 [] (omega arith))))
 other_levels _ _ _ ((l ∷ m ∷ r) ∷ ls) (h ∷ hs) alike n is same = grind (arith, nat_tests)
 
-one_label : (t : List Label) → length t ≡ 1 → t ≡ slice_index_or t 0 label.Na ∷ []
+pub one_label : (t : List Label) → length t ≡ 1 → t ≡ slice_index_or t 0 label.Na ∷ []
 one_label [] e = search
 one_label (l ∷ []) e = refl
 one_label (l ∷ m ∷ r) e = search
+
+pub heading_at : (keys : List (List Label)) (k : ℕ) (d : Option Label) → k < length keys → slice_index_or (map tuple_heading keys) k d ≡ tuple_heading (slice_index_or keys k [])
+heading_at keys k d = get_or-map tuple_heading keys k [] d
 
 -- one more label that is a heading
 pub one_more_heading : (texts : List Text) (ls : List (List Label)) (hs : List (Option Label)) (k : ℕ) (l : Label) (h : Option Label) (whole : Bool) → HaveLevels 1 ls → k < length ls → k < length hs
     → l ≡ slice_index_or (slice_index_or ls k []) 0 label.Na → h ≡ slice_index_or hs k None → same_heading (Some (label_datum texts l)) (heading_value texts h) ≡ true
     → are_headings (labels_value texts (drop k ls)) (headings_value texts (drop k hs)) ≡ whole → are_headings (labels_value texts (drop (k + 1) ls)) (headings_value texts (drop (k + 1) hs)) ≡ whole
-one_more_heading texts ls hs k l h _ alike lt lt' is is' same before =
-    let t = slice_index_or ls k [] in
-    let single : t ≡ l ∷ [] = grind (arith, one_label) in
-    let rows : drop k ls ≡ (l ∷ []) ∷ drop (suc k) ls = grind (arith, drop-cons) in
-    let columns : drop k hs ≡ h ∷ drop (suc k) hs = grind (arith, drop-cons) in
-    ap (λ n. are_headings (labels_value texts (drop n ls)) (headings_value texts (drop n hs))) (add-one k)
-    ∙ ap (λ b. b && are_headings (labels_value texts (drop (suc k) ls)) (headings_value texts (drop (suc k) hs))) (sym same)
-    ∙ sym (λ i. are_headings (labels_value texts (rows i)) (headings_value texts (columns i)))
-    ∙ before
+one_more_heading = grind (arith, one_label, drop-cons, add-one)

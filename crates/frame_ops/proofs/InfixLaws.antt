@@ -1,12 +1,12 @@
 -- What an operator makes of two operands is what is meant.
 use Rattle.{
-  std.{proofs.{Common.{◌≡◌, ◌∙◌, ℕ, suc, nat_eq, Bool, true, false, ◌&&◌, List, [], ◌∷◌, length, refl, ap, sym, arith, Option, Some, None, Result, Ok, Err, All, slice_index_or, if◌then◌else◌}, lemmas.{Bool.Decides.{nat_tests}, List.{length-map}}}, specs.{Prelude.{◌≢◌}, List.{list_all}, Cmp.Lexicographic.{as_long}}},
+  std.{proofs.{Common.{◌≡◌, nat_eq, Bool, true, List, [], ◌∷◌, length, refl, arith, Option, None, Result, Ok, Err, All, slice_index_or, if◌then◌else◌}, lemmas.List.{length-map}}, specs.{List.{list_all}, Cmp.Lexicographic.{as_long}}},
   cell_core.specs.declared.{cell.Label.{Label}, grid.Shape.TheVariants.{Series}},
-  meaning.specs.{Text.{Text}, Cell.{LabelValue, AreGiven}, Fault.{FaultValue, wrong_kind, bad_value, levels, not_aligned, then_value}, Symbol.{Binary}},
-  table_meaning.specs.{Table.{NumberedTable, Table, table_value, heading_value, tuple_value, column_at, no_column}, Settled.{IsSettled}, Valid.{IsWhole}, Value.{Entry}},
+  meaning.specs.{Text.{Text}, Cell.{AreGiven}, Fault.{FaultValue, bad_value, not_aligned, then_value}, Symbol.{Binary}},
+  table_meaning.specs.{Table.{NumberedTable, Table, table_value, heading_value, column_at, no_column}, Settled.{IsSettled}, Valid.{IsWhole}, Value.{Entry}},
   frame_store.{specs.{declared.fault.OpFault.{OpFault}, Shown.{headings_value, labels_value, Makes}}, proofs.Settling.{columns_given, columns_part, headings_part, columns_name_part}},
-  form_meaning.specs.{Finish.{with_columns, same_heading}, Infix.{on_levels, same_tuple, same_tuples, same_headings, are_headings, common_name, first_heading, beside, across_series, compares, rows_infix, across_infix}},
-  frame_ops.{specs.{declared.{naming.Naming.TheVariants.{Kept, Name}, other.Other.{Other, TheVariants.{Beside, Across}}}, Joining.{joined_after}, Namings.{named_by}, Pairs.{pairs_from, kinds_meet, meetings_value, levels_fit, IsOpposite, columns_meant}}, proofs.{Meanings.{table_meant, kinds_seen}, HeadingLaws.{heading_settled}, MeetingLaws.{beside_meetings, across_meetings, first_column, levels_same, levels_one}}},
+  form_meaning.specs.{Finish.{with_columns}, Infix.{on_levels, same_tuple, same_tuples, same_headings, are_headings, common_name, first_heading, beside, across_series, compares, rows_infix, across_infix}},
+  frame_ops.{specs.{declared.{naming.Naming.TheVariants.{Kept, Name}, other.Other.{Other, TheVariants.{Beside, Across}}}, Joining.{joined_after}, Namings.{named_by}, Pairs.{pairs_from, kinds_meet, meetings_value, levels_fit, IsOpposite, columns_meant}}, proofs.{Meanings.{table_meant, kinds_seen}, HeadingLaws.{heading_settled, other_rows, other_count}, MeetingLaws.{beside_meetings, across_meetings, first_column, levels_same, levels_one}}},
 }
 use Rattle.table_meaning.specs.Value as value
 
@@ -17,12 +17,6 @@ makes_as = grind arith
 abbrev pub met_table : Binary → List Text → NumberedTable → Other → Table → Result Entry FaultValue
 met_table op texts on other t =
     then_value (columns_meant op (length on.labels) (levels_fit on other) (meetings_value texts (pairs_from other 0 on.columns))) (λ columns. Ok (value.table (with_columns t columns)))
-
-equal : (m n : ℕ) → m ≡ n → nat_eq m n ≡ true
-equal = grind (arith, nat_tests)
-
-not_equal : (m n : ℕ) → m ≢ n → nat_eq m n ≡ false
-not_equal = grind (arith, nat_tests)
 
 -- two tables
 module _ (op : Binary) (texts : List Text) (a b : NumberedTable) (columns : length b.columns ≡ length a.columns) where
@@ -40,20 +34,9 @@ module _ (op : Binary) (texts : List Text) (a b : NumberedTable) (columns : leng
   rows_are_meant t rows equal = grind (arith, table_meant, met, levels_same, equal)
 
   -- and where they aren't, by the tests
-  module _ (rest : Result Entry FaultValue) where
-    by_tests : (k l : Bool) → list_all (kinds_meet op) (pairs_from (Beside b) 0 a.columns) ≡ k → nat_eq (length a.level_names) (length b.level_names) ≡ l
-        → joined_after op v w rest ≡ on_levels k l (if compares op then Err (bad_value not_aligned) else rest)
-    by_tests = grind (arith, met, levels_same, kinds_seen)
-
-    pub kinds_differ : list_all (kinds_meet op) (pairs_from (Beside b) 0 a.columns) ≡ false → joined_after op v w rest ≡ Err wrong_kind
-    kinds_differ kinds = by_tests false (nat_eq (length a.level_names) (length b.level_names)) kinds refl
-
-    module _ (kinds : list_all (kinds_meet op) (pairs_from (Beside b) 0 a.columns) ≡ true) where
-      pub levels_differ : length a.level_names ≢ length b.level_names → joined_after op v w rest ≡ Err (bad_value levels)
-      levels_differ apart = by_tests true false kinds (not_equal (length a.level_names) (length b.level_names) apart)
-
-      pub tests_passed : (c : Bool) → length a.level_names ≡ length b.level_names → compares op ≡ c → joined_after op v w rest ≡ (if c then Err (bad_value not_aligned) else rest)
-      tests_passed c counted compared = cc (by_tests true true kinds (equal (length a.level_names) (length b.level_names) counted))
+  pub joined_tests : (rest : Result Entry FaultValue) → joined_after op v w rest
+      ≡ on_levels (list_all (kinds_meet op) (pairs_from (Beside b) 0 a.columns)) (nat_eq (length a.level_names) (length b.level_names)) (if compares op then Err (bad_value not_aligned) else rest)
+  joined_tests = grind (arith, met, levels_same, kinds_seen)
 
 first_value : (texts : List Text) (hs : List (Option Label)) → first_heading (headings_value texts hs) ≡ heading_value texts (slice_index_or hs 0 None)
 first_value _ [] = refl
@@ -63,13 +46,6 @@ first_value _ (h ∷ hs) = refl
 pub series_named : (texts : List Text) (a b : NumberedTable) (x y name : Option Label) → x ≡ slice_index_or a.headings 0 None → y ≡ slice_index_or b.headings 0 None → heading_value texts name ≡ common_name (heading_value texts x) (heading_value texts y)
     → table_value texts (named_by a (Name name)) ≡ record (table_value texts a) { headings = common_name (first_heading (table_value texts a).headings) (first_heading (table_value texts b).headings) ∷ [] }
 series_named = grind (arith, first_value)
-
-module _ (op : Binary) (texts : List Text) (a b : NumberedTable) where
-  abbrev f : Table
-  f = table_value texts a
-
-  abbrev g : Table
-  g = table_value texts b
 
 -- a frame and a Series across
 pub across_is_meant : (op : Binary) (texts : List Text) (f s : NumberedTable) (left : Bool) → IsWhole f → are_headings (labels_value texts s.labels) (headings_value texts f.headings) ≡ true → length (column_at s.columns 0).cells ≡ length f.columns
@@ -83,51 +59,35 @@ across_is_meant _ texts f s left whole same cells =
     grind (arith, table_meant, met, levels_one)
 
 -- equal lists have one length
-both_true : (a b : Bool) → (a && b) ≡ true → b ≡ true
-both_true = grind arith
-
-are_count : (x : List (List LabelValue)) (y : List (Option LabelValue)) → are_headings x y ≡ true → length x ≡ length y
-are_count [] [] e = refl
-are_count [] (h ∷ hs) e = cc
-are_count ([] ∷ ls) [] e = cc
-are_count ([] ∷ ls) (h ∷ hs) e = cc
-are_count ((l ∷ []) ∷ ls) [] e = cc
-are_count ((l ∷ []) ∷ ls) (h ∷ hs) e = ap suc (are_count ls hs (both_true (same_heading (Some l) h) (are_headings ls hs) e))
-are_count ((l ∷ m ∷ r) ∷ ls) [] e = cc
-are_count ((l ∷ m ∷ r) ∷ ls) (h ∷ hs) e = cc
 
 pub rows_count : (texts : List Text) (a b : NumberedTable) → same_tuples (labels_value texts a.labels) (labels_value texts b.labels) ≡ true → length b.labels ≡ length a.labels
-rows_count texts a b same =
-    sym (sym (length-map a.labels (tuple_value texts)) ∙ as_long same_tuple (labels_value texts a.labels) (labels_value texts b.labels) same ∙ length-map b.labels (tuple_value texts))
+rows_count texts a b same = grind (arith, as_long same_tuple (labels_value texts a.labels) (labels_value texts b.labels) same, length-map)
 
 -- the columns of two Series, and of two frames, are as many
 pub series_columns : (a b : NumberedTable) → IsWhole a → IsWhole b → a.shape ≡ Series → b.shape ≡ Series → length b.columns ≡ length a.columns
 series_columns = grind arith
 
 pub frame_columns : (texts : List Text) (a b : NumberedTable) → IsWhole a → IsWhole b → same_headings (headings_value texts a.headings) (headings_value texts b.headings) ≡ true → length b.columns ≡ length a.columns
-frame_columns texts a b whole whole' same =
-    let headings =
-    sym (length-map a.headings (heading_value texts)) ∙ as_long same_heading (headings_value texts a.headings) (headings_value texts b.headings) same ∙ length-map b.headings (heading_value texts) in
-    search
+frame_columns = grind (arith, other_count)
 
 -- a Series has a cell for each column of the frame
 pub across_opposite : (texts : List Text) (f s : NumberedTable) (left : Bool) → IsWhole f → IsWhole s → s.shape ≡ Series → are_headings (labels_value texts s.labels) (headings_value texts f.headings) ≡ true → IsOpposite f (Across s left)
-across_opposite = grind (arith, length-map, are_count)
+across_opposite = grind (arith, other_rows)
 
 -- the texts of the one column of a Series
 pub series_given : (texts : List Text) (s : NumberedTable) → IsWhole s → s.shape ≡ Series → IsSettled table_value texts s → AreGiven texts (column_at s.columns 0).cells
-series_given texts s whole is settled =
+series_given _ s whole is settled =
     let one : length s.columns ≡ 1 = grind arith in
-    columns_given texts s.columns (columns_part texts s settled) 0 no_column (omega (arith, one))
+    columns_given _ _ (columns_part _ s settled) 0 no_column (omega (arith, one))
 
 pub table_given : (texts : List Text) (t : NumberedTable) → IsSettled table_value texts t → All (λ c. AreGiven texts c.cells) t.columns
 table_given = search (columns_given, columns_part)
 
 -- the name of a Series
 pub name_settled : (texts : List Text) (s : NumberedTable) (name : Option Label) → IsWhole s → s.shape ≡ Series → IsSettled table_value texts s → name ≡ slice_index_or s.headings 0 None → IsSettled heading_value texts name
-name_settled texts s name whole is settled here =
+name_settled _ s _ whole is settled here =
     let one : length s.headings ≡ 1 = grind arith in
-    heading_settled texts s.headings name 0 (headings_part texts s settled) (omega (arith, one)) here
+    heading_settled _ _ _ 0 (headings_part _ s settled) (omega (arith, one)) here
 
 pub columns_name_settled : (texts : List Text) (t : NumberedTable) (name : Option Label) → IsSettled table_value texts t → name ≡ t.columns_name → IsSettled heading_value texts name
-columns_name_settled texts t _ settled is = rw is (columns_name_part texts t settled)
+columns_name_settled _ t _ settled is = rw is (columns_name_part _ t settled)

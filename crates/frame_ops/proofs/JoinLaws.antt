@@ -1,9 +1,8 @@
 -- Rows that are joined, and the sides of two tables on them.
 use Rattle.{
-  std.{proofs.{Common.{◌≡◌, ◌<◌, ◌+◌, ℕ, suc, Bool, List, [], ◌∷◌, length, map, refl, ap, sym, arith, All, Option, Some, None, Result, Ok, Err, slice_index_or, if◌then◌else◌, below_more, get_or-set_other, get_or-set_same}, Math.ListN.{get_or-map}, lemmas.List.{length-map, Elements.{All-map}}}, specs.{Prelude.{slice_set}, List.{list_all}}},
-  cell_core.specs.{declared.cell.{Cell.{Cell, TheVariants.{Na}}, Label.{Label}}, Texts.{AreDistinct, AreGiven, IsGiven}},
-  meaning.specs.{Text.{Text}, Cell.{CellValue, na_cell, datum}, Column.{gap_cell, taken}, Symbol.{Binary}},
-  column_core.specs.Moves.{IsPlaceOf},
+  std.{proofs.{Common.{◌≡◌, ◌<◌, ◌+◌, ℕ, suc, Bool, List, [], ◌∷◌, length, refl, ap, arith, Option, None, Result, Ok, Err, slice_index_or, if◌then◌else◌, below_more, get_or-set_other, get_or-set_same}, lemmas.List.{length-map, Elements.{All-map}}}, specs.{Prelude.{slice_set}, List.{list_all}}},
+  cell_core.specs.{declared.cell.Label.{Label}, Texts.{AreDistinct}},
+  meaning.specs.{Text.{Text}, Cell.{CellValue, na_cell}, Symbol.{Binary}},
   index_core.proofs.RangeLaws.{length-range_labels},
   multi_index.specs.Axes.{AxisValue, HaveLevels, range_axis},
   row_keys.specs.Keys.{same_tuple as same_numbers},
@@ -11,7 +10,7 @@ use Rattle.{
   label_align.specs.{declared.{fault.AlignFault.{AlignFault, TheVariants.{DuplicateLabels, TooLarge, NoMemory}}, joined.Joined.{Joined}}, Answers.{AlignsBy}, Joined.{lists_seen}, Tuples.{tuple_less}},
   table_meaning.specs.{Settled.{IsSettled}, Table.{ColumnOf, NumberedTable, heading_value, tuple_value}, Valid.{IsWhole}},
   form_meaning.specs.Infix.{same_tuple, tuple_before, common_name, common_names, joined_rows, on_rows, meets, beside},
-  frame_store.specs.{Parts.{HaveRows}, Shown.{labels_value, headings_value, columns_value}},
+  frame_store.specs.Shown.{labels_value, headings_value},
   form_parts.{specs.{Faults.{align_refusal}, Makes.{MakesBy}}, proofs.RowLaws.{tuple_by_number, tuples_settled, settled_tuples}},
   frame_ops.specs.Joining.{joined_value, side_on, IsJoined},
 }
@@ -27,8 +26,8 @@ module _ (texts : List Text) (a b : List (List Label)) (distinct : AreDistinct t
 
   seen : outer same_tuple tuple_before (labels_value texts a) (labels_value texts b) ≡ answer_seen (tuple_value texts) numbers
   seen =
-      outer_seen (tuple_value texts) (IsSettled tuple_value texts) same_numbers (tuple_less texts) same_tuple tuple_before (λ x y h k. tuple_by_number texts x y distinct h k) (λ x y h k. refl) a b
-      (tuples_settled texts a given) (tuples_settled texts b given')
+      outer_seen _ _ _ _ _ _ (λ x y h k. tuple_by_number _ x y distinct h k) (λ x y h k. refl) a b
+      (tuples_settled _ a given) (tuples_settled _ b given')
 
   meant_as : (r : Result (Lists (List Label)) (AlignRefusal (List Label))) → numbers ≡ r → joined_rows (labels_value texts a) (labels_value texts b) ≡ met_rows (answer_seen (tuple_value texts) r)
   meant_as r is = cc seen
@@ -51,7 +50,7 @@ pub is_joined : (texts : List Text) (x y : AxisValue) (rows : Joined) → AreIns
 is_joined = grind arith
 
 pub joined_given : (texts : List Text) (levels m n : ℕ) (rows : Joined) → AreInside (IsKept texts levels) m n (lists_seen rows) → IsSettled labels_value texts rows.axis.tuples
-joined_given texts _ m n rows h = settled_tuples texts rows.axis.tuples (λ k d lt. (h.keyed k d lt).1)
+joined_given _ _ m n _ h = settled_tuples _ _ (λ k d lt. (h.keyed k d lt).1)
 
 -- the names of levels, one more of them
 pub one_named : (P : ℕ → Option Label → Type 0) (names names' : List (Option Label)) (level : ℕ) (name : Option Label) → names' ≡ slice_set names level name → level < length names
@@ -75,29 +74,6 @@ module _ (texts : List Text) where
   pub names_given : (names : List (Option Label)) → ((k : ℕ) → k < length names → IsSettled heading_value texts (slice_index_or names k None)) → IsSettled headings_value texts names
   names_given [] _ = λ more. refl
   names_given (n ∷ names) each = λ more j. each 0 (omega arith) more j ∷ names_given names (λ k lt. each (suc k) (omega arith)) more j
-
-  -- cells on other rows, with texts
-  cell_on : (cells : List Cell) (gap : Option ℕ) → datum texts (gap_cell Na cells gap) ≡ gap_cell na_cell (map (datum texts) cells) gap
-  cell_on _ None = refl
-  cell_on cells (Some place) = sym (get_or-map (datum texts) cells place Na)
-
-  cells_on : (cells : List Cell) (rows : List (Option ℕ)) → map (datum texts) (taken Na cells rows) ≡ taken na_cell (map (datum texts) cells) rows
-  cells_on _ [] = refl
-  cells_on cells (gap ∷ rows) = λ i. cell_on cells gap i ∷ cells_on cells rows i
-
-  pub on_rows_seen : (rows : List (Option ℕ)) (cs : List (ColumnOf Cell)) → columns_value texts (on_rows Na rows cs) ≡ on_rows na_cell rows (columns_value texts cs)
-  on_rows_seen _ [] = refl
-  on_rows_seen rows (c ∷ cs) = search (cells_on, on_rows_seen rows cs)
-
-  -- their texts were given
-  gap_given : (cells : List Cell) (gap : Option ℕ) → AreGiven texts cells → IsPlaceOf (length cells) gap → IsGiven texts (gap_cell Na cells gap)
-  gap_given = grind arith
-
-  pub on_rows_given : (count : ℕ) (rows : List (Option ℕ)) (cs : List (ColumnOf Cell)) → HaveRows count cs → All (IsPlaceOf count) rows → All (λ c. AreGiven texts c.cells) cs → All (λ c. AreGiven texts c.cells) (on_rows Na rows cs)
-  on_rows_given _ rows cs filled inside given =
-      All-map (λ c. AreGiven texts c.cells) (λ c. record { kind = c.kind; cells = taken Na c.cells rows }) cs
-      (λ k d lt. let c = slice_index_or cs k d in
-      All-map (IsGiven texts) (gap_cell Na c.cells) rows (λ j e within. grind (arith, gap_given)))
 
 -- the kinds stay on other rows
 pub kinds_on : (op : Binary) (l r : List (Option ℕ)) (as' bs : List (ColumnOf CellValue)) → list_all (meets op) (beside (on_rows na_cell l as') (on_rows na_cell r bs)) ≡ list_all (meets op) (beside as' bs)

@@ -8,9 +8,9 @@ use Rattle.{
   label_align.specs.declared.joined.Joined.{Joined},
   table_meaning.specs.{Settled.{IsSettled}, Table.{ColumnOf, NumberedTable, Table, table_value}, Valid.{IsWhole}, Value.{Entry}},
   form_meaning.specs.{Finish.{within_limits, with_columns}, Infix.{Meeting, meets, common_names, joined_rows, joined_columns, with_joined, joined_infix}},
-  frame_store.{specs.{declared.fault.OpFault.{OpFault}, Parts.{HeadingList, table_with, headings_of, axis_of, block_column}, Shown.{Makes, headings_value, labels_value, columns_value}}, proofs.Settling.{table_settled, columns_part, columns_name_part, headings_part, labels_part, level_names_part, columns_given}},
-  form_parts.{specs.Makes.{MakesBy, blocks_value, AreColumns}, proofs.TableMade.{made_is_meant, made_is_settled, refused_on}},
-  frame_ops.{specs.{declared.{naming.Naming.{Naming}, other.Other.TheVariants.{Beside}}, Joining.{joined_value, side_on}, Namings.{headings_by, named_by, IsSettledNaming}, Pairs.{all_met, kinds_meet, columns_meant, columns_for}}, proofs.{JoinLaws.{on_rows_seen, on_rows_given, kinds_on, length-beside, rows_numbered}, Meanings.{kinds_seen, table_meant}, MeetingLaws.{beside_meetings}, NamingLaws.{named_settled}}},
+  frame_store.{specs.{declared.fault.OpFault.{OpFault}, Parts.{HeadingList, table_with, axis_of, block_column}, Shown.{Makes, headings_value, labels_value, columns_value}}, proofs.Settling.{table_settled, columns_part, columns_name_part, headings_part, labels_part, level_names_part, columns_given}},
+  form_parts.{specs.Makes.{MakesBy, blocks_value, AreColumns}, proofs.{TableMade.{made_is_meant, made_is_settled, refused_on}, GapLaws.{on_rows_given, on_rows_seen}}},
+  frame_ops.{specs.{declared.{naming.Naming.{Naming}, other.Other.TheVariants.{Beside}}, Joining.{joined_value, side_on}, Namings.{headings_by, named_by, IsSettledNaming}, Pairs.{all_met, kinds_meet, columns_meant, columns_for}}, proofs.{JoinLaws.{kinds_on, length-beside, rows_numbered}, Meanings.{kinds_seen, table_meant}, MeetingLaws.{beside_meetings}, NamingLaws.{named_settled}}},
 }
 use Rattle.table_meaning.specs.Value as value
 
@@ -41,7 +41,7 @@ module _ (op : Binary) (texts : List Text) (a b : NumberedTable) (rows : Joined)
 
 -- the texts of a side were given
 pub side_given : (texts : List Text) (t l : NumberedTable) (rows : List (Option ℕ)) → l ≡ side_on t rows → IsWhole t → IsSettled table_value texts t → All (IsPlaceOf (length t.labels)) rows → All (λ c. AreGiven texts c.cells) l.columns
-side_given texts t l _ is whole settled inside = subst (λ x. All (λ c. AreGiven texts c.cells) x.columns) (sym is) (search (on_rows_given, columns_given, columns_part))
+side_given _ t _ _ is whole settled inside = rw is (search (on_rows_given, columns_given, columns_part))
 
 module _ (old new : List Text) (a b : NumberedTable) (naming : Naming) (rows : Joined) (axis : AxisValue) (headings : HeadingList) where
   abbrev v : Table
@@ -81,19 +81,19 @@ module _ (old new : List Text) (a b : NumberedTable) (naming : Naming) (rows : J
 
     pub framed_settled : IsSettled table_value old a → IsSettledNaming old naming → IsSettled labels_value old rows.axis.tuples → IsSettled headings_value old axis.names → IsSettled table_value old framed
     framed_settled settled name given names =
-        let named = named_settled old a naming settled name in
+        let named = named_settled _ a _ settled name in
         grind (arith, table_settled, columns_name_part, headings_part, columns_part)
 
     module _ (blocks : List CellBlock) (made : NumberedTable) (is : made ≡ table_with a.shape axis headings (map block_column blocks)) where
       pub joined_is_settled : IsLonger old new → IsSettled table_value old framed → AreColumns new (length rows.axis.tuples) (length a.columns) blocks → IsSettled table_value new made
-      joined_is_settled longer settled columns = rw is (made_is_settled old new framed (headings_of framed) blocks (length rows.axis.tuples) (length a.columns) longer settled columns)
+      joined_is_settled longer settled columns = rw is (made_is_settled old new framed _ _ _ _ longer settled columns)
 
       pub joined_is_meant : (op : Binary) → joined_rows v.labels w.labels ≡ Ok (joined_value old rows) → headings_value old axis.names ≡ common_names v.level_names w.level_names → IsLonger old new → IsSettled table_value old framed
           → met_meant op ≡ Ok (blocks_value new blocks) → meant op ≡ Ok (value.table (table_value new made))
       joined_is_meant op rows_are names longer settled columns =
           sym (columns_as op rows_are)
           ∙ (λ i. then_value (met_meant op) (λ columns. Ok (value.table (with_columns (framed_meant names i) columns))))
-          ∙ made_is_meant old new framed (headings_of framed) blocks (met_meant op) longer settled columns
+          ∙ made_is_meant old new framed _ _ _ longer settled columns
           ∙ ap (λ x. Ok (value.table (table_value new x))) (sym is)
 
 -- the axes of two tables

@@ -1,4 +1,3 @@
-pub mod KindLaws
 pub mod AnswerLaws
 pub mod ColumnsMade
 pub mod Meanings
@@ -12,3 +11,4 @@ pub mod WideLaws
 pub mod SpreadLaws
 pub mod AcrossLaws
 pub mod SignLaws
+pub mod Hints

@@ -1,6 +1,6 @@
 -- What columns meet, as it is meant.
 use Rattle.{
-  std.proofs.{Common.{◌≡◌, ◌∙◌, ℕ, suc, ◌+◌, ◌<◌, Bool, true, false, List, [], ◌∷◌, length, map, drop, refl, ap, sym, arith, nat_eq}, Math.Seq.{drop-cons}, lemmas.{List.{length-map}, Bool.Decides.{nat_tests}}},
+  std.proofs.{Common.{◌≡◌, ℕ, suc, ◌+◌, ◌<◌, Bool, true, false, List, [], ◌∷◌, length, map, drop, refl, arith, nat_eq}, Math.Seq.{drop-cons}, lemmas.{List.{length-map}, Bool.Decides.{nat_tests}}},
   cell_core.specs.declared.cell.{Cell.{Cell, TheVariants.{Na}}, Kind.{Kind}},
   meaning.specs.{Text.{Text}, Cell.{datum}},
   table_meaning.specs.Table.{ColumnOf, NumberedTable, column_at, column_value},
@@ -10,16 +10,11 @@ use Rattle.{
 }
 
 -- a scalar
-scalar_on_right : (texts : List Text) (c : Cell) (place : ℕ) (cs : List (ColumnOf Cell)) → meetings_value texts (pairs_from (Scalar c false) place cs) ≡ map (with_scalar (datum texts c)) (columns_value texts cs)
-scalar_on_right _ c _ [] = refl
-scalar_on_right texts c place (a ∷ as') = search (repeated_value, scalar_on_right texts c (suc place) as')
-
-scalar_turned : (texts : List Text) (c : Cell) (place : ℕ) (cs : List (ColumnOf Cell)) → meetings_value texts (pairs_from (Scalar c true) place cs) ≡ map swapped (meetings_value texts (pairs_from (Scalar c false) place cs))
-scalar_turned _ c _ [] = refl
-scalar_turned texts c place (a ∷ as') = cc (scalar_turned texts c (suc place) as')
-
-pub scalar_meetings : (texts : List Text) (c : Cell) (left : Bool) (cs : List (ColumnOf Cell)) → meetings_value texts (pairs_from (Scalar c left) 0 cs) ≡ turned left (map (with_scalar (datum texts c)) (columns_value texts cs))
-scalar_meetings = grind (arith, scalar_on_right, scalar_turned)
+pub scalar_meetings : (texts : List Text) (c : Cell) (left : Bool) (place : ℕ) (cs : List (ColumnOf Cell)) → meetings_value texts (pairs_from (Scalar c left) place cs) ≡ turned left (map (with_scalar (datum texts c)) (columns_value texts cs))
+scalar_meetings _ _ false _ [] = refl
+scalar_meetings _ _ true _ [] = refl
+scalar_meetings texts c false place (a ∷ as') = search (repeated_value, scalar_meetings texts c false (suc place) as')
+scalar_meetings texts c true place (a ∷ as') = search (repeated_value, scalar_meetings texts c true (suc place) as')
 
 -- another table
 beside_from : (texts : List Text) (t : NumberedTable) (place : ℕ) (cs : List (ColumnOf Cell)) → length cs + place ≡ length t.columns
@@ -43,9 +38,7 @@ across_from texts s place count (a ∷ as') rows same =
     let cells = (column_at s.columns 0).cells in
     let lt : place < length cells = omega arith in
     let less : length as' + suc place ≡ length cells = omega arith in
-    let later : HaveRows count as' = λ k d inside. rows (suc k) d (omega arith) in
-    (λ i. (value_of_column (column_value texts a), spread_value texts (column_at s.columns 0).kind count (length a.cells) (series_cell s place) (rows 0 a (omega arith)) i) ∷ across_from texts s (suc place) count as' later less i)
-    ∙ ap (λ l. across count (column_at s.columns 0).kind (columns_value texts (a ∷ as')) (map (datum texts) l)) (sym (drop-cons cells place Na lt))
+    cc (spread_value texts (column_at s.columns 0).kind count (length a.cells) (series_cell s place) (rows 0 a (omega arith)), across_from texts s (suc place) count as' (λ k d inside. rows (suc k) d (omega arith)) less, drop-cons cells place Na lt)
 
 across_turned : (texts : List Text) (s : NumberedTable) (place : ℕ) (cs : List (ColumnOf Cell)) → meetings_value texts (pairs_from (Across s true) place cs) ≡ map swapped (meetings_value texts (pairs_from (Across s false) place cs))
 across_turned _ s _ [] = refl
@@ -61,26 +54,15 @@ first_column _ [] = refl
 first_column _ (c ∷ cs) = refl
 
 -- levels of one number
-nat_eq_next : (m n : ℕ) → nat_eq m n ≡ nat_eq (suc m) (suc n)
-nat_eq_next = grind (arith, nat_tests)
-
-nat_eq_none : (n : ℕ) → false ≡ nat_eq (suc n) 0
-nat_eq_none = grind (arith, nat_tests)
-
-nat_eq_zero : (n : ℕ) → false ≡ nat_eq 0 (suc n)
-nat_eq_zero = grind (arith, nat_tests)
 
 count_same : {A B : Type 0} (xs : List A) (ys : List B) → same_count xs ys ≡ nat_eq (length xs) (length ys)
 count_same [] [] = refl
-count_same [] (y ∷ ys) = nat_eq_zero (length ys)
-count_same (x ∷ xs) [] = nat_eq_none (length xs)
-count_same (x ∷ xs) (y ∷ ys) = count_same xs ys ∙ nat_eq_next (length xs) (length ys)
+count_same [] (y ∷ ys) = grind (arith, nat_tests)
+count_same (x ∷ xs) [] = grind (arith, nat_tests)
+count_same (x ∷ xs) (y ∷ ys) = grind (arith, nat_tests, count_same xs ys)
 
 pub levels_same : {A B C D : Type 0} (f : A → C) (g : B → D) (xs : List A) (ys : List B) → nat_eq (length xs) (length ys) ≡ same_count (map f xs) (map g ys)
-levels_same = search (count_same, nat_eq, length-map)
-
-one_counted : {A : Type 0} (xs : List A) → has_one xs ≡ nat_eq (length xs) 1
-one_counted = grind (arith, nat_eq_zero, nat_eq_none, nat_eq_next)
+levels_same = search (count_same, length-map)
 
 pub levels_one : {A C : Type 0} (f : A → C) (xs : List A) → nat_eq (length xs) 1 ≡ has_one (map f xs)
-levels_one = search (one_counted, nat_eq, length-map)
+levels_one = grind (arith, nat_tests, length-map)

@@ -26,30 +26,25 @@ counted_by = grind arith
 pub fits_by : (t : NumberedTable) (naming : Naming) → IsWhole t → IsNaming t naming → AreHeadings t.shape (headings_by t naming).columns_name (headings_by t naming).labels
 fits_by = grind (arith, series_headings, frame_headings)
 
-whole_by : (texts : List Text) (t : NumberedTable) (naming : Naming) (blocks : List CellBlock) → IsWhole t → IsNaming t naming → AreColumns texts (length t.labels) (length t.columns) blocks
-    → IsWhole (table_with t.shape (axis_of t) (headings_by t naming) (map block_column blocks))
-whole_by = search (whole_under, counted_by, fits_by)
-
 pub named_settled : (texts : List Text) (t : NumberedTable) (naming : Naming) → IsSettled table_value texts t → IsSettledNaming texts naming → IsSettled table_value texts (named_by t naming)
-named_settled _ t Kept = search (under_settled, columns_name_part, headings_part)
+named_settled _ t Kept = search
 named_settled _ t (Name n) = search (under_settled, columns_name_part)
 named_settled _ t (ColumnsName n) = search (under_settled, headings_part)
 
 -- the table may be made
-pub whole_named : (texts : List Text) (t : NumberedTable) (naming : Naming) (h : HeadingList) (blocks : List CellBlock) → IsWhole t → IsNaming t naming → AreColumns texts (length t.labels) (length t.columns) blocks → h ≡ headings_by t naming
-    → IsWhole (table_with t.shape (axis_of t) h (map block_column blocks))
-whole_named texts t naming h blocks whole is made same = rw same (whole_by texts t naming blocks whole is made)
+pub whole_named : (texts : List Text) (t : NumberedTable) (naming : Naming) (blocks : List CellBlock) → IsWhole t → IsNaming t naming → AreColumns texts (length t.labels) (length t.columns) blocks
+    → IsWhole (table_with t.shape (axis_of t) (headings_by t naming) (map block_column blocks))
+whole_named = search (whole_under, counted_by, fits_by)
 
-module _ (old new : List Text) (t made : NumberedTable) (naming : Naming) (h : HeadingList) (blocks : List CellBlock) where
-  made_by : h ≡ headings_by t naming → made ≡ table_with t.shape (axis_of t) h (map block_column blocks) → made ≡ table_with t.shape (axis_of t) (headings_by t naming) (map block_column blocks)
-  made_by same is = cc
+module _ (old new : List Text) (t made : NumberedTable) (naming : Naming) (h : HeadingList) (blocks : List CellBlock) (longer : IsLonger old new) (settled : IsSettled table_value old t) (name : IsSettledNaming old naming)
+    (same : h ≡ headings_by t naming) (is : made ≡ table_with t.shape (axis_of t) h (map block_column blocks)) where
+  made_by : made ≡ table_with t.shape (axis_of t) (headings_by t naming) (map block_column blocks)
+  made_by = cc
 
   -- it is settled, and it is what is meant
-  pub named_is_settled : IsLonger old new → IsSettled table_value old t → IsSettledNaming old naming → AreColumns new (length t.labels) (length t.columns) blocks → h ≡ headings_by t naming
-      → made ≡ table_with t.shape (axis_of t) h (map block_column blocks) → IsSettled table_value new made
+  pub named_is_settled : AreColumns new (length t.labels) (length t.columns) blocks → IsSettled table_value new made
   named_is_settled = search (made_by, made_is_settled, named_settled)
 
-  pub named_is_meant : (meant : Result (List (ColumnOf CellValue)) FaultValue) → IsLonger old new → IsSettled table_value old t → IsSettledNaming old naming → h ≡ headings_by t naming
-      → made ≡ table_with t.shape (axis_of t) h (map block_column blocks) → meant ≡ Ok (blocks_value new blocks)
+  pub named_is_meant : (meant : Result (List (ColumnOf CellValue)) FaultValue) → meant ≡ Ok (blocks_value new blocks)
       → then_value meant (λ columns. Ok (value.table (with_columns (table_value old (named_by t naming)) columns))) ≡ Ok (value.table (table_value new made))
   named_is_meant = grind (arith, made_is_meant, named_settled, made_by)

@@ -1,14 +1,14 @@
 -- Frames under joined labels of columns.
 use Rattle.{
-  std.{proofs.{Common.{◌≡◌, ◌≢◌, ◌∙◌, ◌<◌, ◌+◌, ◌++◌, ℕ, zero, suc, pos, List, [], ◌∷◌, length, map, take, replicate, refl, ap, sym, subst, arith, add-one, All, Option, Some, None, Result, slice_index_or}, Math.ListN.{get_or-map}, lemmas.{List.{length-map, length-replicate, map-append, take_more, Elements.{All-nil, All-cons, All-head, All-tail, All-map, All-replicate}}, Option.{get_or_from_slice_get}}}, specs.Prelude.{slice_get, IsSome, IfOk, unwrap_or}},
+  std.{proofs.{Math.ListN.{get_or-map as mapped}, Common.{◌≡◌, ◌≢◌, ◌∙◌, ◌<◌, ◌+◌, ◌++◌, ℕ, zero, suc, pos, List, [], ◌∷◌, length, map, take, replicate, refl, ap, sym, arith, add-one, All, Option, Some, None, Result, slice_index_or}, lemmas.{List.{get_or-map, length-map, length-replicate, map-append, Elements.{All-nil, All-cons, All-head, All-tail, All-map, All-replicate}}, Option.{get_or_from_slice_get}}}, specs.Prelude.{slice_get, IsSome, IfOk, unwrap_or}},
   cell_core.specs.{declared.{cell.{Cell.{Cell, TheVariants.{Na}}, Label.{Label}}, grid.Shape.{Shape, TheVariants.{Frame}}}, Texts.{AreGiven, IsGiven}},
   meaning.specs.{Text.{Text}, Cell.{LabelValue, int, na_cell}},
   column_core.specs.{Blocks.{CellBlock}, Columns.{CellColumn}, Moves.{IsPlaceOf}},
   multi_index.specs.Axes.{AxisValue, HaveLevels},
-  table_meaning.specs.{Settled.{IsSettled}, Table.{ColumnOf, NumberedTable, column_at, column_value, heading_value, tuple_value, table_value, no_column}, Valid.{AreHeadings, IsWhole}},
+  table_meaning.specs.{Settled.{IsSettled}, Table.{ColumnOf, NumberedTable, column_at, column_value, table_value}, Valid.{AreHeadings, IsWhole}},
   form_meaning.specs.{Finish.{column_labels}, Infix.{tuple_heading, column_or_missing, columns_or_missing, on_columns}},
   frame_store.{specs.{Parts.{HeadingList, with_heading, block_column, table_column}, Shown.{labels_value, headings_value, columns_value}, World.{IsKnownTable}}, proofs.Settling.{settled_by, table_settled, columns_settled, columns_given, columns_name_part, level_names_part, labels_part, headings_part, columns_part}},
-  frame_ops.{specs.{Joining.{AreApart, AreSideRows}, Widening.{heading_tuple, labels_axis, headings_of_keys, widened, AreColumnKeys}}, proofs.AnswerLaws.{map-replicate}},
+  frame_ops.{specs.{Joining.{AreApart, AreSideRows}, Widening.{heading_tuple, labels_axis, headings_of_keys, widened, AreColumnKeys}}, proofs.{AnswerLaws.{map-replicate, taken_more}, HeadingLaws.{one_label, heading_at}}},
 }
 
 -- labels of columns as tuples
@@ -16,57 +16,40 @@ single : (h : Option Label) → length (heading_tuple h) ≡ 1
 single = grind arith
 
 pub tuples_alike : (hs : List (Option Label)) → HaveLevels 1 (map heading_tuple hs)
-tuples_alike hs = All-map (λ tuple. length tuple ≡ 1) heading_tuple hs (λ k d lt. single (slice_index_or hs k d))
+tuples_alike hs = All-map (λ tuple. length tuple ≡ 1) heading_tuple hs (λ k d lt. single _)
 
 abbrev label_tuple : Option LabelValue → List LabelValue
 label_tuple h = unwrap_or h (int (pos 0)) ∷ []
 
-tuple_seen : (texts : List Text) (h : Option Label) → label_tuple (heading_value texts h) ≡ tuple_value texts (heading_tuple h)
-tuple_seen = grind arith
-
 pub tuples_seen : (texts : List Text) (hs : List (Option Label)) → map label_tuple (headings_value texts hs) ≡ labels_value texts (map heading_tuple hs)
 tuples_seen _ [] = refl
-tuples_seen texts (h ∷ hs) = λ j. tuple_seen texts h j ∷ tuples_seen texts hs j
+tuples_seen texts (None ∷ hs) = cc (tuples_seen texts hs)
+tuples_seen texts (Some l ∷ hs) = cc (tuples_seen texts hs)
 
 pub labels_seen : (texts : List Text) (x : AxisValue) (t : NumberedTable) → x ≡ labels_axis t → labels_value texts x.tuples ≡ column_labels (table_value texts t)
 labels_seen = grind (arith, tuples_seen)
 
 pub labels_given : (texts : List Text) (x : AxisValue) (t : NumberedTable) → x ≡ labels_axis t → IsSettled table_value texts t → IsSettled labels_value texts x.tuples
-labels_given texts x t is settled = rw is (settled_by headings_value labels_value (map label_tuple) texts t.headings (map heading_tuple t.headings) (λ more. tuples_seen more t.headings) (headings_part texts t settled))
+labels_given _ x t is settled = rw is (settled_by headings_value labels_value (map _) _ _ _ (λ more. tuples_seen _ _) (headings_part _ t settled))
 
 -- headings that differ are tuples that differ
 tuple_apart : (g h : Option Label) → IsSome g → IsSome h → g ≢ h → heading_tuple g ≢ heading_tuple h
 tuple_apart = grind arith
 
+tuple_at : (hs : List (Option Label)) (k : ℕ) (d : List Label) → k < length hs → slice_index_or (map heading_tuple hs) k d ≡ heading_tuple (slice_index_or hs k None)
+tuple_at hs k d = get_or-map heading_tuple hs k None d
+
 pub labels_apart : (x : AxisValue) (t : NumberedTable) → x ≡ labels_axis t → IsWhole t → t.shape ≡ Frame → AreApart x.tuples
-labels_apart x t is whole frame =
-    subst (λ a. AreApart a.tuples) (sym is) (λ i j d lt inside.
-    let within : j < length t.headings = omega (arith, inside, length-map t.headings heading_tuple) in
-    let before : i < length t.headings = omega (arith, lt, within) in
-    subst (λ p. p ≢ slice_index_or (map heading_tuple t.headings) j d) (sym (at_heading t.headings i d before))
-    (grind (arith, at_heading, tuple_apart)))
-  where
-    at_heading : (hs : List (Option Label)) (k : ℕ) (d : List Label) → k < length hs → slice_index_or (map heading_tuple hs) k d ≡ heading_tuple (slice_index_or hs k None)
-    at_heading [] k d inside = grind arith
-    at_heading (h ∷ hs) zero d _ = refl
-    at_heading (h ∷ hs) (suc k) d inside = at_heading hs k d (omega (arith, inside))
+labels_apart = grind (arith, length-map, tuple_at, tuple_apart)
 
 pub if_both : {A E : Type 0} (P Q R : A → Type 0) → ((x : A) → P x → Q x → R x) → (r : Result A E) → IfOk r P → IfOk r Q → IfOk r R
 if_both P Q R = grind arith
 
 -- the headings of keys, one more of them
-first_label : (tuple : List Label) (l : Label) → slice_get tuple 0 ≡ Some l → tuple_heading tuple ≡ Some l
-first_label = grind arith
 
 pub one_more_key : (name : Option Label) (keys : List (List Label)) (place : ℕ) (tuple : List Label) (l : Label) (h h' : HeadingList) → place < length keys → h ≡ headings_of_keys name (take place keys)
     → slice_get keys place ≡ Some tuple → slice_get tuple 0 ≡ Some l → h' ≡ with_heading h (Some l) → h' ≡ headings_of_keys name (take (place + 1) keys)
-one_more_key _ keys place _ l h _ lt before at first pushed =
-    let here : tuple_heading (slice_index_or keys place []) ≡ Some l = grind (arith, get_or_from_slice_get, first_label) in
-    let all : map tuple_heading (take (place + 1) keys) ≡ map tuple_heading (take place keys) ++ Some l ∷ [] = cc (take_more keys place [] lt, map-append tuple_heading (take place keys) (slice_index_or keys place [] ∷ [])) in
-    search
-
-pub no_keys : (name : Option Label) (keys : List (List Label)) → headings_of_keys name (take 0 keys) ≡ record { columns_name = name; labels = [] }
-no_keys _ _ = refl
+one_more_key _ keys place _ _ _ _ lt before at first pushed = grind (arith, get_or_from_slice_get, taken_more tuple_heading keys place [] lt)
 
 -- columns at places, or missing
 module _ (na : Cell) (count : ℕ) (own other : List (ColumnOf Cell)) where
@@ -80,21 +63,22 @@ module _ (na : Cell) (count : ℕ) (own other : List (ColumnOf Cell)) where
 pub length-wide : {C : Type 0} (na : C) (count : ℕ) (own other : List (ColumnOf C)) (ps os : List (Option ℕ)) → length os ≡ length ps → length (columns_or_missing na count own other ps os) ≡ length ps
 length-wide _ _ _ _ [] _ _ = refl
 length-wide _ _ _ _ (p ∷ ps) [] same = search
-length-wide na count own other (p ∷ ps) (o ∷ os) same = ap suc (length-wide na count own other ps os (omega (arith, same)))
+length-wide na _ _ _ (p ∷ ps) (o ∷ os) same = ap suc (length-wide na _ _ _ ps os (omega (arith, same)))
 
-all_wide : (P : ColumnOf Cell → Type 0) (count : ℕ) (own other : List (ColumnOf Cell)) → ((p o : Option ℕ) → IsPlaceOf (length own) p → P (column_or_missing Na count own other p o)) → (ps os : List (Option ℕ)) → All (IsPlaceOf (length own)) ps → All P (columns_or_missing Na count own other ps os)
-all_wide P _ _ _ _ [] _ _ = All-nil P
-all_wide P _ _ _ _ (p ∷ ps) [] _ = All-nil P
-all_wide P count own other each (p ∷ ps) (o ∷ os) all =
-    All-cons P (column_or_missing Na count own other p o) (columns_or_missing Na count own other ps os) (each p o (All-head (IsPlaceOf (length own)) p ps all)) (all_wide P count own other each ps os (All-tail (IsPlaceOf (length own)) p ps all))
+module _ (P : ColumnOf Cell → Type 0) (count : ℕ) (own other : List (ColumnOf Cell)) (each : (p o : Option ℕ) → IsPlaceOf (length own) p → P (column_or_missing Na count own other p o)) where
+  all_wide : (ps os : List (Option ℕ)) → All (IsPlaceOf (length own)) ps → All P (columns_or_missing Na count own other ps os)
+  all_wide [] _ _ = All-nil P
+  all_wide (p ∷ ps) [] _ = All-nil P
+  all_wide (p ∷ ps) (o ∷ os) all =
+      All-cons P _ (columns_or_missing Na count own other ps os) (each p o (All-head (IsPlaceOf (length own)) p ps all)) (all_wide ps os (All-tail (IsPlaceOf (length own)) p ps all))
 
 -- with texts
 module _ (texts : List Text) (count : ℕ) (own other : List (ColumnOf Cell)) where
   column_seen : (cs : List (ColumnOf Cell)) (p : ℕ) → column_value texts (column_at cs p) ≡ column_at (columns_value texts cs) p
-  column_seen cs p = sym (get_or-map (column_value texts) cs p no_column)
+  column_seen cs p = sym (mapped (column_value texts) cs p _)
 
   wide_column_seen : (p o : Option ℕ) → column_value texts (column_or_missing Na count own other p o) ≡ column_or_missing na_cell count (columns_value texts own) (columns_value texts other) p o
-  wide_column_seen (Some p) o = column_seen own p
+  wide_column_seen (Some p) o = column_seen _ p
   wide_column_seen None (Some o) = grind (arith, column_seen, map-replicate)
   wide_column_seen None None = search map-replicate
 
@@ -103,35 +87,21 @@ module _ (texts : List Text) (count : ℕ) (own other : List (ColumnOf Cell)) wh
   wide_seen (p ∷ ps) [] = refl
   wide_seen (p ∷ ps) (o ∷ os) = λ i. wide_column_seen p o i ∷ wide_seen ps os i
 
-key_seen : (texts : List Text) (tuple : List Label) → heading_value texts (tuple_heading tuple) ≡ tuple_heading (tuple_value texts tuple)
-key_seen = grind arith
-
 pub keys_seen : (texts : List Text) (keys : List (List Label)) → headings_value texts (map tuple_heading keys) ≡ map tuple_heading (labels_value texts keys)
 keys_seen _ [] = refl
-keys_seen texts (k ∷ keys) = λ i. key_seen texts k i ∷ keys_seen texts keys i
+keys_seen texts ([] ∷ keys) = cc (keys_seen texts keys)
+keys_seen texts ((l ∷ ls) ∷ keys) = cc (keys_seen texts keys)
 
 module _ (own other : NumberedTable) (keys : List (List Label)) (places opposites : List (Option ℕ)) where
   pub widened_seen : (texts : List Text) → table_value texts (widened own other keys places opposites) ≡ on_columns (table_value texts own) (table_value texts other) (labels_value texts keys) places opposites
   widened_seen = search (wide_seen, length-map, keys_seen)
 
   -- it is whole
-  heading_some : (tuple : List Label) → length tuple ≡ 1 → IsSome (tuple_heading tuple)
-  heading_some = grind arith
-
   heading_apart : (s t : List Label) → length s ≡ 1 → length t ≡ 1 → s ≢ t → tuple_heading s ≢ tuple_heading t
-  heading_apart [] t = grind arith
-  heading_apart (l ∷ m ∷ ls) t = grind arith
-  heading_apart (l ∷ []) [] = grind arith
-  heading_apart (l ∷ []) (k ∷ m ∷ ms) = grind arith
-  heading_apart (l ∷ []) (k ∷ []) = grind arith
-
-  at_key : (ks : List (List Label)) (k : ℕ) (d : Option Label) → k < length ks → slice_index_or (map tuple_heading ks) k d ≡ tuple_heading (slice_index_or ks k [])
-  at_key [] k d inside = grind arith
-  at_key (t ∷ ks) zero d _ = refl
-  at_key (t ∷ ks) (suc k) d inside = at_key ks k d (omega (arith, inside))
+  heading_apart s t one one' = grind (arith, one_label s one, one_label t one')
 
   keys_head : (shape : Shape) → shape ≡ Frame → (name : Option Label) → AreColumnKeys keys → AreHeadings shape name (map tuple_heading keys)
-  keys_head = grind (arith, single, heading_some, length-map, at_key, heading_apart)
+  keys_head = grind (arith, single, one_label, length-map, heading_at, heading_apart)
 
   pub widened_whole : IsWhole own → own.shape ≡ Frame → AreColumnKeys keys → length places ≡ length keys → length opposites ≡ length places → All (IsPlaceOf (length own.columns)) places → IsWhole (widened own other keys places opposites)
   widened_whole whole frame are many many' inside = record {
@@ -147,9 +117,9 @@ module _ (own other : NumberedTable) (keys : List (List Label)) (places opposite
 
   pub widened_given : (texts : List Text) → IsSettled table_value texts own → IsSettled labels_value texts keys → All (IsPlaceOf (length own.columns)) places → IsSettled table_value texts (widened own other keys places opposites)
   widened_given texts settled given inside =
-      table_settled texts (widened own other keys places opposites) (columns_name_part texts own settled) (level_names_part texts own settled) (labels_part texts own settled)
+      table_settled _ _ (columns_name_part _ _ settled) (level_names_part _ _ settled) (labels_part _ _ settled)
       (grind (arith, settled_by, keys_seen))
-      (columns_settled texts (columns_or_missing Na (length own.labels) own.columns other.columns places opposites) (all_wide (λ c. AreGiven texts c.cells) (length own.labels) own.columns other.columns column_given places opposites inside))
+      (columns_settled _ _ (all_wide (λ c. AreGiven texts c.cells) _ _ _ column_given places _ inside))
     where
       missing_given : (n : ℕ) → AreGiven texts (replicate n Na)
       missing_given n = All-replicate (IsGiven texts) n Na tt
@@ -165,10 +135,10 @@ side_places = grind (arith, length-map)
 
 pub known_wide : (texts : List Text) (own other : NumberedTable) (keys : List (List Label)) (places opposites : List (Option ℕ)) → IsKnownTable texts own → own.shape ≡ Frame → AreColumnKeys keys → IsSettled labels_value texts keys
     → AreSideRows (length keys) (labels_axis own) places → AreSideRows (length keys) (labels_axis other) opposites → IsKnownTable texts (widened own other keys places opposites)
-known_wide _ own other keys places opposites known frame are given side side' =
-    let inside = side_places own (length keys) places known.whole side in
+known_wide _ own other _ _ _ known frame are given side side' =
+    let inside = side_places _ _ _ known.whole side in
     record {
-      whole = widened_whole own other keys places opposites known.whole frame are side.count_is (side'.count_is ∙ sym side.count_is) inside;
+      whole = widened_whole own other _ _ _ known.whole frame are side.count_is (side'.count_is ∙ sym side.count_is) inside;
       given = search widened_given;
     }
 

@@ -105,6 +105,7 @@ fn columns_met(
 /// `WrongKind` where it doesn't take the kinds of all, then `BadValue(Levels)` where the rows of the
 /// two sides have levels of different numbers, then `Limit`, and last `ZeroDivide`. `NoMemory` may
 /// come in place of any answer.
+#[tactic(auto, using(crate::proofs::Hints::infix_columns))]
 pub(crate) fn infix_columns(
     alloc: Global,
     dict: &mut TextDict,

@@ -27,6 +27,7 @@ pub(crate) fn same_headings(dict: &TextDict, a: &ObjRef<'_>, b: &ObjRef<'_>) -> 
 }
 
 /// Whether the labels of a Series' rows, of one level, are the labels of a frame's columns, in their order.
+#[tactic(auto, using(crate::proofs::Hints::are_headings))]
 pub(crate) fn are_headings(dict: &TextDict, series: &ObjRef<'_>, frame: &ObjRef<'_>) -> bool
     requires series { IsKnownTable dict.now series.now }
     requires frame { IsKnownTable dict.now frame.now }

@@ -31,6 +31,7 @@ use multi_index::Axis;
 use std::alloc::Global;
 
 /// The rows of two axes by the labels that either has. `Limit` where they are too many.
+#[tactic(auto, using(crate::proofs::JoinLaws::rows_meant, crate::proofs::JoinLaws::rows_refused))]
 pub(crate) fn joined_rows(
     alloc: Global,
     dict: &TextDict,
@@ -58,6 +59,7 @@ pub(crate) fn joined_rows(
 }
 
 // Names the levels of joined rows: a level's name stays where both sides have it.
+#[tactic(auto, using(crate::proofs::JoinLaws::all_named))]
 fn name_levels(dict: &TextDict, a: &Axis, b: &Axis, axis: &mut Axis)
     requires levels { length a.now.names ≡ length b.now.names }
     requires count { length axis.old.names ≡ length a.now.names }
@@ -74,6 +76,7 @@ fn name_levels(dict: &TextDict, a: &Axis, b: &Axis, axis: &mut Axis)
 }
 
 // A side on joined rows, which are numbered.
+#[tactic(auto, using(crate::proofs::JoinLaws::side_is_whole))]
 fn side_on(alloc: Global, on: &ObjRef<'_>, rows: &Gaps) -> Result<Table, NoMemory>
     requires whole { IsWhole on.now }
     requires few { length rows.now ≤ 2 ^ 26 }
@@ -88,6 +91,7 @@ fn side_on(alloc: Global, on: &ObjRef<'_>, rows: &Gaps) -> Result<Table, NoMemor
 
 // What the operator makes of the columns of two tables on the joined rows. `Limit` before a row is made, then
 // `ZeroDivide`.
+#[tactic(auto, using(crate::proofs::Hints::joined_columns))]
 fn joined_columns(
     alloc: Global,
     dict: &mut TextDict,
@@ -121,6 +125,7 @@ fn joined_columns(
 /// Two tables whose columns meet in order, and whose rows are joined: each row meets each row of its label, or none.
 ///
 /// `Limit` before a row is made, then `ZeroDivide`. `NoMemory` may come in place of any answer.
+#[tactic(auto, using(crate::proofs::Hints::joined_infix))]
 pub(crate) fn joined_infix(
     alloc: Global,
     dict: &mut TextDict,

@@ -25,6 +25,7 @@ use std::alloc::Global;
 
 /// Whether each column under a label that a Series has is of the Series' kind. Texts are told apart by their numbers.
 /// `NoMemory` is the only refusal.
+#[tactic(auto, using(crate::proofs::Hints::labels_fit))]
 pub(crate) fn labels_fit(
     alloc: Global,
     frame: &ObjRef<'_>,
@@ -80,6 +81,7 @@ fn spread_headings(
 }
 
 // A column for each of these cells, which stands in so many rows.
+#[tactic(auto, using(crate::proofs::Hints::spread_columns))]
 fn spread_columns(alloc: Global, cells: ColRef<'_>, rows: usize) -> Result<Blocks, NoMemory>
     ensures single { IfOk result (All IsSingle) }
     ensures columns { IfOk result (λ made. columns_of made
@@ -97,6 +99,7 @@ fn spread_columns(alloc: Global, cells: ColRef<'_>, rows: usize) -> Result<Block
 ///
 /// `BadValue(Repeated)` of the first label that stands again at a later row, then `Limit` before a column is made.
 /// `NoMemory` may come in place of any answer.
+#[tactic(auto, using(crate::proofs::Hints::spread_frame))]
 pub(crate) fn spread_frame(
     alloc: Global,
     dict: &TextDict,

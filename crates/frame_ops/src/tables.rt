@@ -84,6 +84,7 @@ pub(crate) fn scalar_infix(
 }
 
 // Tests what tables of other labels must have: columns that the operator takes, and as many levels. None are compared.
+#[tactic(auto, using(crate::proofs::Hints::expect_joined))]
 fn expect_joined(op: Binary, a: &ObjRef<'_>, b: &ObjRef<'_>) -> Result<(), OpFault>
     requires { length b.now.columns ≡ length a.now.columns }
     ensures fit { OnOk result (MayJoin (operator_of op) a.now b.now) }
@@ -214,6 +215,7 @@ fn unequal_columns(
 }
 
 // Two frames by the labels of columns that either has.
+#[tactic(auto, using(crate::proofs::Hints::wide_infix))]
 fn wide_infix(
     alloc: Global,
     dict: &mut TextDict,

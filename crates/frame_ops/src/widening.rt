@@ -47,6 +47,7 @@ pub(crate) fn heading_tuples(alloc: Global, on: &ObjRef<'_>) -> Result<Tuples, N
 }
 
 // The labels of the columns as an axis.
+#[tactic(auto, using(crate::proofs::WideLaws::tuples_alike))]
 fn labels_axis(alloc: Global, dict: &TextDict, on: &ObjRef<'_>) -> Result<Axis, NoMemory>
     requires { length on.now.headings ≡ length on.now.columns }
     ensures { IfOk result (λ axis. axis ≡ labels_axis on.now) }
@@ -56,6 +57,7 @@ fn labels_axis(alloc: Global, dict: &TextDict, on: &ObjRef<'_>) -> Result<Axis, 
 }
 
 /// The columns of two frames by the labels that either has. `Limit` where they are too many.
+#[tactic(auto, using(crate::proofs::WideLaws::labels_given, crate::proofs::WideLaws::labels_seen))]
 pub(crate) fn joined_labels(
     alloc: Global,
     dict: &TextDict,
@@ -116,6 +118,7 @@ fn column_or_missing(
 }
 
 // The columns at these places of a side, where those of the other stand opposite.
+#[tactic(auto, using(crate::proofs::WideLaws::wide_step, form_parts::proofs::GapLaws::single_on))]
 fn columns_or_missing(
     alloc: Global,
     own: &ObjRef<'_>,

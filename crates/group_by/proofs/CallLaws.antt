@@ -15,11 +15,11 @@ kind_summed = grind arith
 
 pub cumsum_answer : (texts : List (List ℕ)) (groups groups' : GroupsValue) (a made : CellColumn) → groups' ≡ groups → eq-value.it a.kind string ≡ false
     → AreNumbers made (λ ts. tabulate (length groups'.codes) (running_cell groups'.codes (map (datum ts) a.cells))) → cumsum_groups groups (column_value texts a) ≡ Ok (column_value texts made)
-cumsum_answer texts groups groups' a made same other are =
+cumsum_answer texts groups _ a _ same other are =
     let whole = λ (gr : GroupsValue). tabulate (length gr.codes) (running_cell gr.codes (map (datum texts) a.cells)) in
-    ap (λ b. cond b (Ok record { kind = Int64; cells = whole groups }) (Err kind_mismatch)) (kind_summed a.kind other)
+    ap (λ b. cond b (Ok record { kind = Int64; cells = whole groups }) (Err kind_mismatch)) (kind_summed _ other)
     ∙ (λ i. Ok record { kind = Int64; cells = whole (sym same i) })
-    ∙ ap Ok (sym (numbers_value made (λ ts. tabulate (length groups'.codes) (running_cell groups'.codes (map (datum ts) a.cells))) are texts))
+    ∙ ap Ok (sym (numbers_value _ _ are texts))
 
 pub transform_answer : (op : GroupReduction) (texts : List (List ℕ)) (groups : GroupsValue) (a made : CellColumn) → group_takes op a.kind ≡ true → made.kind ≡ group_kind op a.kind
     → map (datum texts) made.cells ≡ map (gap_cell na_cell (reduced_cells op groups (map (datum texts) a.cells))) groups.codes → transform_groups op groups (column_value texts a) ≡ Ok (column_value texts made)
@@ -38,4 +38,4 @@ gap_given : (texts : List (List ℕ)) (cells : List Cell) → AreGiven texts cel
 gap_given = grind (arith, cases_lt, get_or_past)
 
 pub taken_given : (texts : List (List ℕ)) (cells : List Cell) (gaps : List (Option ℕ)) → AreGiven texts cells → AreGiven texts (taken Na cells gaps)
-taken_given texts cells gaps given = All-map (IsGiven texts) (gap_cell Na cells) gaps (λ k d lt. gap_given texts cells given (slice_index_or gaps k d))
+taken_given texts cells gaps given = All-map (IsGiven texts) (gap_cell Na cells) gaps (λ k d lt. gap_given _ _ given (slice_index_or gaps k d))

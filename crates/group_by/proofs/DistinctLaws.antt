@@ -39,10 +39,10 @@ cells_apart : (texts : List (List ℕ)) → AreDistinct texts → (x y : Cell) �
 cells_apart = grind (arith, false≢true, numbers_apart, truths_apart, texts_apart)
 
 member_laws : IsEquivalence same_member
-member_laws = and_equiv (on_equiv (λ (p : ℕ × Cell). p.0) nat_eq_equiv) (on_equiv (λ (p : ℕ × Cell). p.1) laws-law)
+member_laws = and_equiv (on_equiv _ nat_eq_equiv) (on_equiv (λ (p : ℕ × Cell). p.1) laws-law)
 
 member_more : (seen : List (ℕ × Cell)) (k q : ℕ × Cell) → list_any (same_member q) (insert_key same_member seen k) ≡ (list_any (same_member q) seen || (same_member q k || false))
-member_more seen k q = covers_more same_member member_laws k seen seen (λ p. refl) q ∙ list_any-append (same_member q) seen (k ∷ [])
+member_more seen k q = covers_more _ member_laws k _ _ (λ p. refl) q ∙ list_any-append _ seen _
 
 or_false : (b : Bool) → (b || false) ≡ b
 or_false = grind arith
@@ -76,14 +76,14 @@ module _ (texts : List (List ℕ)) (apart : AreDistinct texts) (codes : List (Op
     seen_in : (group g : ℕ) (c : Cell) → code ≡ Some group → is_missing cell ≡ false → IsGiven texts c → is_missing c ≡ false
         → list_any (same_member (g, c)) (insert_key same_member seen (group, cell)) ≡ list_any (same_cell (datum texts c)) (so_far (row + 1) g)
     seen_in group g c is there hc pc =
-        member_more seen (group, cell) (g, c)
+        member_more seen _ (g, c)
         ∙ ap (λ b. b || (((g == group) && same_by_number c cell) || false)) (were g c hc pc)
         ∙ (elim (g == group) as (λ b. (g == group) ≡ b → (list_any (same_cell (datum texts c)) (so_far row g) || ((b && same_by_number c cell) || false)) ≡ list_any (same_cell (datum texts c)) (so_far (row + 1) g)) [
           | true ↦ λ e.
               let mine : code ≡ Some g = grind (arith, eqb-true) in
               ap (λ b. list_any (same_cell (datum texts c)) (so_far row g) || (b || false)) (sym (cells_apart texts apart c cell hc given pc there))
               ∙ sym (cc (one_more g mine there, list_any-append (same_cell (datum texts c)) (so_far row g) (datum texts cell ∷ [])))
-          | false ↦ λ e. or_false (list_any (same_cell (datum texts c)) (so_far row g)) ∙ ap (list_any (same_cell (datum texts c))) (sym (same_so_far g (ap (is_in g) is ∙ e)))
+          | false ↦ λ e. or_false _ ∙ ap (list_any (same_cell (datum texts c))) (sym (same_so_far g (ap (is_in g) is ∙ e)))
         ] refl)
 
     by_group : (g : ℕ) (o : Option ℕ) → code ≡ o → is_missing cell ≡ true → so_far (row + 1) g ≡ so_far row g
@@ -96,7 +96,7 @@ module _ (texts : List (List ℕ)) (apart : AreDistinct texts) (codes : List (Op
     pub seen_more : (o : Option ℕ) → code ≡ o → AreSeen (noted seen o cell) (row + 1)
     seen_more None is g c hc pc = grind (arith, same_so_far)
     seen_more (Some group) is g c hc pc = elim (is_missing cell) as (λ b. is_missing cell ≡ b → list_any (same_member (g, c)) (cond b seen (insert_key same_member seen (group, cell))) ≡ list_any (same_cell (datum texts c)) (so_far (row + 1) g)) [
-      | true ↦ λ missing. were g c hc pc ∙ ap (list_any (same_cell (datum texts c))) (sym (by_group g (Some group) is missing))
+      | true ↦ λ missing. were g c hc pc ∙ ap (list_any (same_cell (datum texts c))) (sym (by_group g _ is missing))
       | false ↦ search seen_in
     ] refl
 
@@ -115,7 +115,7 @@ module _ (texts : List (List ℕ)) (apart : AreDistinct texts) (codes : List (Op
     count_more None is g = grind (arith, same_so_far)
     count_more (Some group) is g = elim (is_missing cell) as (λ b. is_missing cell ≡ b → length (distinct same_cell (so_far (row + 1) g)) ≡ length (distinct same_cell (so_far row g)) + cond (is_in g (cond b None (cond (list_any (same_member (group, cell)) seen) None (Some group)))) 1 0) [
       | true ↦ λ missing.
-          ap (λ l. length (distinct same_cell l)) (by_group g (Some group) is missing)
+          ap (λ l. length (distinct same_cell l)) (by_group g _ is missing)
           ∙ (let zero' : length (distinct same_cell (so_far row g)) ≡ length (distinct same_cell (so_far row g)) + 0 = omega arith in zero')
       | false ↦ search counted_in
     ] refl

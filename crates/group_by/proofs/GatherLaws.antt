@@ -4,7 +4,7 @@ use Rattle.{
   cell_core.specs.declared.cell.{Cell.{Cell, TheVariants.{Na}}, Kind.{Kind}},
   meaning.specs.{Cell.{CellValue, na_cell, int_cell, datum, holds, AreGiven}, Reduce.{is_present, present}},
   column_core.specs.Columns.{CellColumn},
-  group_meaning.specs.{Rows.{GroupsValue, cells_of_group}, Reductions.{GroupReduction, group_cell, reduced_cells}},
+  group_meaning.specs.{Rows.{GroupsValue}, Reductions.{GroupReduction, group_cell, reduced_cells}},
   group_by.specs.{Cells.{IsCellOf}, Gathered.{if_present, plus, total_of, total_cell, TakesIn, HaveGathered}},
 }
 
@@ -28,8 +28,8 @@ takes_at = grind (arith, length-set, get_or-set_same, get_or-set_other, eqb-fals
 -- what was gathered of each group, as the cells of a column
 pub gathered_cells : (op : GroupReduction) (texts : List (List ℕ)) (groups : GroupsValue) (cells : List CellValue) (gathered : List Cell) → length gathered ≡ groups.count → HaveGathered op texts groups.codes groups.count cells gathered
     → map (datum texts) gathered ≡ reduced_cells op groups cells
-gathered_cells op texts groups cells gathered size have =
-    fill_by_all (λ group. group_cell op (cells_of_group group groups.codes cells)) (map (datum texts) gathered) groups.count na_cell (length-map gathered (datum texts) ∙ size)
+gathered_cells _ texts _ _ gathered size have =
+    fill_by_all _ (map (datum texts) gathered) _ _ (length-map gathered _ ∙ size)
     (λ k lt. get_or-map (datum texts) gathered k Na na_cell (omega (arith, size, lt)) ∙ have k lt)
 
 pub column_given : (texts : List (List ℕ)) (kind : Kind) (cells : List Cell) (column : CellColumn) → column ≡ record { kind = kind; cells = cells } → All (IsCellOf texts kind) cells → AreGiven texts column.cells

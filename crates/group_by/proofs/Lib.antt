@@ -3,3 +3,4 @@ pub mod GatherLaws
 pub mod NumberLaws
 pub mod DistinctLaws
 pub mod CallLaws
+pub mod Hints

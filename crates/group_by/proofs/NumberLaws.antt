@@ -51,7 +51,7 @@ rows_few group row codes le = omega (arith, few_rows (is_in group) 0 (take row c
 length_more : (codes : List (Option ℕ)) (row : ℕ) (inside : row < length codes) (g : ℕ) → length (rows_of_group g (take (row + 1) codes)) ≡ length (rows_of_group g (take row codes)) + cond (is_in g (slice_index_or codes row None)) 1 0
 length_more codes row inside g = elim (is_in g (slice_index_or codes row None)) as (λ b. is_in g (slice_index_or codes row None) ≡ b → length (rows_of_group g (take (row + 1) codes)) ≡ length (rows_of_group g (take row codes)) + cond b 1 0) [
   | true ↦ search (rows_more, is_in_some, length-append)
-  | false ↦ λ h. ap length (rows_same codes row inside g h) ∙ (let e : length (rows_of_group g (take row codes)) ≡ length (rows_of_group g (take row codes)) + 0 = omega arith in e)
+  | false ↦ λ h. ap length (rows_same _ _ inside g h) ∙ (let e : length (rows_of_group g (take row codes)) ≡ length (rows_of_group g (take row codes)) + 0 = omega arith in e)
 ] refl
 
 pub rows_counted : (codes : List (Option ℕ)) (row count : ℕ) (code : Option ℕ) (before after : List ℕ) → row < length codes → slice_index_or codes row None ≡ code → IsCounted code before after → length before ≡ count

@@ -47,6 +47,7 @@ fn count_rows(counts: &mut [usize], groups: &Groups)
 }
 
 // How many rows each group has.
+#[tactic(auto, using(crate::proofs::Hints::places))]
 pub(crate) fn sizes(alloc: Global, groups: &Groups) -> Result<Column, NoMemory>
     ensures { IfOk result (λ c. AreNumbers c (λ texts. (group_sizes groups.now).cells)) }
 {
@@ -84,6 +85,7 @@ fn place_rows(alloc: Global, counts: &mut [usize], groups: &Groups) -> Result<Co
 }
 
 // The place of each row in its group, counted from 0; NA where it has none.
+#[tactic(auto, using(crate::proofs::Hints::places))]
 pub(crate) fn places(alloc: Global, groups: &Groups) -> Result<Column, NoMemory>
     ensures { IfOk result (λ c. AreNumbers c (λ texts. (group_places groups.now).cells)) }
 {

@@ -17,6 +17,7 @@ use std::alloc::Global;
 
 // Notes a cell of a group, and answers the group in which it is a new one. A cell that is missing or has no group
 // isn't noted.
+#[tactic(auto, using(crate::proofs::Hints::note))]
 fn note(
     seen: &mut IndexSet<(usize, Cell)>,
     group: Option<usize>,
@@ -47,6 +48,7 @@ fn note_member(
 
 // Counts the different cells of each group, where none is counted yet. The cells of all groups are told apart in one
 // set.
+#[tactic(auto, using(crate::proofs::DistinctLaws::new_below, std::proofs::lemmas::List::take_all))]
 fn count_distinct(
     alloc: Global,
     dict: &TextDict,
@@ -72,6 +74,7 @@ fn count_distinct(
 }
 
 // How many different cells are present in each group: NA isn't counted.
+#[tactic(auto, using(crate::proofs::Hints::places))]
 pub(crate) fn distinct_counts(
     alloc: Global,
     dict: &TextDict,

@@ -50,6 +50,7 @@ pub fn group_reduce<C: RowGroups>(
 ///
 /// `KindMismatch` exactly where the cells are texts and their sum is asked for. `NoMemory` may come in place of any
 /// answer.
+#[tactic(auto, using(crate::proofs::Hints::group_transform))]
 pub fn group_transform<C: RowGroups>(
     alloc: Global,
     dict: &TextDict,

@@ -62,6 +62,7 @@ fn gather_rows<G: Gather>(
 }
 
 // What is gathered of the cells of each group, as a column of the kind. It is one pass over the rows.
+#[tactic(auto, using(crate::proofs::Hints::gathered))]
 pub(crate) fn gathered<G: Gather>(
     alloc: Global,
     dict: &TextDict,

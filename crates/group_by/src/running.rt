@@ -46,6 +46,7 @@ fn sum_of(sums: &[Cell], group: Option<usize>, cell: Cell) -> Cell
 }
 
 // The sum of each row's group up to the row, where nothing is added yet.
+#[tactic(auto, using(crate::proofs::NumberLaws::no_numbers))]
 fn sum_rows(
     alloc: Global,
     sums: &mut [Cell],
@@ -69,6 +70,7 @@ fn sum_rows(
 }
 
 // The sum of each row's group up to the row; NA where the row's cell is missing or the row has no group.
+#[tactic(auto, using(crate::proofs::Hints::places))]
 pub(crate) fn running_sums(
     alloc: Global,
     groups: &Groups,

@@ -5,7 +5,7 @@ use Rattle.{
   meaning.specs.{Text.{Text}, Cell.{CellValue, datum, AreGiven}, Column.{ColumnValue, ColumnFault, kind_mismatch}, Fault.{FaultValue, wrong_kind, then_value}},
   column_core.specs.{Blocks.{CellBlock}, Columns.{CellColumn}},
   table_meaning.specs.{Settled.{IsSettled}, Table.{ColumnOf, NumberedTable, Table, column_at, no_column, table_value, column_value}},
-  form_meaning.specs.Finish.{value_of_column, column_of_value, made_column},
+  form_meaning.specs.Finish.{value_of_column, made_column},
   group_meaning.specs.Rows.{GroupsValue},
   method_meaning.specs.Groups.{each_of},
   form_parts.specs.Makes.{blocks_value},
@@ -53,8 +53,8 @@ each_is texts call g t places b is = cc (each_meant call g (table_value texts t)
 pub all_taken : (call : ColumnCall) (t : NumberedTable) (places : List ℕ) → AreColumnsOf t places → list_all (takes_at call t) places ≡ true → AreTaken call t places
 all_taken _ t [] below is = grind arith
 all_taken call t (p ∷ ps) below is =
-    let both = both_true (takes_at call t p) (list_all (takes_at call t) ps) is in
-    All-cons (λ place. (place < length t.columns) × (takes_at call t place ≡ true)) p ps (All-head (λ place. place < length t.columns) p ps below, both.0) (all_taken call t ps (All-tail (λ place. place < length t.columns) p ps below) both.1)
+    let both = both_true _ _ is in
+    All-cons (λ place. (place < length t.columns) × (takes_at call t place ≡ true)) p ps (All-head (λ place. place < length t.columns) p ps below, both.0) (all_taken _ t ps (All-tail (λ place. place < length t.columns) p ps below) both.1)
   where
     both_true : (a b : Bool) → a && b ≡ true → (a ≡ true) × (b ≡ true)
     both_true true b e = (refl, e)
@@ -67,11 +67,8 @@ the_answer r = r
 ok_same : (a b : ColumnValue) → the_answer (Ok a) ≡ the_answer (Ok b) → a ≡ b
 ok_same a b e = cc
 
-pub made_taken : (call : ColumnCall) (g : GroupsValue) (a : ColumnValue) → takes call a.kind ≡ true → made_of call g a ≡ Ok (value_of_column (column_made call g (column_of_value a)))
-made_taken = grind arith
-
 pub never_mismatch : (texts : List Text) (call : ColumnCall) (g : GroupsValue) (a : ColumnValue) (r : Result CellColumn GroupFault) → takes call a.kind ≡ true → Answers texts r (made_of call g a) → r ≢ Err KindMismatch
-never_mismatch = grind (arith, made_taken)
+never_mismatch = grind arith
 
 -- how many cells it has
 pub made_count : (call : ColumnCall) (g : GroupsValue) (c : ColumnOf CellValue) → length (column_made call g c).cells ≡ rows_made call g
@@ -113,15 +110,15 @@ module _ (made : Result CellColumn GroupFault) where
 
   module _ {E : Type 0} (texts : List Text) (call : ColumnCall) (g : GroupsValue) (a : CellColumn) (e : takes call a.kind ≡ true) (answers : Answers texts made (made_of call g (kernel.column_value texts a))) where
     pub column_by : (r : Result CellColumn E) → IfOk r (λ c. made ≡ Ok c) → IfOk r (λ c. column_value texts (table_column c) ≡ column_made call g (column_value texts (table_column a)))
-    column_by = grind (arith, ok_same, made_taken)
+    column_by = grind (arith, ok_same)
 
     pub count_by : (r : Result CellColumn E) → IfOk r (λ c. made ≡ Ok c) → IfOk r (λ c. length c.cells ≡ rows_made call g)
-    count_by (Ok c) is = count_is texts call g a c (grind (arith, ok_same, made_taken))
+    count_by (Ok c) is = count_is texts _ g a c (grind (arith, ok_same))
     count_by (Err f) _ = tt
 
 -- a column of the table
 pub place_given : (texts : List Text) (t : NumberedTable) (place : ℕ) (c : CellColumn) → IsSettled table_value texts t → place < length t.columns → column_at t.columns place ≡ table_column c → AreGiven texts c.cells
-place_given texts t place c settled lt here = rw here at (columns_given texts t.columns (columns_part texts t settled) place no_column lt)
+place_given _ t place c settled lt here = rw here at (columns_given _ _ (columns_part _ t settled) place no_column lt)
 
 pub place_seen : (texts : List Text) (call : ColumnCall) (g : GroupsValue) (t : NumberedTable) (place : ℕ) (a c : CellColumn) → column_at t.columns place ≡ table_column a → column_value texts (table_column c) ≡ column_made call g (column_value texts (table_column a))
     → column_value texts (table_column c) ≡ made_at call g (table_value texts t) place

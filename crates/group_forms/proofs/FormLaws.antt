@@ -22,7 +22,7 @@ seen_before w texts id t at longer settled = cc (seen_later table_value w.texts 
 
 -- want of memory after texts were added
 pub no_memory_forms : (w : World) (texts : List Text) (r : Result Value OpFault) (meant : Result Entry FaultValue) → r ≡ Err NoMemory → IsLonger w.texts texts → IsSettledWorld w → Forms r meant w (record { tables = w.tables; texts = texts })
-no_memory_forms w texts r meant is longer settled = rw is (seen_later shown w.texts texts w.tables longer settled, longer, settled_later shown w.texts texts w.tables longer settled)
+no_memory_forms w _ r meant is longer settled = rw is (seen_later shown _ _ _ longer settled, longer, search settled_later)
 
 -- a refusal on the way
 abbrev refused : {X : Type 0} → OpFault → Result X OpFault
@@ -45,7 +45,7 @@ cells_are : (texts : List Text) (items : List Item) (cells : List Cell) → Some
 cells_are = search some_if
 
 pub listed_settled : (texts : List Text) (items : List Item) (cells : List Cell) → ((live : Tables) (ts : List Text) → Some (cells_value ts cells) ≡ scalars_in (items_of live ts items)) → IsSettled scalars texts items → IsSettled cells_value texts cells
-listed_settled texts items cells is settled = λ more. cells_are (texts ++ more) items cells (is no_tables (texts ++ more)) ∙ settled more ∙ sym (cells_are texts items cells (is no_tables texts))
+listed_settled texts items _ is settled = λ more. cells_are _ items _ (is _ (texts ++ more)) ∙ settled more ∙ sym (cells_are _ items _ (is _ texts))
 
 pub items_known : (w : World) (a : Argument) (items : List Item) → ((live : Tables) (ts : List Text) → Some (items_of live ts items) ≡ list_in (argument_of live ts a)) → IsKnownArgument w a → IsSettled scalars w.texts items
 items_known = grind (arith, scalars_are, some_same)
@@ -66,9 +66,6 @@ module _ (t : Table) (by gs : List NamedGiven) (brackets : Option Given) (name :
   after_grouping g = then_value (values_in t g.keys brackets) (after_values g)
 
   module _ (g : meant.Grouping) (grouped : grouping_of t by ≡ Ok g) where
-    pub frame_grouped : after_grouping g ≡ grouped_frame t by brackets name gs
-    frame_grouped = search
-
     module _ (v : meant.Values) (valued : values_in t g.keys brackets ≡ Ok v) where
       pub frame_called : (call : meant.GroupCall) → group_call_of name gs ≡ Ok call → group_answer t g v call ≡ grouped_frame t by brackets name gs
-      frame_called = grind (arith, frame_grouped)
+      frame_called = grind arith

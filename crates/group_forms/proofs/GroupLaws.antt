@@ -15,7 +15,7 @@ use Rattle.{
   form_parts.{specs.Makes.{blocks_value}, proofs.LabelLaws.{default_seen}},
   frame_store.{specs.{Parts.{table_column, AreColumnsOf}, Shown.{headings_value, labels_value, Refuses}}, proofs.Settling.{columns_name_part}},
   selections.specs.Selected.{headings_at},
-  group_forms.{specs.{declared.{columns.ColumnCall.TheVariants.{Reduced}, grouping.Grouping.{Grouping}, values.Values.{Values}}, Columns.{takes_at, made_at, AreTaken, AreBlocks}, Grouped.{grouping_seen, values_seen, AreValues}, Tables.{HasHeadings, IsAxis, group_labels, group_names, group_headings, group_keys}}, proofs.{ColumnLaws.{if_taken, each_is, boxed, one_more_block, one_more_value}, KeyLaws.{key_labels_settled}, ShownLaws.{IsMade}, RowLaws.{headings_are, own_settled, labels_counted}}},
+  group_forms.{specs.{declared.{columns.ColumnCall.TheVariants.{Reduced}, grouping.Grouping.{Grouping}, values.Values.{Values}}, Columns.{takes_at, made_at, AreTaken, AreBlocks}, Grouped.{grouping_seen, values_seen}, Tables.{HasHeadings, IsAxis, group_labels, group_names, group_headings, group_keys}}, proofs.{ColumnLaws.{if_taken, each_is, boxed, one_more_block, one_more_value}, KeyLaws.{key_labels_settled}, ShownLaws.{IsMade}, RowLaws.{headings_are, own_settled}}},
 }
 use Rattle.column_core.specs.Columns as kernel
 use Rattle.method_meaning.specs.Groups as meant
@@ -63,7 +63,7 @@ module _ (texts : List Text) (t : NumberedTable) (g : Grouping) where
   T = table_value texts t
 
   pub group_headings_seen : (own : List (Option Label)) → headings_by g.as_index T g.keys (headings_value texts own) ≡ headings_value texts (group_headings t g own)
-  group_headings_seen own = by g.as_index
+  group_headings_seen own = by _
     where
       by : (b : Bool) → headings_by b T g.keys (headings_value texts own) ≡ headings_value texts ((if b then [] else headings_at t g.keys) ++ own)
       by true = refl
@@ -93,17 +93,17 @@ module _ (texts : List Text) (t : NumberedTable) (g : Grouping) (v : Values) (op
   reduced_refused is = search reduced_meant
 
   pub reduced_shown : list_all (takes_at (Reduced op) t) v.places ≡ true → group_answer U gs (values_seen texts v) (meant.reduced (reduction_of op)) ≡ shown_as false (v.single && g.as_index) (group_table U gs (headings_of U v.places) reduced_columns)
-  reduced_shown is = reduced_meant true is ∙ grouped_is U gs v.single (headings_of U v.places) reduced_columns
+  reduced_shown is = reduced_meant _ is ∙ grouped_is U gs _ _ _
 
   pub reduced_headings : (own labels : List (Option Label)) (count : ℕ) → own ≡ headings_at t v.places → labels ≡ group_headings t g own → count ≡ length (keys_of U gs) → HasHeadings texts labels count (group_table U gs (headings_of U v.places) reduced_columns)
   reduced_headings own _ _ owned is counted = record {
     headings = cc (headings_are texts t v.places own owned, group_headings_seen texts t g own);
-    headed = group_headings_counted texts t g own reduced_columns (grind (arith, length-map)) ∙ ap (λ l. length l) (sym is);
+    headed = group_headings_counted _ t g own _ (grind (arith, length-map)) ∙ ap (λ l. length l) (sym is);
     rows = rows_counted U gs ∙ sym counted;
   }
 
 pub group_labelled : (t : NumberedTable) (g : Grouping) (own : List (Option Label)) → IsWhole t → t.shape ≡ Frame → AreColumnsOf t g.keys → All IsSome own → All IsSome (group_headings t g own)
-group_labelled t g own whole frame below some = by g.as_index
+group_labelled t g own whole frame below some = by _
   where
     by : (b : Bool) → All IsSome ((if b then [] else headings_at t g.keys) ++ own)
     by true = some
@@ -111,10 +111,6 @@ group_labelled t g own whole frame below some = by g.as_index
 
 both : (a b : Bool) → (a && b) ≡ true → (a ≡ true) × (b ≡ true)
 both = grind arith
-
-pub reduced_one : (t : NumberedTable) (g : Grouping) (v : Values) (own labels : List (Option Label)) → AreValues t v → own ≡ headings_at t v.places → labels ≡ group_headings t g own → (v.single && g.as_index) ≡ true → length labels ≡ 1
-reduced_one t g v own _ values owned is single =
-    grind (arith, labels_counted t v.places own owned, values.one (both v.single g.as_index single).0)
 
 module _ (texts : List Text) (t : NumberedTable) (g : Grouping) (v : Values) (heading : Option Label) (named : heading_value texts heading ≡ meant.size_heading g.as_index) where
   abbrev S : Table
@@ -136,21 +132,18 @@ module _ (texts : List Text) (t : NumberedTable) (g : Grouping) (v : Values) (he
     rows = rows_counted S s ∙ sym counted;
   }
 
-  pub sizes_labelled : (labels : List (Option Label)) → labels ≡ group_headings t g (heading ∷ []) → IsWhole t → t.shape ≡ Frame → AreColumnsOf t g.keys → g.as_index ≡ false → All IsSome labels
-  sizes_labelled = grind (arith, group_labelled)
-
 -- the table that is made of groups
 pub group_made : (texts : List Text) (t : NumberedTable) (g : Grouping) (hs : List (Option LabelValue)) (columns : List (ColumnOf CellValue)) (axis : AxisValue) (name : Option Label) (labels : List (Option Label)) (blocks : List CellBlock) (rows : ℕ)
     → IsSettled table_value texts t → name ≡ t.columns_name → IsAxis texts (group_labels (table_value texts t) (grouping_seen texts g)) (group_names (table_value texts t) (grouping_seen texts g)) axis
     → headings_by g.as_index (table_value texts t) g.keys hs ≡ headings_value texts labels → IsSettled headings_value texts labels → blocks_value texts blocks ≡ group_keys (table_value texts t) (grouping_seen texts g) ++ columns → AreBlocks texts rows blocks
     → IsMade texts (group_table (table_value texts t) (grouping_seen texts g) hs columns) axis name labels blocks
-group_made texts t g _ columns _ _ _ _ _ settled named axis_is headed given made filled = record {
+group_made _ t g _ columns _ _ _ _ _ settled named axis_is headed given made filled = record {
   frame = refl;
   named = cc;
   axis_is = axis_is;
   headings = headed;
   columns = made;
-  name_given = rw named (columns_name_part texts t settled);
+  name_given = rw named (columns_name_part _ t settled);
   labels_given = given;
   blocks_given = filled.given;
 }
@@ -207,12 +200,9 @@ module _ (texts : List Text) (t : NumberedTable) (g : Grouping) (axis : AxisValu
   pub numbers_axis : (count : ℕ) → g.as_index ≡ false → count ≡ length (keys_of A (grouping_seen texts g)) → axis ≡ range_axis count → IsAxis texts (group_labels A (grouping_seen texts g)) (group_names A (grouping_seen texts g)) axis
   numbers_axis = grind (arith, default_seen)
 
-pub keys_some : (t : Table) (g : meant.Grouping) → g.as_index ≡ false → group_keys t g ≡ map (key_column t g) g.keys
-keys_some t g is = cc
-
 pub first_taken : (t : NumberedTable) (places : List ℕ) → AreColumnsOf t places → AreTaken (Reduced First) t places
 first_taken = search
 
 pub keys_are_made : (texts : List Text) (t : NumberedTable) (g : Grouping) (groups : GroupsValue) (before made : List CellBlock) → g.as_index ≡ false → groups ≡ groups_of (table_value texts t) (grouping_seen texts g) → before ≡ []
     → blocks_value texts made ≡ blocks_value texts before ++ map (made_at (Reduced First) groups (table_value texts t)) g.keys → blocks_value texts made ≡ group_keys (table_value texts t) (grouping_seen texts g)
-keys_are_made = grind (arith, keys_some)
+keys_are_made = grind arith

@@ -29,7 +29,7 @@ module _ (texts : List Text) (t : NumberedTable) (g : Grouping) (distinct : AreD
   K = numbered_keys t g.keys
 
   rows_settled : All (IsSettled tuple_value texts) K
-  rows_settled = tuples_settled texts K (settled_by table_value labels_value (λ v. meant.row_keys v g.keys) texts t K (λ ts. sym (tuples_seen ts t g.keys)) settled)
+  rows_settled = tuples_settled _ K (settled_by table_value labels_value (λ v. meant.row_keys v g.keys) _ t K (λ ts. sym (tuples_seen ts t _)) settled)
 
   seen : meant.row_keys T g.keys ≡ map (tuple_value texts) K
   seen = search tuples_seen
@@ -59,14 +59,11 @@ module _ (texts : List Text) (t : NumberedTable) (g : Grouping) (distinct : AreD
   -- the same, where the keys are those of the rows
   module _ (keys : List (List Label)) (same : keys ≡ K) where
     pub groups_by : (groups : GroupsValue) → groups.count ≡ length (group_keys (seen_rules texts) g.sorted g.dropna keys) → groups.codes ≡ group_codes (seen_rules texts) g.sorted g.dropna keys → groups ≡ meant.groups_of T (grouping_seen texts g)
-    groups_by groups counted coded =
-        groups_are groups (search) (coded ∙ ap (group_codes (seen_rules texts) g.sorted g.dropna) same)
-
-    pub inside_by : (firsts : List ℕ) → firsts ≡ map (place_among same_tuple keys) (group_keys (seen_rules texts) g.sorted g.dropna keys) → AreRowsOf t firsts
-    inside_by firsts is = firsts_inside firsts (search)
+    groups_by _ counted coded =
+        groups_are _ (search) (coded ∙ ap (group_codes (seen_rules texts) g.sorted g.dropna) same)
 
     pub labels_by : (firsts : List ℕ) → firsts ≡ map (place_among same_tuple keys) (group_keys (seen_rules texts) g.sorted g.dropna keys) → labels_value texts (map (row_labels t g.keys) firsts) ≡ meant.keys_of T (grouping_seen texts g)
-    labels_by firsts is = labels_are firsts (search)
+    labels_by _ is = labels_are _ (search)
 
     -- and of what was found, if memory sufficed
     pub groups_found : {E : Type 0} (r : Result KeyGroups E) → IfOk r (λ found. found.groups.count ≡ length (group_keys (seen_rules texts) g.sorted g.dropna keys)) → IfOk r (λ found. found.groups.codes ≡ group_codes (seen_rules texts) g.sorted g.dropna keys)
@@ -75,7 +72,7 @@ module _ (texts : List Text) (t : NumberedTable) (g : Grouping) (distinct : AreD
     groups_found (Err e) _ _ = tt
 
     pub rows_found : {E : Type 0} (r : Result KeyGroups E) → IfOk r (λ found. found.firsts ≡ map (place_among same_tuple keys) (group_keys (seen_rules texts) g.sorted g.dropna keys)) → IfOk r (λ found. AreRowsOf t found.firsts)
-    rows_found = grind (arith, inside_by)
+    rows_found = grind (arith, firsts_inside)
 
     pub labels_found : {E : Type 0} (r : Result KeyGroups E) → IfOk r (λ found. found.firsts ≡ map (place_among same_tuple keys) (group_keys (seen_rules texts) g.sorted g.dropna keys))
         → IfOk r (λ found. labels_value texts (map (row_labels t g.keys) found.firsts) ≡ meant.keys_of T (grouping_seen texts g))
@@ -90,10 +87,10 @@ if_both P Q R = grind arith
 
 -- one more of what is made of places
 one_more_of : {X : Type 0} (f : ℕ → X) (places : List ℕ) (k place : ℕ) (x : X) (made made' : List X) → k < length places → slice_get places k ≡ Some place → x ≡ f place → made' ≡ made ++ x ∷ [] → made ≡ map f (take k places) → made' ≡ map f (take (k + 1) places)
-one_more_of f places k place x _ _ lt at is pushed so_far =
+one_more_of f places k _ x _ _ lt at is pushed so_far =
     pushed
     ∙ (λ i. so_far i ++ is i ∷ [])
-    ∙ ap (λ p. map f (take k places) ++ f p ∷ []) (sym (get_or_from_slice_get places k place 0 at))
+    ∙ ap (λ p. map f (take k places) ++ f p ∷ []) (sym (get_or_from_slice_get _ k _ 0 at))
     ∙ sym (ap (map f) (take_more places k 0 lt) ∙ map-append f (take k places) (slice_index_or places k 0 ∷ []))
 
 -- one tuple more
@@ -108,7 +105,7 @@ all_of = grind (arith, take_all)
 -- the texts of keys were given
 pub key_labels_settled : (texts : List Text) (t : NumberedTable) (keys rows : List ℕ) → IsSettled table_value texts t → IsSettled labels_value texts (map (row_labels t keys) rows)
 key_labels_settled _ t _ [] _ = λ more. refl
-key_labels_settled texts t keys (r ∷ rs) settled = λ more i. row_settled keys more i ∷ key_labels_settled texts t keys rs settled more i
+key_labels_settled texts t keys (r ∷ rs) settled = λ more i. row_settled keys more i ∷ key_labels_settled _ t keys rs settled more i
   where
     cell_seen : (ts : List Text) (place : ℕ) → label_datum ts (label_of (cell_across t r place)) ≡ cell_label (slice_index_or (column_at (table_value ts t).columns place).cells r na_cell)
     cell_seen ts place = grind (arith, get_or-map (datum ts) (column_at t.columns place).cells r cell.Na, column_seen ts t.columns place)
@@ -116,5 +113,5 @@ key_labels_settled texts t keys (r ∷ rs) settled = λ more i. row_settled keys
     row_settled : (keys : List ℕ) → IsSettled tuple_value texts (row_labels t keys r)
     row_settled [] = λ more. refl
     row_settled (p ∷ ps) = λ more i.
-        (cell_seen (texts ++ more) p ∙ ap (λ v. cell_label (slice_index_or (column_at v.columns p).cells r na_cell)) (settled more) ∙ sym (cell_seen texts p)) i
+        (cell_seen _ p ∙ ap (λ v. cell_label (slice_index_or (column_at v.columns p).cells r na_cell)) (settled more) ∙ sym (cell_seen _ p)) i
         ∷ row_settled ps more i

@@ -6,3 +6,4 @@ pub mod GroupLaws
 pub mod CallLaws
 pub mod KindLaws
 pub mod FormLaws
+pub mod Hints

@@ -61,9 +61,6 @@ module _ (texts : List Text) (t : NumberedTable) (g : Grouping) (v : Values) (ca
 pub no_blocks : (texts : List Text) (rows : ℕ) → AreBlocks texts rows []
 no_blocks = grind arith
 
-pub blocks_begin : (texts : List Text) (rows : ℕ) (blocks : List CellBlock) → blocks ≡ [] → AreBlocks texts rows blocks
-blocks_begin = grind (arith, no_blocks)
-
 -- how many cells a call by rows makes
 pub rows_by_row : (call : ColumnCall) (g : GroupsValue) → IsByRow call → rows_made call g ≡ length g.codes
 rows_by_row = grind arith
@@ -80,12 +77,9 @@ module _ (texts : List Text) (t : NumberedTable) (g : Grouping) where
   abbrev pub counts_table : Table
   counts_table = record (table_value texts t) { headings = None ∷ []; columns = column_of_value (group_places C) ∷ [] }
 
-  pub counts_headings : (rows : ℕ) → rows ≡ length t.labels → HasHeadings texts (None ∷ []) rows counts_table
-  counts_headings = grind (arith, length-map)
-
   module _ (groups : GroupsValue) (is : groups ≡ C) (c : CellColumn) (block : CellBlock) (before blocks : List CellBlock) (none : before ≡ []) (box : block ≡ boxed c) (pushed : blocks ≡ before ++ block ∷ []) (placed : kernel.column_value texts c ≡ group_places groups) where
     pub counts_boxed : AreGiven texts c.cells → AreBlocks texts (length t.labels) blocks
-    counts_boxed = grind (arith, length-map, length-map-range_with_len, one_more_block, blocks_begin)
+    counts_boxed = grind (arith, length-map, length-map-range_with_len, one_more_block, no_blocks)
 
     pub counts_seen : blocks_value texts blocks ≡ column_of_value (group_places C) ∷ []
     counts_seen = grind (arith, one_more_value)

@@ -1,6 +1,6 @@
 -- New tables, and what is tested before they are made.
 use Rattle.{
-  std.proofs.{Common.{◌≡◌, ◌∙◌, refl, ap, sym, subst, arith, ℕ, ◌^◌, ◌≤◌, Bool, true, false, List, map, length, All, Option, Some, None, Result, Ok, Err, if◌then◌else◌}, lemmas.Bool.Decides.{nat_tests}},
+  std.proofs.{Common.{◌≡◌, ◌∙◌, refl, ap, sym, subst, arith, ℕ, ◌^◌, ◌≤◌, Bool, true, false, List, map, length, All, Option, None, Result, Ok, Err, if◌then◌else◌}, lemmas.Bool.Decides.{nat_tests}},
   cell_core.specs.{Texts.{AreDistinct}, declared.{code.Code.TheVariants.{Limit}, cell.Label.{Label}, grid.Shape.TheVariants.{Frame}}},
   meaning.specs.{Text.{Text}, Cell.{AreGiven}, Fault.{FaultValue, limit, then_value}, FaultOf.{fault_of}},
   column_core.specs.Blocks.{CellBlock},
@@ -23,9 +23,6 @@ limited_beyond : (t : Table) (rows columns : ℕ) → length t.labels ≡ rows �
 limited_beyond t _ _ counted headed beyond = search
 
 module _ (texts : List Text) (labels : List (Option Label)) (rows : ℕ) (t : Table) (h : HasHeadings texts labels rows t) where
-  pub series_beyond : length labels ≡ 1 → within_limits rows 1 ≡ false → MayShow {X = HeadingList} texts (Err (Refused Limit)) true t
-  series_beyond = grind (arith, limited_beyond)
-
   -- a frame
   module _ (distinct : AreDistinct texts) (settled : IsSettled headings_value texts labels) where
     again : (found : Option Label) → repeated_heading labels ≡ found → finished t ≡ unless_repeated (heading_value texts found) (limited t)
@@ -38,7 +35,7 @@ module _ (texts : List Text) (labels : List (Option Label)) (rows : ℕ) (t : Ta
     frame_beyond = grind (arith, again, limited_beyond)
 
     pub frame_repeated : (why : OpFault) → NamesRepeated why (repeated_heading labels) → MayShow {X = HeadingList} texts (Err why) false t
-    frame_repeated (Refused code) named = (again (Some named.0) named.1 ∙ ap (λ c. Err (fault_of texts c)) (sym named.2), search repeated_settled)
+    frame_repeated (Refused code) named = (again _ named.1 ∙ ap (λ c. Err (fault_of texts c)) (sym named.2), search repeated_settled)
     frame_repeated NoMemory _ = tt
 
 -- the table that was made is the one that is meant
@@ -70,7 +67,7 @@ pub made_is : (texts : List Text) (single : Bool) (t : Table) (meant : Result En
 made_is texts single t _ axis name labels blocks _ made m is shows headed tabled =
     let whole : made ≡ made_table single axis name labels blocks = cc in (
       grind (arith, made_value),
-      subst (IsSettled table_value texts) (sym whole) (made_settled texts single t axis name labels blocks m),
+      subst (IsSettled table_value texts) (sym whole) (made_settled _ _ t _ _ _ _ m),
     )
 
 -- why no table is made

@@ -59,6 +59,7 @@ fn headings_beside(
 }
 
 // The axis of groups of which these are the first rows: their keys, or numbers.
+#[tactic(auto, using(crate::proofs::Hints::group_axis))]
 fn group_axis(
     alloc: Global,
     dict: &TextDict,
@@ -85,6 +86,7 @@ fn group_axis(
 }
 
 // The columns of the keys, where they are columns.
+#[tactic(auto, using(crate::proofs::KeyLaws::codes_counted))]
 fn key_blocks(
     alloc: Global,
     dict: &TextDict,
@@ -118,6 +120,7 @@ fn is_single(grouping: &Grouping, values: &Values) -> bool
 }
 
 // A row for each group, with what a reduction makes of columns.
+#[tactic(auto, using(crate::proofs::Hints::reduced))]
 pub(crate) fn reduced(
     alloc: Global,
     dict: &TextDict,
@@ -153,6 +156,7 @@ pub(crate) fn reduced(
 }
 
 // A row for each group, with the number of its rows under this heading.
+#[tactic(auto, using(crate::proofs::GroupLaws::group_labelled))]
 pub(crate) fn sizes(
     alloc: Global,
     dict: &TextDict,

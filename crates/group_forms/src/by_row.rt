@@ -21,6 +21,7 @@ use selections::headings_at;
 use std::alloc::Global;
 
 // The rows as they are, with what a call makes of columns.
+#[tactic(auto, using(crate::proofs::Hints::along_rows))]
 pub(crate) fn along_rows(
     alloc: Global,
     dict: &TextDict,

@@ -37,6 +37,7 @@ fn series_headings(
 }
 
 // The headings of a new frame of so many rows. Labels that stand again are refused, and what is beyond the limits.
+#[tactic(auto, using(crate::proofs::Hints::frame_headings))]
 fn frame_headings(
     alloc: Global,
     dict: &TextDict,

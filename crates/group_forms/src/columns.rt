@@ -58,6 +58,7 @@ fn made_column(
 }
 
 // These blocks, and one for what a call makes of each of these columns, whose kinds it takes.
+#[tactic(auto, using(std::proofs::lemmas::Option::get_or_from_slice_get))]
 pub(crate) fn more_columns(
     alloc: Global,
     dict: &TextDict,

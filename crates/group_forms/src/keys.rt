@@ -66,6 +66,7 @@ fn key_tuples(
 }
 
 // The axis of the keys of these rows, whose levels have the names of the key columns.
+#[tactic(auto, using(label_methods::proofs::IndexingLaws::rows_alike))]
 pub(crate) fn key_axis(
     alloc: Global,
     dict: &TextDict,

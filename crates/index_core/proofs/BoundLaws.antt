@@ -1,7 +1,7 @@
 -- The place of a bound that must stand once.
 use Rattle.{
   std.{proofs.{Common.{arith, ◌≡◌, ℕ, ◌+◌, ◌<◌, ◌≤◌, Bool, true, false, List, [], ◌∷◌, length, take, drop, slice_index_or, Option, Some, None, Err}, lemmas.List.{take-append-drop, take_all}}, specs.Option.{option_to_list, is_some}},
-  pick_meaning.{specs.{Faults.{bound_not_unique}, Rows.{rows_where}, Slices.{one_row}}, proofs.RowLaws.{rows_where-append, rows_more_yes, rows_more_no}},
+  pick_meaning.{specs.{Faults.{bound_not_unique}, Rows.{rows_where}, Slices.{one_row}}, proofs.RowLaws.{rows_where-append, rows_more_yes}},
 }
 
 module _ {X : Type 0} (p : X → Bool) (xs : List X) where
@@ -11,9 +11,6 @@ module _ {X : Type 0} (p : X → Bool) (xs : List X) where
 
   pub first_time : (k : ℕ) (d : X) (found : Option ℕ) → k < length xs → IsSoFar found k → is_some found ≡ false → p (slice_index_or xs k d) ≡ true → IsSoFar (Some k) (k + 1)
   first_time = grind (arith, rows_more_yes)
-
-  pub passed_by : (k : ℕ) (d : X) (found : Option ℕ) → k < length xs → IsSoFar found k → p (slice_index_or xs k d) ≡ false → IsSoFar found (k + 1)
-  passed_by k d found lt before fails = rows_more_no p xs k d (option_to_list found) lt before fails
 
   -- a second row
   pub second_time : (k : ℕ) (d bound : X) (found : Option ℕ) → k < length xs → IsSoFar found k → is_some found ≡ true → p (slice_index_or xs k d) ≡ true

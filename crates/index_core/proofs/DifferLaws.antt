@@ -36,7 +36,7 @@ later_twice same (suc p) (x ∷ xs) e = grind (arith, later_twice same p xs e)
 pub stands_twice : (labels keys : List Label) (p : ℕ) (d : Label) → p < length labels → AreKeys keys (drop (p + 1) labels) → not (list_any (same_number (slice_index_or labels p d)) keys) ≡ false
     → all_differ same_number labels ≡ false
 stands_twice labels _ p d lt so_far again =
-    later_twice same_number p labels (grind (arith, drop_more))
+    later_twice _ p labels (grind (arith, drop_more))
 
 -- the numbers of a range differ
 later_numbers : (k a n : ℕ) → k < a → list_any (same_number (number_label k)) (map number_label (range_with_len a n)) ≡ false

@@ -28,7 +28,7 @@ module _ {X : Type 0} (p : X → Bool) (xs : List X) where
 
   go_place : (ys : List X) (k row : ℕ) (d : X) → drop k xs ≡ ys → position_from p k ys ≡ Some row → (k ≤ row) × (row < length xs) × (p (slice_index_or xs row d) ≡ true)
   go_place [] k _ d e found = cc
-  go_place (y ∷ ys) k row d e found = pick (p y) refl found (go_place ys (k + 1) row d (behind xs ys y k e))
+  go_place (y ∷ ys) k row d e found = pick _ refl found (go_place ys _ _ d (behind xs ys y k e))
     where
       inside : k < length xs
       inside = let count = ap length e in omega (arith, length-drop k xs, count)
@@ -43,7 +43,7 @@ module _ {X : Type 0} (p : X → Bool) (xs : List X) where
       pick false test is later = grind arith
 
   pub place_found : (k row : ℕ) (d : X) → position_from p k (drop k xs) ≡ Some row → (k ≤ row) × (row < length xs) × (p (slice_index_or xs row d) ≡ true)
-  place_found k row d found = go_place (drop k xs) k row d refl found
+  place_found k _ d found = go_place _ k _ d refl found
 
 same_swapped : (a b : Label) → same_number a b ≡ same_number b a
 same_swapped = grind (arith, same_from_decides)
@@ -85,7 +85,7 @@ fewer_left labels label row (Some later) lt is =
 -- the row that is read next
 pub linked_to : (labels : List Label) (label : Label) (next : List (Option ℕ)) (row : ℕ) (read : Option ℕ) → HaveNextRows next labels 0 → HasLabel labels label (Some row) → read ≡ slice_index_or next row None
     → read ≡ position_from (same_number label) (row + 1) (drop (row + 1) labels)
-linked_to labels label _ row _ links has is = is ∙ links.at row label (omega arith) has.0 ∙ next_like labels label row label (has.1 label)
+linked_to _ label _ row _ links has is = is ∙ links.at row label (omega arith) has.0 ∙ next_like _ _ row _ (has.1 label)
 
 -- one row is pushed
 pub pushed_row : (labels : List Label) (label : Label) (row : ℕ) (later : Option ℕ) (rows rows' all : List ℕ) → later ≡ position_from (same_number label) (row + 1) (drop (row + 1) labels)

@@ -1,6 +1,6 @@
 -- The places of a range: by the number of a label, and by the numbers of two bounds.
 use Rattle.{
-  std.{proofs.{Common.{◌≡◌, ◌∙◌, ap, sym, refl, arith, rules, ℕ, zero, suc, ◌+◌, ◌-◌, ◌<◌, ◌≤◌, ℤ, pos, negsuc, Bool, true, false, not, cond, List, [], ◌∷◌, length, slice_index_or, Some, min, nat_lt, map}, lemmas.{Bool.Decides.{nat_tests}, List.FromFn.{get_or-map-range_with_len}}}, specs.{Prelude.{unsigned_abs, int_lt as lt_z}, Bool.{Decides}, List.{range_with_len}, Ordering.{is_lt, is_gt, int_cmp}, declared.cmp.Ordering.TheVariants.{Less, Equal, Greater}}},
+  std.{proofs.{Common.{◌≡◌, ◌∙◌, ap, sym, refl, arith, rules, ℕ, zero, suc, ◌+◌, ◌-◌, ◌<◌, ◌≤◌, ℤ, pos, negsuc, Bool, true, false, not, cond, List, [], ◌∷◌, length, slice_index_or, Some, min, nat_lt, map}, lemmas.{Bool.Decides.{nat_tests}, List.FromFn.{get_or-map-range_with_len}}}, specs.{Prelude.{unsigned_abs, int_lt as lt_z}, Bool.{Decides}, List.{range_with_len}, Ordering.{is_lt}, declared.cmp.Ordering.TheVariants.{Less, Equal, Greater}}},
   cell_core.specs.{declared.cell.Label.{Label}, Grids.{place_from}},
   meaning.specs.Text.{Text},
   pick_meaning.{specs.{Rows.{rows_where, rows_of, rows_between}, Slices.{goes_on_in_order, is_in_order, reaches, stays_within}}, proofs.RowLaws.{rows_in_interval}},
@@ -25,8 +25,8 @@ inside n = omega (arith, length-range_labels n)
 pub nowhere : (n : ℕ) (l : Label) → ((k : ℕ) → k < n → same_number l (number_label k) ≡ false) → [] ≡ rows_where (same_number l) 0 (range_labels n)
 nowhere n l none =
     sym (
-    rows_in_interval (same_number l) label.Na 0 0 0 (range_labels n) (omega arith) (λ k lt in'. absurd (omega arith)) (λ k le lt. absurd (omega arith))
-    (λ k le lt. ap (same_number l) (number_at n k label.Na (inside n k lt)) ∙ none k (inside n k lt))
+    rows_in_interval (same_number l) label.Na 0 0 0 _ (omega arith) (λ k lt in'. absurd (omega arith)) (λ k le lt. absurd (omega arith))
+    (λ k le lt. cc (number_at n k label.Na (inside n k lt), none k (inside n k lt)))
     )
 
 pub same_pos : (m k : ℕ) → label.Int (pos m) ≡ number_label k → m ≡ k
@@ -38,10 +38,10 @@ number_there n m lt =
     let count : m + 1 - m ≡ 1 = omega arith in
     let start : 0 + m ≡ m = omega arith in
     sym (
-    rows_in_interval (same_number (label.Int (pos m))) label.Na 0 m (m + 1) (range_labels n) (omega (arith, length-range_labels n))
-    (λ k less in'. ap (same_number (label.Int (pos m))) (number_at n k label.Na (inside n k in')) ∙ not_same (same_number (label.Int (pos m)) (number_label k)) (search label_decides) (λ e. let eq : m ≡ k = same_pos m k e in omega arith))
-    (λ k le less. let eq : m ≡ k = omega arith in ap (same_number (label.Int (pos m))) (number_at n k label.Na (omega arith)) ∙ (label_decides (label.Int (pos m)) (number_label k)).1 (ap (λ z. label.Int (pos z)) eq))
-    (λ k le in'. ap (same_number (label.Int (pos m))) (number_at n k label.Na (inside n k in')) ∙ not_same (same_number (label.Int (pos m)) (number_label k)) (search label_decides) (λ e. let eq : m ≡ k = same_pos m k e in omega arith))
+    rows_in_interval _ label.Na 0 m _ (range_labels n) (omega (arith, length-range_labels n))
+    (λ k less in'. grind (arith, number_at, inside, not_same, label_decides, same_pos))
+    (λ k le less. grind (arith, number_at, label_decides))
+    (λ k le in'. cc (number_at n k label.Na (inside n k in'), not_same (same_number (label.Int (pos m)) (number_label k)) (search label_decides) (λ e. let eq : m ≡ k = same_pos m k e in omega arith)))
     ∙ ap (range_with_len (0 + m)) count
     ∙ ap (λ a. range_with_len a 1) start
     )
@@ -49,12 +49,6 @@ number_there n m lt =
 -- the order of numbers
 lt_of : (a b : Bool) → is_lt (cond a Less (cond b Greater Equal)) ≡ a
 lt_of = grind arith
-
-pub lt_numbers : (k m : ℕ) → is_lt (int_cmp (pos k) (pos m)) ≡ nat_lt k m
-lt_numbers = search lt_of
-
-pub gt_numbers : (k m : ℕ) → is_gt (int_cmp (pos k) (pos m)) ≡ nat_lt m k
-gt_numbers = grind (arith, nat_tests)
 
 is_below : (k m : ℕ) → k < m → nat_lt k m ≡ true
 is_below = grind (arith, nat_tests)
@@ -64,34 +58,27 @@ isnt_below = grind (arith, nat_tests)
 
 -- where the numbers are split by a test of a place
 pub split_numbers : (p : Label → Bool) (n place : ℕ) → place ≤ n → ((k : ℕ) → k < place → p (number_label k) ≡ false) → ((k : ℕ) → place ≤ k → k < n → p (number_label k) ≡ true) → IsSplitAt p (range_labels n) place
-split_numbers p n _ few before behind = record {
-  within = omega (arith, length-range_labels n);
-  before = grind (arith, number_at);
-  behind = search (number_at, inside);
-}
+split_numbers = grind (arith, length-range_labels, number_at, inside)
 
 -- the first number that isn't below a number
 pub reached : (texts : List Text) (n m : ℕ) → IsSplitAt (reaches (order_in texts) (Some (label.Int (pos m)))) (range_labels n) (min n m)
-reached texts n m =
-    split_numbers (reaches (order_in texts) (Some (label.Int (pos m)))) n (min n m) (omega arith)
-    (λ k lt. ap not (lt_numbers k m ∙ is_below k m (omega arith)))
-    (λ k le lt. ap not (lt_numbers k m ∙ isnt_below k m (omega arith)))
+reached _ n m =
+    split_numbers _ n _ (omega arith)
+    (λ k lt. grind (arith, lt_of, is_below))
+    (λ k le lt. grind (arith, lt_of, isnt_below))
 
 pub reached_at_once : (texts : List Text) (n m : ℕ) → IsSplitAt (reaches (order_in texts) (Some (label.Int (negsuc m)))) (range_labels n) 0
-reached_at_once texts n m = split_numbers (reaches (order_in texts) (Some (label.Int (negsuc m)))) n 0 (omega arith) (λ k lt. absurd (omega arith)) (λ k le lt. refl)
+reached_at_once _ n m = split_numbers _ n 0 (omega arith) (λ k lt. absurd (omega arith)) (λ k le lt. refl)
 
 -- the number behind the last one that isn't above a number
 pub left_behind : (texts : List Text) (n m : ℕ) → IsSplitAt (λ l. not (stays_within (order_in texts) (Some (label.Int (pos m))) l)) (range_labels n) (min n (m + 1))
-left_behind texts n m =
-    split_numbers (λ l. not (stays_within (order_in texts) (Some (label.Int (pos m))) l)) n (min n (m + 1)) (omega arith)
-    (λ k lt. ap (λ b. not (not b)) (gt_numbers k m ∙ isnt_below m k (omega arith)))
-    (λ k le lt. ap (λ b. not (not b)) (gt_numbers k m ∙ is_below m k (omega arith)))
+left_behind _ n m =
+    split_numbers _ n _ (omega arith)
+    (λ k lt. grind (arith, nat_tests, isnt_below))
+    (λ k le lt. grind (arith, nat_tests, is_below))
 
 pub left_at_once : (texts : List Text) (n m : ℕ) → IsSplitAt (λ l. not (stays_within (order_in texts) (Some (label.Int (negsuc m))) l)) (range_labels n) 0
-left_at_once texts n m = split_numbers (λ l. not (stays_within (order_in texts) (Some (label.Int (negsuc m))) l)) n 0 (omega arith) (λ k lt. absurd (omega arith)) (λ k le lt. refl)
-
-pub missed_number : (n : ℕ) (z : ℤ) (place : ℕ) → lt_z z (pos 0) ≡ false → place ≡ unsigned_abs z → n ≤ place → [] ≡ rows_where (same_number (label.Int z)) 0 (range_labels n)
-missed_number = grind (arith, nowhere, not_same, label_decides, same_pos)
+left_at_once _ n m = split_numbers _ n 0 (omega arith) (λ k lt. absurd (omega arith)) (λ k le lt. refl)
 
 pub no_number : (n : ℕ) (z : ℤ) → lt_z z (pos 0) ≡ true → [] ≡ rows_where (same_number (label.Int z)) 0 (range_labels n)
 no_number = grind (arith, isnt_below, nowhere)
@@ -102,16 +89,16 @@ reached_number _ n (negsuc m) _ _ ge is at = cc
 
 pub reached_below : (texts : List Text) (n : ℕ) (z : ℤ) → lt_z z (pos 0) ≡ true → IsSplitAt (reaches (order_in texts) (Some (label.Int z))) (range_labels n) 0
 reached_below _ n (pos m) lt = absurd (grind (arith, isnt_below))
-reached_below texts n (negsuc m) _ = reached_at_once texts n m
+reached_below _ n (negsuc m) _ = reached_at_once _ n m
 
 pub left_number : (texts : List Text) (n : ℕ) (z : ℤ) (distance place : ℕ) → lt_z z (pos 0) ≡ false → distance ≡ unsigned_abs z → place ≡ min n (distance + 1)
     → IsSplitAt (λ l. not (stays_within (order_in texts) (Some (label.Int z)) l)) (range_labels n) place
-left_number texts n (pos m) _ _ _ is at = rw (at ∙ ap (λ k. min n (k + 1)) is) (left_behind texts n m)
+left_number _ n (pos m) _ _ _ is at = rw (at ∙ ap (λ k. min n (k + 1)) is) (left_behind _ n m)
 left_number _ n (negsuc m) _ _ ge is at = cc
 
 pub left_below : (texts : List Text) (n : ℕ) (z : ℤ) → lt_z z (pos 0) ≡ true → IsSplitAt (λ l. not (stays_within (order_in texts) (Some (label.Int z)) l)) (range_labels n) 0
 left_below _ n (pos m) lt = absurd (grind (arith, isnt_below))
-left_below texts n (negsuc m) _ = left_at_once texts n m
+left_below _ n (negsuc m) _ = left_at_once _ n m
 
 -- by a test that all numbers pass, or none does
 pub all_pass : (p : Label → Bool) (n : ℕ) → ((k : ℕ) → p (number_label k) ≡ true) → IsSplitAt p (range_labels n) 0
@@ -123,7 +110,7 @@ none_passes p n fail = split_numbers p n n (omega arith) (λ k lt. fail k) (λ k
 -- numbers go on in order
 goes_on : (texts : List Text) (a n : ℕ) → goes_on_in_order (order_in texts) (number_label a) (map number_label (range_with_len (a + 1) n)) ≡ true
 goes_on _ a zero = refl
-goes_on texts a (suc n) = grind (arith, lt_numbers, isnt_below, goes_on texts (a + 1) n)
+goes_on texts a (suc n) = grind (arith, lt_of, isnt_below, goes_on texts (a + 1) n)
 
 pub range_in_order : (texts : List Text) (n : ℕ) → is_in_order (order_in texts) (range_labels n) ≡ true
 range_in_order = grind (arith, goes_on)

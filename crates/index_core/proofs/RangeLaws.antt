@@ -7,15 +7,11 @@ use Rattle.{
 
 -- how many labels a range has
 pub length-range_labels : (n : ℕ) → length (range_labels n) ≡ n
-length-range_labels n = length-map-range_with_len number_label 0 n
-
--- a range has as many labels as its number
-pub length_of_range : (labels : List Label) (n : ℕ) → range_labels n ≡ labels → n ≡ length labels
-length_of_range _ n seen = cc (length-range_labels n)
+length-range_labels n = length-map-range_with_len _ 0 n
 
 -- the label at a place is that place
 pub label_of_range : (labels : List Label) (n place : ℕ) → range_labels n ≡ labels → place < length labels → slice_get labels place ≡ Some (number_label place)
-label_of_range labels n place seen inside =
-    let below : place < n = omega (arith, length_of_range labels n seen) in
+label_of_range _ n place seen inside =
+    let below : place < n = grind (arith, length-range_labels) in
     let within : place < length (range_labels n) = omega (arith, length-range_labels n) in
     cc (slice_get-get_or (range_labels n) place (number_label 0) within, get_or-map-range_with_len number_label 0 n place place (number_label 0) below (omega arith))

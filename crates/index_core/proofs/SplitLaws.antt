@@ -16,12 +16,12 @@ no_later_less texts labels e = sorted_far (λ x y. is_lt (order_in texts x y)) (
 
 -- what a search by halving asks for
 pub below_first : (texts : List Text) (labels : List Label) (bound : Label) → is_in_order (order_in texts) labels ≡ true → IsPartitionedBy (λ label. is_lt (order_in texts label bound)) labels
-below_first texts labels bound e = λ i j d le lt below.
-    below_too (order_total texts) (slice_index_or labels i d) (slice_index_or labels j d) bound (search no_later_less) below
+below_first _ labels _ e = λ i j d le lt below.
+    below_too (order_total _) (slice_index_or labels i d) _ _ (search no_later_less) below
 
 pub within_first : (texts : List Text) (labels : List Label) (bound : Label) → is_in_order (order_in texts) labels ≡ true → IsPartitionedBy (λ label. not (is_gt (order_in texts label bound))) labels
-within_first texts labels bound e = λ i j d le lt within.
-    ap not (within_too (order_total texts) (slice_index_or labels i d) (slice_index_or labels j d) bound (search no_later_less) (search not_so))
+within_first _ labels _ e = λ i j d le lt within.
+    ap not (within_too (order_total _) (slice_index_or labels i d) (slice_index_or labels j d) _ (search no_later_less) (search not_so))
 
 -- the rows of a slice
 both_fail : (a b : Bool) → b ≡ false → (a && b) ≡ false
@@ -35,7 +35,7 @@ rows_of_splits {X} cmp d lower upper xs first end from to =
     let stays : (k : ℕ) → k < end → stays_within cmp upper (slice_index_or xs k d) ≡ true = grind (arith, not_not) in
     let leaves : (k : ℕ) → end ≤ k → k < length xs → stays_within cmp upper (slice_index_or xs k d) ≡ false = grind (arith, not_so) in
     let start : 0 + first ≡ first = omega arith in
-    sym (cc (rows_in_interval p d 0 first end xs to.within (λ k lt inside. ap (λ b. b && stays_within cmp upper (slice_index_or xs k d)) (from.before k d lt)) (λ k le lt. both_so _ _ (grind arith) (stays k lt)) (λ k le lt. both_fail _ _ (leaves k le lt))))
+    sym (cc (rows_in_interval p d 0 first end xs to.within (λ k lt inside. grind arith) (λ k le lt. grind (arith, both_so)) (λ k le lt. both_fail _ _ (leaves k le lt))))
   where
     not_not : (b : Bool) → not b ≡ false → b ≡ true
     not_not true e = refl
@@ -62,7 +62,7 @@ split_at_first p xs place next few before here = record {
   behind = λ k d le lt.
       let far : place + (k - place) ≡ k = omega arith in
       let inside : place + (k - place) < length xs = omega arith in
-      subst (λ m. p (slice_index_or xs m d) ≡ true) far (goes_on p xs next place (k - place) d inside (here d (omega arith)));
+      subst (λ m. p (slice_index_or xs m d) ≡ true) far (goes_on p xs next place _ d inside (here d (omega arith)));
 }
 
 -- a slice of labels in order, and of a range

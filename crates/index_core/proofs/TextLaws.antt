@@ -58,7 +58,7 @@ number_alike = grind (arith, label_one, value_decides, same_from_decides)
 module _ (texts : List Text) where
   pub label_seen : AreDistinct texts → (labels : List Label) (key : Label) → All (IsGivenLabel texts) labels → IsGivenLabel texts key
       → rows_of_key same_text (map (label_datum texts) labels) (label_datum texts key) ≡ pick_seen (label_datum texts) (rows_of_key same_number labels key)
-  label_seen distinct labels key all given = rows_of_key-map (IsGivenLabel texts) same_text same_number (label_datum texts) (label_datum texts) key (λ x there. number_alike texts distinct key x given there) labels all
+  label_seen distinct labels key all given = rows_of_key-map _ same_text same_number _ _ key (λ x there. number_alike _ distinct key x given there) labels all
 
   pub slice_seen : (lower upper : Option Label) (labels : List Label)
       → label_slice label_cmp (option_map (label_datum texts) lower) (option_map (label_datum texts) upper) (map (label_datum texts) labels) ≡ pick_seen (label_datum texts) (label_slice (order_in texts) lower upper labels)

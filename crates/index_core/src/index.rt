@@ -93,6 +93,7 @@ impl Index {
     }
 
     /// The label at a place, counted from 0. Takes no memory.
+    #[tactic(auto, using(std::proofs::lemmas::Option::slice_get_read))]
     pub fn label(&self, place: usize) -> Label
         requires { place < length self.now }
         ensures { slice_get self.now place ≡ Some result }
@@ -115,6 +116,7 @@ impl Index {
     }
 
     // Whether the other index has the same labels at the same places, label by label.
+    #[tactic(auto, using(crate::proofs::SameLaws::holds, crate::proofs::SameLaws::all_same))]
     fn same_places(&self, other: &Index) -> bool
         ensures { Decides result (self.now ≡ other.now) }
     {

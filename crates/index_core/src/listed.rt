@@ -44,6 +44,7 @@ pub(crate) fn all_differ(alloc: Global, labels: &[Label]) -> Result<bool, NoMemo
 }
 
 // Whether no label is less than the one before.
+#[tactic(auto, using(pick_meaning::proofs::OrderLaws::order_kept))]
 pub(crate) fn is_sorted(dict: &TextDict, labels: &[Label]) -> bool
     ensures { result ≡ is_in_order (order_in dict.now) labels.now }
 {
@@ -119,6 +120,7 @@ fn end_place(dict: &TextDict, labels: &[Label], bound: Option<Label>) -> Result<
 }
 
 // The places of a slice. Labels in order are searched by halving.
+#[tactic(auto, using(crate::proofs::SplitLaws::slice_in_order))]
 pub(crate) fn slice_of(
     dict: &TextDict,
     labels: &[Label],

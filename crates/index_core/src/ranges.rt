@@ -17,6 +17,7 @@ use cell_core::{Label, Places, Rows};
 use std::alloc::Global;
 
 // The place of a label among the numbers, if it is one of them.
+#[tactic(auto, using(crate::proofs::NumberLaws::nowhere))]
 pub(crate) fn place_of(n: usize, label: Label) -> Option<usize>
     ensures { option_to_list result ≡ places_in (range_labels n) label }
 {
@@ -119,6 +120,7 @@ pub(crate) fn slice_of(n: usize, lower: Option<Label>, upper: Option<Label>) -> 
 }
 
 /// The places from one on that stand before another one: none where they stand the other way. Takes no memory.
+#[tactic(auto, using(crate::proofs::NumberLaws::run_rows))]
 pub fn run_of(first: usize, end: usize, limit: usize) -> Rows
     requires { end ≤ limit }
     ensures rows { rows_of result ≡ rows_between first end }

@@ -58,7 +58,7 @@ leads_whole (k ∷ key) [] same = search
 leads_whole (k ∷ key) (l ∷ tuple) same = cc (leads_whole key tuple (omega arith))
 
 rows_whole : (n : ℕ) (tuples : List (List Label)) (key : List Label) → HaveLevels n tuples → length key ≡ n → rows_where (leads same_number key) 0 tuples ≡ rows_where (pointwise same_number key) 0 tuples
-rows_whole n tuples key alike size = rows_where-same (λ t. length t ≡ n) (leads same_number key) (pointwise same_number key) (λ t long. leads_whole key t (size ∙ sym long)) 0 tuples alike
+rows_whole n _ key alike size = rows_where-same _ _ _ (λ t long. leads_whole key t (size ∙ sym long)) 0 _ alike
 
 pub whole_found : (n : ℕ) (tuples : List (List Label)) (key : List Label) (rows : List ℕ) → HaveLevels n tuples → length key ≡ n → rows ≡ rows_where (pointwise same_number key) 0 tuples → are_some rows ≡ true
     → rows_of_key (leads same_number) tuples key ≡ Ok rows

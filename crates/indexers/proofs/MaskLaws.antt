@@ -10,7 +10,7 @@ use Rattle.{
 
 -- a cell of a mask
 pub cell_read : (cells : List Cell) (row : ℕ) (cell : Cell) → slice_get cells row ≡ Some cell → slice_index_or (map is_true cells) row false ≡ is_true cell
-cell_read cells row cell at = get_or-map is_true cells row cell false (slice_get_within cells row cell at) ∙ ap is_true (get_or_from_slice_get cells row cell cell at)
+cell_read cells row cell at = get_or-map is_true cells row cell false (slice_get_within cells row cell at) ∙ ap is_true (get_or_from_slice_get _ row _ _ at)
 
 -- the only row of a label
 only_is : (rows : List ℕ) (row : ℕ) → only_row rows ≡ Some row → rows ≡ row ∷ []
@@ -37,7 +37,7 @@ pub kept_seen : (a b : List Label) (xs ys : List (List Label)) (mask : List Bool
     → kept_by_label (pointwise same_number) ys mask 0 xs ≡ pick_seen as_tuple (kept_by_label same_number b mask 0 a)
 kept_seen a b _ _ mask first second =
     (λ j. kept_by_label (pointwise same_number) (sym second j) mask 0 (sym first j))
-    ∙ kept_by_label-map (λ l. Unit {0}) (pointwise same_number) same_number as_tuple (λ x y t u. both_true (same_number x y)) b mask 0 a (λ k d lt. tt) (λ k d lt. tt)
+    ∙ kept_by_label-map (λ l. Unit {0}) _ _ _ (λ x y t u. both_true _) b _ 0 a _ (λ k d lt. tt)
   where
     both_true : (b : Bool) → (b && true) ≡ b
     both_true true = refl
@@ -53,7 +53,7 @@ unlike (l ∷ x) (k ∷ y) apart = grind (arith, unlike x y (λ same. apart (ap 
 not_among : (x : List Label) (m n row : ℕ) (ys : List (List Label)) → length x ≡ m → HaveLevels n ys → (m ≡ n → ⊥) → rows_where (pointwise same_number x) row ys ≡ []
 not_among x m n _ [] _ _ _ = refl
 not_among x m n row (y ∷ ys) size alike apart =
-    when_not (pointwise same_number x y) (row ∷ rows_where (pointwise same_number x) (row + 1) ys) (rows_where (pointwise same_number x) (row + 1) ys)
+    when_not _ _ _
     (unlike x y (λ same. apart (sym size ∙ same ∙ All-head (λ t. length t ≡ n) y ys alike)))
     ∙ not_among x m n (row + 1) ys size (All-tail (λ t. length t ≡ n) y ys alike) apart
 

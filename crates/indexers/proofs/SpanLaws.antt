@@ -35,5 +35,5 @@ pub backward_spaced : (low high count start steps : ℕ) (z : ℤ) → z ≢ pos
     → AreRowsBelow record { start = start; step = z; count = steps } count
 backward_spaced _ _ _ _ _ (pos zero) moves _ _ _ _ = absurd (moves refl)
 backward_spaced _ _ _ _ _ (pos (suc n)) moves back few at is = search (clash, above_zero)
-backward_spaced low high count start _ (negsuc n) _ _ few at is =
-    subst (λ r. AreRowsBelow r count) (λ j. record { start = sym at j; step = negsuc n; count = sym is j }) (backward_below low high n count few)
+backward_spaced _ _ count start _ (negsuc n) _ _ few at is =
+    subst (λ r. AreRowsBelow r count) (λ j. record { start = sym at j; step = negsuc n; count = sym is j }) (backward_below _ _ n _ few)

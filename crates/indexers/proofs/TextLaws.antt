@@ -26,13 +26,13 @@ any_seen : (texts : List Text) → AreDistinct texts → (label : Label) (labels
     → list_any (same_text (label_datum texts label)) (map (label_datum texts) labels) ≡ list_any (same_number label) labels
 any_seen _ distinct label [] _ all = refl
 any_seen texts distinct label (l ∷ labels) here all =
-    let one = number_alike texts distinct label l here (all 0 l (omega arith)) in
+    let one = number_alike _ distinct label l here (all 0 l (omega arith)) in
     search (any_seen texts distinct label labels here (λ k d lt. all (suc k) d (omega arith)))
 
 pub differ_seen : (texts : List Text) → AreDistinct texts → (labels : List Label) → All (IsGivenLabel texts) labels → all_differ same_text (map (label_datum texts) labels) ≡ all_differ same_number labels
 differ_seen _ distinct [] _ = refl
 differ_seen texts distinct (label ∷ labels) all =
-    let one = any_seen texts distinct label labels (all 0 label (omega arith)) (λ k d lt. all (suc k) d (omega arith)) in
+    let one = any_seen _ distinct label _ (all 0 label (omega arith)) (λ k d lt. all (suc k) d (omega arith)) in
     search (differ_seen texts distinct labels (λ k d lt. all (suc k) d (omega arith)))
 
 -- `::-1` is the rows from the last one back, which taken twice are all rows in order (`reversed_twice` in `pick_meaning`)

@@ -10,3 +10,4 @@ pub mod LawOfJoins
 pub mod RunLaws
 pub mod SideLaws
 pub mod TargetLaws
+pub mod Hints

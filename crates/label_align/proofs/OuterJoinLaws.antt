@@ -1,20 +1,16 @@
 -- The entries of both sides' keys in order are an outer join.
 use Rattle.{
-  std.{proofs.{Common.{rules, ◌≡◌, ◌∙◌, ◌<◌, ◌||◌, ◌++◌, ℕ, zero, suc, Bool, true, false, not, cond, List, [], ◌∷◌, filter, length, refl, ap, slice_index_or, arith, All}, lemmas.{Bool.{false≢true, true≢false}, List.{append-nil, Elements.{All-head, All-tail, All-map, filter-append}}}}, specs.{Bool.{Decides}, Cmp.{IsStrictWeakOrder}, List.{flat_map, list_any}}},
+  std.{proofs.{Common.{◌≡◌, ◌∙◌, ◌<◌, ◌++◌, ℕ, zero, suc, Bool, true, false, not, cond, List, [], ◌∷◌, filter, length, refl, ap, slice_index_or, arith, All}, lemmas.{Bool.{false≢true}, List.{append-nil, Elements.{All-tail, All-map, filter-append}}}}, specs.{Bool.{Decides}, Cmp.{IsStrictWeakOrder}, List.{flat_map, list_any}}},
   meaning.specs.Reduce.{distinct},
-  sorting.{specs.Sorting.{put_in, in_order}, proofs.SortLaws.{irreflexive}},
-  align_meaning.{proofs.OrderLaws.{all_append, all_flat, all_put_in, all_in_order, all_distinct}, specs.{Joins.{Entry, or_gap, entry, entries_of, outer_entries, lists_of}, OuterJoin.{IsOuterJoin, rows_of_key}}},
+  sorting.{specs.Sorting.{put_in, in_order}, proofs.SortLaws.{irreflexive, Ascends, in_order_ascends}},
+  align_meaning.{proofs.OrderLaws.{all_append, all_flat, all_in_order, all_distinct}, specs.{Joins.{Entry, or_gap, entry, entries_of, outer_entries, lists_of}, OuterJoin.{IsOuterJoin, rows_of_key}}},
   row_keys.proofs.KeyLaws.{any_at},
   label_align.proofs.EntryLaws.{length-entries_of},
 }
 
-filter_all : {X : Type 0} (p : X → Bool) (xs : List X) → All (λ x. p x ≡ true) xs → filter p xs ≡ xs
-filter_all p [] _ = refl
-filter_all p (x ∷ xs) all = cc (All-head (λ x. p x ≡ true) x xs all, filter_all p xs (All-tail (λ x. p x ≡ true) x xs all))
-
-filter_none : {X : Type 0} (p : X → Bool) (xs : List X) → All (λ x. p x ≡ false) xs → filter p xs ≡ []
-filter_none p [] _ = refl
-filter_none p (x ∷ xs) all = cc (All-head (λ x. p x ≡ false) x xs all, filter_none p xs (All-tail (λ x. p x ≡ false) x xs all))
+filter_alike : {X : Type 0} (p : X → Bool) (b : Bool) (xs : List X) → All (λ x. p x ≡ b) xs → filter p xs ≡ cond b xs []
+filter_alike p b [] _ = grind arith
+filter_alike p b (x ∷ xs) all = grind (arith, all 0 x (omega arith), filter_alike p b xs (All-tail (λ x. p x ≡ b) x xs all))
 
 -- each entry of a key has the key
 pub keyed : {K : Type 0} (key : K) (lefts rights : List ℕ) → All (λ e. e.key ≡ key) (entries_of key lefts rights)
@@ -22,31 +18,12 @@ keyed key lefts rights =
     all_flat (λ e. e.key ≡ key) (λ l. Unit {0}) _
     (λ l h. All-map (λ e. e.key ≡ key) (entry key l) (or_gap rights) (λ k d lt. refl)) (or_gap lefts) (λ k d lt. tt)
 
-module _ {X : Type 0} (less : X → X → Bool) where
-  -- none stands before a lesser one
-  abbrev pub Rises : List X → Type 0
-  Rises [] = Unit {0}
-  Rises (x ∷ xs) = All (λ y. less y x ≡ false) xs × Rises xs
-
-  rises_at : (xs : List X) → Rises xs → (i j : ℕ) (d : X) → i < j → j < length xs → less (slice_index_or xs j d) (slice_index_or xs i d) ≡ false
-  rises_at [] up i j = grind arith
-  rises_at (x ∷ xs) up zero zero = grind arith
-  rises_at (x ∷ xs) up zero (suc j) = grind arith
-  rises_at (x ∷ xs) up (suc i) zero = grind arith
-  rises_at (x ∷ xs) up (suc i) (suc j) = grind (arith, rises_at xs up.1)
-
-  module _ (weak : IsStrictWeakOrder less) where
-    put_in_rises : (x : X) (ys : List X) → Rises ys → Rises (put_in less x ys)
-    put_in_rises x [] up = grind arith
-    put_in_rises x (y ∷ ys) up =
-        elim (less y x) as (λ b. less y x ≡ b → Rises (cond b (y ∷ put_in less x ys) (x ∷ y ∷ ys))) [
-          | true ↦ search (all_put_in, put_in_rises x ys up.1, weak.one_way)
-          | false ↦ search rules
-        ] refl
-
-    pub in_order_rises : (xs : List X) → Rises (in_order less xs)
-    in_order_rises [] = tt
-    in_order_rises (x ∷ xs) = search (put_in_rises, in_order_rises xs)
+-- none stands before a lesser one
+rises_at : {X : Type 0} (less : X → X → Bool) (weak : IsStrictWeakOrder less) (xs : List X) → Ascends less weak xs → (i j : ℕ) (d : X) → i < j → j < length xs → less (slice_index_or xs j d) (slice_index_or xs i d) ≡ false
+rises_at _ _ [] up i j = grind arith
+rises_at _ _ (x ∷ xs) up i zero = grind arith
+rises_at _ _ (x ∷ xs) up zero (suc j) = grind arith
+rises_at less weak (x ∷ xs) up (suc i) (suc j) = grind (arith, rises_at less weak xs up.1)
 
 module _ {K : Type 0} (same less : K → K → Bool) (decides : (a b : K) → Decides (same a b) (a ≡ b)) (weak : IsStrictWeakOrder less) where
   -- what belongs to keys, key by key
@@ -54,11 +31,17 @@ module _ {K : Type 0} (same less : K → K → Bool) (decides : (a b : K) → De
     abbrev less_key : E → E → Bool
     less_key e f = less (key_of e) (key_of f)
 
+    pub key_weak : IsStrictWeakOrder less_key
+    key_weak = grind arith
+
+    abbrev Rises : List E → Type 0
+    Rises es = Ascends less_key key_weak es
+
     -- the parts of keys that rise
-    block_rises : (key : K) (es rest : List E) → All (λ e. key_of e ≡ key) es → All (λ e. less (key_of e) key ≡ false) rest → Rises less_key rest → Rises less_key (es ++ rest)
+    block_rises : (key : K) (es rest : List E) → All (λ e. key_of e ≡ key) es → All (λ e. less (key_of e) key ≡ false) rest → Rises rest → Rises (es ++ rest)
     block_rises _ [] _ _ _ up = up
     block_rises key (e ∷ es) rest are above up =
-        let here : key_of e ≡ key = All-head (λ e. key_of e ≡ key) e es are in
+        let here : key_of e ≡ key = are 0 e (omega arith) in
         let later = All-tail (λ e. key_of e ≡ key) e es are in (
           all_append (λ f. less (key_of f) (key_of e) ≡ false) es _
               (λ k d lt. (λ i. less (later k d lt i) (here i)) ∙ irreflexive _ weak key)
@@ -66,7 +49,7 @@ module _ {K : Type 0} (same less : K → K → Bool) (decides : (a b : K) → De
           block_rises _ es _ later above up,
         )
 
-    pub parts_rise : (keys : List K) → Rises less keys → Rises less_key (flat_map part keys)
+    pub parts_rise : (keys : List K) → Ascends less weak keys → Rises (flat_map part keys)
     parts_rise [] _ = tt
     parts_rise (key ∷ keys) up =
         block_rises _ _ _ (carry key)
@@ -81,13 +64,9 @@ module _ {K : Type 0} (same less : K → K → Bool) (decides : (a b : K) → De
       pub parts_apart : (keys : List K) → filter has_key (flat_map part keys) ≡ flat_map part (filter (same key) keys)
       parts_apart [] = refl
       parts_apart (k ∷ keys) =
-          filter-append _ (part k) _
-          ∙ (grind (arith, filter_all, filter_none, parts_apart keys))
+          grind (arith, filter-append has_key (part k), filter_alike has_key (same key k) (part k) (λ i d lt. ap (same key) (carry k i d lt)), parts_apart keys)
 
   module _ (key : K) where
-    swap : (x y : K) (zs : List K) → cond (same key y) (y ∷ cond (same key x) (x ∷ zs) zs) (cond (same key x) (x ∷ zs) zs) ≡ cond (same key x) (x ∷ cond (same key y) (y ∷ zs) zs) (cond (same key y) (y ∷ zs) zs)
-    swap = grind arith
-
     put_in_keeps : (x : K) (ys : List K) → filter (same key) (put_in less x ys) ≡ filter (same key) (x ∷ ys)
     put_in_keeps x [] = refl
     put_in_keeps x (y ∷ ys) = grind (arith, put_in_keeps x ys)
@@ -107,20 +86,12 @@ module _ {K : Type 0} (same less : K → K → Bool) (decides : (a b : K) → De
 
     pub once : (xs : List K) → list_any (same key) xs ≡ true → filter (same key) (distinct same xs) ≡ key ∷ []
     once [] h = absurd (false≢true h)
-    once (x ∷ xs) h =
-        elim (same key x) as (λ b. same key x ≡ b → (b || list_any (same key) xs) ≡ true → cond b (x ∷ filter (same key) (filter (λ q. not (same q x)) (distinct same xs))) (filter (same key) (filter (λ q. not (same q x)) (distinct same xs))) ≡ key ∷ []) [
-          | true ↦ grind (arith, others_gone)
-          | false ↦ λ e t. others_stay x _ e ∙ once xs t
-        ] refl h
+    once (x ∷ xs) h = grind (arith, others_gone x (distinct same xs), others_stay x (distinct same xs), once xs)
 
     -- and one that doesn't stand is not
     pub gone : (xs : List K) → list_any (same key) xs ≡ false → filter (same key) (distinct same xs) ≡ []
     gone [] h = refl
-    gone (x ∷ xs) h =
-        elim (same key x) as (λ b. same key x ≡ b → (b || list_any (same key) xs) ≡ false → cond b (x ∷ filter (same key) (filter (λ q. not (same q x)) (distinct same xs))) (filter (same key) (filter (λ q. not (same q x)) (distinct same xs))) ≡ []) [
-          | true ↦ λ e t. absurd (true≢false t)
-          | false ↦ λ e t. others_stay x _ e ∙ gone xs t
-        ] refl h
+    gone (x ∷ xs) h = grind (arith, others_stay x (distinct same xs), gone xs)
 
   -- a key stands among keys, as each of these in order does
   abbrev pub Stands : List K → K → Type 0
@@ -146,8 +117,7 @@ module _ {K : Type 0} (same less : K → K → Bool) (decides : (a b : K) → De
     outer_join = record {
       entries = outer_entries same less left right;
       lists = refl;
-      in_order = rises_at (λ e f. less e.key f.key) (outer_entries same less left right)
-          (search (parts_rise, entry_keys, in_order_rises));
+      in_order = rises_at (λ e f. less e.key f.key) (key_weak (λ e. e.key) of_key entry_keys) (outer_entries same less left right) (parts_rise (λ e. e.key) of_key entry_keys _ (in_order_ascends less weak (distinct same (left ++ right))));
       as_often = grind (arith, entries_of_key, length-entries_of);
       no_others =
           all_flat (λ e. Stands (left ++ right) e.key) _ _

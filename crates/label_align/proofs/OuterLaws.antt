@@ -1,23 +1,20 @@
 -- The rows of both sides in order, their runs and the entries of these are the outer join.
 use Rattle.{
-  std.{proofs.{Common.{◌≡◌, ◌∙◌, ◌<◌, ◌≤◌, ◌++◌, ℕ, zero, suc, List, [], ◌∷◌, map, length, ap, sym, subst, arith, All, Ok}, lemmas.List.Elements.{All-head, All-tail, All-map}}, specs.List.{flat_map, range_with_len, Sorted.{ties}}},
+  std.{proofs.{Common.{◌≡◌, ◌∙◌, ◌<◌, ◌≤◌, ◌++◌, ℕ, zero, suc, List, [], ◌∷◌, map, length, ap, sym, subst, arith, All, Ok}, lemmas.{Simd.{map-map}, List.Elements.{All-tail, All-map}}}, specs.List.{flat_map, range_with_len, Sorted.{ties}}},
   cell_core.specs.{declared.cell.Label.{Label}, Texts.{AreDistinct, IsGivenLabel}},
   meaning.specs.Text.{Text},
   multi_index.specs.Axes.{HaveLevels},
   pick_meaning.specs.Rows.{rows_where},
   sorting.{specs.Sorting.{in_order}, proofs.OrderLaws.{in_order_same}},
-  align_meaning.{specs.Joins.{Entry, most_rows, keys_in_order, outer_entries, lists_of, within_limit}, proofs.OrderLaws.{all_append, all_in_order}},
+  align_meaning.{specs.Joins.{Entry, most_rows, keys_in_order, outer_entries, lists_of, within_limit}, proofs.OrderLaws.{all_in_order}},
   row_keys.specs.Keys.{same_tuple},
-  label_align.{specs.{declared.{runs.Run.{Run}, joined.Entries.{Entries}}, Tuples.{tuple_less, row_less}, Joined.{entries_seen, entries_shown}, Runs.{AreGivenTuples, tuple_of_row, same_row, no_run, runs_from, run_entries, total, counted}}, proofs.{EntryLaws.{map-map, few_enough}, LawOfJoins.{tuple_weak}, OrderLaws.{row_agrees, below_range}, RunLaws.{rows_are, runs_are, have_rows}, SameLaws.{tuple_decides, tuple_tied}, SideLaws.{rekeyed, run_at, entries_are, counted_is, total_is, entries_inside}}},
+  label_align.{specs.{declared.{runs.Run.{Run}, joined.Entries.{Entries}}, Tuples.{tuple_less, row_less}, Joined.{entries_seen, entries_shown}, Runs.{AreGivenTuples, tuple_of_row, same_row, no_run, runs_from, run_entries, total, counted}}, proofs.{EntryLaws.{few_enough}, LawOfJoins.{tuple_weak}, OrderLaws.{row_agrees, below_range}, RunLaws.{rows_are, runs_are, have_rows}, SameLaws.{tuple_decides, tuple_tied}, SideLaws.{rekeyed, run_at, entries_are, counted_is, total_is, entries_inside}}},
 }
 
 given_row : (texts : List Text) (tuples : List (List Label)) (row : ℕ) → AreGivenTuples texts tuples → All (IsGivenLabel texts) (tuple_of_row tuples row)
 given_row _ [] _ given = grind arith
-given_row texts (t ∷ ts) zero given = All-head (λ tuple. All (IsGivenLabel texts) tuple) t ts given
+given_row texts (t ∷ ts) zero given = given 0 t (omega arith)
 given_row texts (t ∷ ts) (suc row) given = given_row _ ts _ (All-tail (λ tuple. All (IsGivenLabel texts) tuple) t ts given)
-
-pub both_given : (texts : List Text) (a b : List (List Label)) → AreGivenTuples texts a → AreGivenTuples texts b → AreGivenTuples texts (a ++ b)
-both_given texts a b = all_append (λ tuple. All (IsGivenLabel texts) tuple) a b
 
 module _ (texts : List Text) (a b : List (List Label)) (levels : ℕ) (distinct : AreDistinct texts) (alike : HaveLevels levels (a ++ b)) (given : AreGivenTuples texts (a ++ b)) (rows : List ℕ) (sorted : rows ≡ in_order (row_less texts (a ++ b) levels) (range_with_len 0 (length (a ++ b)))) where
   abbrev IsRow : ℕ → Type 0

@@ -1,11 +1,12 @@
 -- Rows in the order of their keys are the rows of one key after the other, and so are their runs.
 use Rattle.{
-  std.{proofs.{Common.{◌≡◌, ◌∙◌, ◌<◌, ◌+◌, ◌||◌, ◌++◌, ℕ, suc, Bool, true, false, not, cond, List, [], ◌∷◌, map, filter, length, refl, ap, sym, slice_index_or, arith, All}, lemmas.{Bool.{false≢true, true≢false}, List.{append-nil, Elements.{All-head, All-tail, All-filter}}}}, specs.{Bool.{Decides}, Cmp.{IsStrictWeakOrder}, List.{flat_map, list_any, range_with_len, Sorted.{ties, IsStableBy}}}},
+  std.{proofs.{Common.{◌≡◌, ◌∙◌, ◌<◌, ◌+◌, ◌++◌, ℕ, suc, Bool, true, false, not, cond, List, [], ◌∷◌, map, filter, length, refl, ap, sym, slice_index_or, arith, All}, lemmas.{Bool.{false≢true}, List.{append-nil, Elements.{All-tail}}}}, specs.{Bool.{Decides}, Cmp.{IsStrictWeakOrder}, List.{flat_map, list_any, range_with_len, Sorted.{ties, IsStableBy}}}},
   meaning.specs.Reduce.{distinct},
   pick_meaning.specs.Rows.{rows_where},
-  sorting.{specs.Sorting.{put_in, in_order}, proofs.SortLaws.{Ascends, in_order_ascends, in_order_ties, one_order}},
+  sorting.{specs.Sorting.{put_in, in_order}, proofs.SortLaws.{in_order_ascends, in_order_ties, one_order}},
   align_meaning.{specs.Joins.{keys_in_order}, proofs.OrderLaws.{all_in_order, all_put_in}},
-  label_align.{specs.{declared.runs.Run.{Run}, Runs.{no_run, with_row, gathered, runs_from}}, proofs.OuterJoinLaws.{Rises, in_order_rises, parts_rise, parts_apart, in_order_keeps, once, gone, keys_stand}},
+  row_keys.proofs.RecodeLaws.{Apart, apart_distinct},
+  label_align.{specs.{declared.runs.Run.{Run}, Runs.{no_run, with_row, gathered, runs_from}}, proofs.OuterJoinLaws.{parts_rise, parts_apart, in_order_keeps, once, gone, keys_stand}},
 }
 
 -- the rows that pass a test
@@ -18,62 +19,28 @@ module _ {K : Type 0} (p : K → Bool) where
 
   rows_some : (at : ℕ) (xs : List K) → list_any p xs ≡ true → 0 < length (rows_where p at xs)
   rows_some _ [] h = absurd (false≢true h)
-  rows_some at (x ∷ xs) h =
-      elim (p x) as (λ b. (b || list_any p xs) ≡ true → 0 < length (cond b (at ∷ rows_where p (at + 1) xs) (rows_where p (at + 1) xs))) [
-        | true ↦ λ t. omega arith
-        | false ↦ λ t. rows_some (at + 1) xs t
-      ] h
+  rows_some at (x ∷ xs) h = grind (arith, rows_some (at + 1) xs)
 
   rows_none : (at : ℕ) (xs : List K) → list_any p xs ≡ false → rows_where p at xs ≡ []
   rows_none _ [] h = refl
-  rows_none at (x ∷ xs) h =
-      elim (p x) as (λ b. (b || list_any p xs) ≡ false → cond b (at ∷ rows_where p (at + 1) xs) (rows_where p (at + 1) xs) ≡ []) [
-        | true ↦ λ t. absurd (true≢false t)
-        | false ↦ λ t. rows_none (at + 1) xs t
-      ] h
-
-rises_ascend : {X : Type 0} (less : X → X → Bool) (weak : IsStrictWeakOrder less) (xs : List X) → Rises less xs → Ascends less weak xs
-rises_ascend _ _ [] _ = tt
-rises_ascend _ weak (x ∷ xs) up = (up.0, rises_ascend _ weak xs up.1)
+  rows_none at (x ∷ xs) h = grind (arith, rows_none (at + 1) xs)
 
 module _ {K : Type 0} (same less : K → K → Bool) (decides : (a b : K) → Decides (same a b) (a ≡ b)) (weak : IsStrictWeakOrder less) where
-  itself : (k : K) → same k k ≡ true
-  itself k = (decides k k).1 refl
-
-  back : (x y : K) → same x y ≡ false → same y x ≡ false
+  back : (x y : K) → not (same x y) ≡ true → not (same y x) ≡ true
   back = grind arith
 
   -- keys that differ
-  abbrev Apart : List K → Type 0
-  Apart [] = Unit {0}
-  Apart (k ∷ ks) = All (λ y. same k y ≡ false) ks × Apart ks
-
-  filter_apart : (p : K → Bool) (ks : List K) → Apart ks → Apart (filter p ks)
-  filter_apart p [] _ = tt
-  filter_apart p (k ∷ ks) up = elim (p k) as (λ b. Apart (cond b (k ∷ filter p ks) (filter p ks))) [
-    | true ↦ (All-filter p (λ y. same k y ≡ false) ks up.0, filter_apart p ks up.1)
-    | false ↦ filter_apart p ks up.1
-  ]
-
-  others : (x : K) (ks : List K) → All (λ y. same x y ≡ false) (filter (λ q. not (same q x)) ks)
-  others x [] = grind arith
-  others x (k ∷ ks) = grind (arith, others x ks)
-
-  distinct_apart : (xs : List K) → Apart (distinct same xs)
-  distinct_apart [] = tt
-  distinct_apart (x ∷ xs) = search (others, filter_apart, distinct_apart xs)
-
-  put_in_apart : (x : K) (ys : List K) → All (λ y. same x y ≡ false) ys → Apart ys → Apart (put_in less x ys)
+  put_in_apart : (x : K) (ys : List K) → All (λ y. not (same y x) ≡ true) ys → Apart same ys → Apart same (put_in less x ys)
   put_in_apart x [] here up = search
-  put_in_apart x (y ∷ ys) here up = elim (less y x) as (λ b. Apart (cond b (y ∷ put_in less x ys) (x ∷ y ∷ ys))) [
+  put_in_apart x (y ∷ ys) here up = elim (less y x) as (λ b. Apart same (cond b (y ∷ put_in less x ys) (x ∷ y ∷ ys))) [
     | true ↦ (
-      all_put_in (λ z. same y z ≡ false) less x ys (back x y (All-head (λ z. same x z ≡ false) y ys here)) up.0,
-      put_in_apart x ys (All-tail (λ z. same x z ≡ false) y ys here) up.1,
+      all_put_in (λ z. not (same z y) ≡ true) less x ys (back y x (here 0 y (omega arith))) up.0,
+      put_in_apart x ys (All-tail (λ z. not (same z x) ≡ true) y ys here) up.1,
     )
     | false ↦ (here, up)
   ]
 
-  order_apart : (xs : List K) → Apart xs → Apart (in_order less xs)
+  order_apart : (xs : List K) → Apart same xs → Apart same (in_order less xs)
   order_apart [] _ = tt
   order_apart (x ∷ xs) up = put_in_apart x (in_order less xs) (search all_in_order) (order_apart xs up.1)
 
@@ -127,7 +94,7 @@ module _ {K : Type 0} (same less : K → K → Bool) (decides : (a b : K) → De
       pub rows_are : in_order before (range_with_len 0 (length all)) ≡ flat_map part keys
       rows_are =
           one_order _ before_weak (flat_map part keys) _
-          (rises_ascend _ before_weak _ (parts_rise _ _ decides weak key_at _ keyed keys (search in_order_rises)))
+          (parts_rise _ _ decides weak key_at _ keyed keys (search in_order_ascends))
           (search in_order_ascends)
           (λ x. in_order_ties _ before_weak (range_with_len 0 (length all)) x ∙ sym (stable x))
 
@@ -143,33 +110,33 @@ module _ {K : Type 0} (same less : K → K → Bool) (decides : (a b : K) → De
         → runs_from alike count run (row ∷ (rows ++ rest)) ≡ gathered count run (row ∷ rows) ∷ runs_from alike count no_run rest
     one_run _ k _ _ [] _ is carry other = grind arith
     one_run count k run row (next ∷ rows) rest is carry other =
-        let here : key_at next ≡ k = All-head (λ r. key_at r ≡ k) next rows carry in
+        let here : key_at next ≡ k = carry 0 next (omega arith) in
         grind (arith, one_run count k (with_row count run row) next rows rest here (All-tail (λ r. key_at r ≡ k) next rows carry) other)
 
     one_part : (count : ℕ) (k : K) (rows rest : List ℕ) → 0 < length rows → Carry k rows → NotFirst k rest → runs_from alike count no_run (rows ++ rest) ≡ gathered count no_run rows ∷ runs_from alike count no_run rest
     one_part _ k [] _ some carry other = grind arith
-    one_part _ k (row ∷ rows) _ _ carry other = one_run _ k no_run row _ _ (All-head (λ r. key_at r ≡ k) row rows carry) (All-tail (λ r. key_at r ≡ k) row rows carry) other
+    one_part _ k (row ∷ rows) _ _ carry other = one_run _ k no_run row _ _ (carry 0 row (omega arith)) (All-tail (λ r. key_at r ≡ k) row rows carry) other
 
     first_other : (k y : K) (rows rest : List ℕ) → 0 < length rows → Carry y rows → same k y ≡ false → NotFirst k (rows ++ rest)
     first_other k y [] _ some carry other = grind arith
-    first_other k y (row ∷ rows) _ some carry other = cc (All-head (λ r. key_at r ≡ y) row rows carry)
+    first_other k y (row ∷ rows) _ some carry other = cc (carry 0 row (omega arith))
 
     abbrev pub HaveRows : List K → Type 0
     HaveRows ks = All (λ k. 0 < length (part k)) ks
 
-    not_next : (k : K) (ks : List K) → All (λ y. same k y ≡ false) ks → HaveRows ks → NotFirst k (flat_map part ks)
+    not_next : (k : K) (ks : List K) → All (λ y. not (same y k) ≡ true) ks → HaveRows ks → NotFirst k (flat_map part ks)
     not_next k [] _ _ = tt
     not_next k (y ∷ ys) other some =
-        first_other k y _ _ (All-head (λ k. 0 < length (part k)) y ys some) (keyed y) (All-head (λ z. same k z ≡ false) y ys other)
+        first_other k y _ _ (some 0 y (omega arith)) (keyed y) (grind (arith, other 0 y (omega arith)))
 
-    runs_apart : (count : ℕ) (ks : List K) → Apart ks → HaveRows ks → runs_from alike count no_run (flat_map part ks) ≡ map (λ k. gathered count no_run (part k)) ks
+    runs_apart : (count : ℕ) (ks : List K) → Apart same ks → HaveRows ks → runs_from alike count no_run (flat_map part ks) ≡ map (λ k. gathered count no_run (part k)) ks
     runs_apart _ [] _ _ = refl
     runs_apart count (k ∷ ks) apart some =
         let later : HaveRows ks = All-tail (λ k. 0 < length (part k)) k ks some in
-        cc (one_part count k (part k) (flat_map part ks) (All-head (λ k. 0 < length (part k)) k ks some) (keyed k) (not_next k ks apart.0 later), runs_apart count ks apart.1 later)
+        cc (one_part count k (part k) (flat_map part ks) (some 0 k (omega arith)) (keyed k) (not_next k ks apart.0 later), runs_apart count ks apart.1 later)
 
     pub have_rows : HaveRows keys
     have_rows = grind (arith, rows_some, keys_stand)
 
     pub runs_are : (count : ℕ) → runs_from alike count no_run (flat_map part keys) ≡ map (λ k. gathered count no_run (part k)) keys
-    runs_are = search (runs_apart, order_apart, distinct_apart, have_rows)
+    runs_are = search (runs_apart, order_apart, apart_distinct, have_rows)

@@ -1,9 +1,9 @@
 -- The rows of each side in a run, and the entries of runs.
 use Rattle.{
-  std.{proofs.{Common.{◌≡◌, ◌∙◌, ◌<◌, ◌≤◌, ◌+◌, ◌-◌, ◌*◌, ◌++◌, ℕ, Bool, List, [], ◌∷◌, map, take, drop, length, max, refl, ap, sym, subst, slice_index_or, arith, All, lt-ltb, le-ltb}, Math.Seq.{take-append_seam, drop-append_seam}, lemmas.List.{length-map, length-append, map-append, append_assoc, append-nil, take_more, drop-drop, Sums.{sum_by-cons}, Elements.{All-nil, All-cons, All-head, All-tail}}}, specs.{Bool.{Decides}, Cmp.{IsStrictWeakOrder}, List.{flat_map}}},
+  std.{proofs.{Common.{◌≡◌, ◌<◌, ◌≤◌, ◌+◌, ◌-◌, ◌++◌, ℕ, Bool, List, [], ◌∷◌, map, take, drop, length, refl, subst, slice_index_or, arith, All}, Math.Seq.{take-append_seam, drop-append_seam}, lemmas.{Simd.{map-map}, Bool.Decides.{nat_tests}, List.{length-map, length-append, map-append, append_assoc, append-nil, take_more, drop-drop, Sums.{sum_by-cons}, Elements.{All-nil, All-cons, All-head, All-tail}}}}, specs.{Bool.{Decides}, Cmp.{IsStrictWeakOrder}, List.{flat_map}}},
   pick_meaning.{specs.Rows.{rows_where}, proofs.{RowLaws.{rows_where-append}, InsideLaws.{rows_inside}}},
   align_meaning.{specs.Joins.{Entry, entry, entries_of}, proofs.OrderLaws.{all_append}},
-  label_align.{specs.{declared.runs.Run.{Run}, Runs.{no_run, run_of, with_row, gathered, rows_in, total, entries_in, run_entries, count_in, counted}}, proofs.{EntryLaws.{map-map, length-entries_of}, OuterJoinLaws.{keyed}, RunLaws.{key_at, HaveRows, keyed as carried}}},
+  label_align.{specs.{declared.runs.Run.{Run}, Runs.{no_run, with_row, gathered, rows_in, total, entries_in, run_entries, count_in, counted}}, proofs.{EntryLaws.{length-entries_of}, OuterJoinLaws.{keyed}, RunLaws.{key_at, HaveRows, keyed as carried}}},
 }
 
 -- the rows of the right, from a count on
@@ -22,34 +22,21 @@ module _ (n : ℕ) where
   gathered_append _ [] _ = refl
   gathered_append run (x ∷ xs) ys = gathered_append (with_row n run x) xs ys
 
-  left_row : (run : Run) (row : ℕ) → row < n → with_row n run row ≡ run_of row (run.lefts + 1) run.rights
-  left_row = search lt-ltb
-
-  right_row : (run : Run) (row : ℕ) → n ≤ row → with_row n run row ≡ run_of row run.lefts (run.rights + 1)
-  right_row = search le-ltb
-
   lefts_gathered : (run : Run) (xs : List ℕ) → All (λ row. row < n) xs → ((gathered n run xs).lefts ≡ run.lefts + length xs) × ((gathered n run xs).rights ≡ run.rights)
   lefts_gathered _ [] all = (omega arith, refl)
-  lefts_gathered run (x ∷ xs) all =
-      let is : with_row n run x ≡ run_of x (run.lefts + 1) run.rights = left_row run x (All-head (λ row. row < n) x xs all) in
-      grind (arith, lefts_gathered (with_row n run x) xs (All-tail (λ row. row < n) x xs all))
+  lefts_gathered run (x ∷ xs) all = grind (arith, nat_tests, all 0 x, lefts_gathered (with_row n run x) xs (All-tail (λ row. row < n) x xs all))
 
   rights_gathered : (run : Run) (xs : List ℕ) → All (λ row. n ≤ row) xs → ((gathered n run xs).lefts ≡ run.lefts) × ((gathered n run xs).rights ≡ run.rights + length xs)
   rights_gathered _ [] all = (refl, omega arith)
-  rights_gathered run (x ∷ xs) all =
-      let is : with_row n run x ≡ run_of x run.lefts (run.rights + 1) = right_row run x (All-head (λ row. n ≤ row) x xs all) in
-      grind (arith, rights_gathered (with_row n run x) xs (All-tail (λ row. n ≤ row) x xs all))
-
-  row_is : (run : Run) (row : ℕ) → (with_row n run row).row ≡ row
-  row_is = grind arith
+  rights_gathered run (x ∷ xs) all = grind (arith, nat_tests, all 0 x, rights_gathered (with_row n run x) xs (All-tail (λ row. n ≤ row) x xs all))
 
   row_gathered : (P : ℕ → Type 0) (run : Run) (xs : List ℕ) → P run.row → All P xs → P (gathered n run xs).row
   row_gathered P _ [] here _ = here
-  row_gathered P run (x ∷ xs) _ all = row_gathered P (with_row n run x) xs (subst P (sym (row_is run x)) (All-head P x xs all)) (All-tail P x xs all)
+  row_gathered P run (x ∷ xs) _ all = row_gathered P (with_row n run x) xs (grind (arith, all 0 x)) (All-tail P x xs all)
 
   some_row : (P : ℕ → Type 0) (xs : List ℕ) → 0 < length xs → All P xs → P (gathered n no_run xs).row
   some_row P [] some all = search
-  some_row P (x ∷ xs) _ all = row_gathered P _ xs (subst P (sym (row_is no_run x)) (All-head P x xs all)) (All-tail P x xs all)
+  some_row P (x ∷ xs) _ all = row_gathered P _ xs (grind (arith, all 0 x)) (All-tail P x xs all)
 
   -- the entries of a run at the head of rows
   module _ (xs ys rest : List ℕ) (run : Run) (lefts : run.lefts ≡ length xs) (rights : run.rights ≡ length ys) where
@@ -60,9 +47,7 @@ module _ (n : ℕ) where
     one_entries = grind (arith, append_assoc, take-append_seam, behind)
 
     others_behind : drop (rows_in run) ((xs ++ ys) ++ rest) ≡ rest
-    others_behind =
-        let size : rows_in run ≡ length (xs ++ ys) = grind (arith, length-append) in
-        grind (arith, drop-append_seam)
+    others_behind = grind (arith, drop-append_seam (xs ++ ys) rest, length-append)
 
   -- entries keep what their runs' rows are
   entries_keep : (P : ℕ → Type 0) (runs : List Run) (rows : List ℕ) → All (λ run. P run.row) runs → All (λ e. P e.key) (run_entries n runs rows)
@@ -125,20 +110,14 @@ module _ {K : Type 0} (same less : K → K → Bool) (decides : (a b : K) → De
     shifted : map (λ row. row - length a) of_right ≡ rows_where (same k) 0 b
     shifted = search rows_shifted
 
-    as_many : length of_right ≡ length (rows_where (same k) 0 b)
-    as_many = grind (arith, length-map, shifted)
-
     row_of_key : 0 < length (part k) → at_row (run_at k).row ≡ k
     row_of_key some = some_row _ (λ row. at_row row ≡ k) _ some (carried _ _ decides weak (a ++ b) d k)
 
     key_entries : (rest : List ℕ) → 0 < length (part k) → map (rekeyed at_row) (entries_in (length a) (run_at k) (part k ++ rest)) ≡ of_key k
-    key_entries rest some =
-        ap (map (rekeyed at_row)) (cc (split, one_entries (length a) of_left of_right rest (run_at k) sizes.0 sizes.1))
-        ∙ rekeyed_of _ (run_at k).row _ _
-        ∙ (λ i. entries_of (row_of_key some i) of_left (shifted i))
+    key_entries rest some = grind (arith, split, one_entries (length a) of_left of_right rest (run_at k), sizes, rekeyed_of, row_of_key some, shifted)
 
     key_counted : count_in (run_at k) ≡ length (of_key k)
-    key_counted = (λ i. max (sizes.0 i) 1 * max ((sizes.1 ∙ as_many) i) 1) ∙ sym (search length-entries_of)
+    key_counted = grind (arith, sizes, length-entries_of, shifted, length-map)
 
     key_rows : rows_in (run_at k) ≡ length (part k)
     key_rows = grind (arith, length-append, split, sizes.0, sizes.1)
@@ -147,10 +126,7 @@ module _ {K : Type 0} (same less : K → K → Bool) (decides : (a b : K) → De
   entries_are [] _ = refl
   entries_are (k ∷ ks) some =
       let rest = flat_map part ks in
-      let later : drop (rows_in (run_at k)) (part k ++ rest) ≡ rest = grind (arith, split, others_behind, sizes) in
-      map-append (rekeyed at_row) (entries_in (length a) (run_at k) (part k ++ rest)) (run_entries (length a) (map run_at ks) (drop (rows_in (run_at k)) (part k ++ rest)))
-      ∙ (λ i. key_entries k rest (All-head (λ x. 0 < length (part x)) k ks some) i ++ map (rekeyed at_row) (run_entries (length a) (map run_at ks) (later i)))
-      ∙ ap (λ l. of_key k ++ l) (entries_are ks (All-tail (λ x. 0 < length (part x)) k ks some))
+      grind (arith, split k, others_behind (length a) (of_left k) (of_right k) rest (run_at k), sizes k, map-append (rekeyed at_row) (entries_in (length a) (run_at k) (part k ++ rest)) (run_entries (length a) (map run_at ks) rest), key_entries k rest, some 0 k, entries_are ks (All-tail (λ x. 0 < length (part x)) k ks some))
 
   pub counted_is : (ks : List K) → counted (map run_at ks) ≡ length (flat_map of_key ks)
   counted_is [] = refl
@@ -164,7 +140,7 @@ module _ {K : Type 0} (same less : K → K → Bool) (decides : (a b : K) → De
   runs_inside [] some = grind arith
   runs_inside (k ∷ ks) some =
       All-cons (λ run. run.row < length (a ++ b)) (run_at k) (map run_at ks)
-      (some_row _ (λ row. row < length (a ++ b)) _ (All-head (λ x. 0 < length (part x)) k ks some) (rows_inside _ _))
+      (some_row _ (λ row. row < length (a ++ b)) _ (some 0 k (omega arith)) (rows_inside _ _))
       (runs_inside ks (All-tail (λ x. 0 < length (part x)) k ks some))
 
   pub entries_inside : (ks : List K) (rows : List ℕ) → SomeRows ks → All (λ e. e.key < length (a ++ b)) (run_entries (length a) (map run_at ks) rows)

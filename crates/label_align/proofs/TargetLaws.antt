@@ -1,6 +1,6 @@
 -- The row of each target, by codes.
 use Rattle.{
-  std.{proofs.{Common.{◌≡◌, ◌∙◌, ◌<◌, ◌≤◌, ◌==◌, ◌+◌, ℕ, zero, suc, Bool, true, false, cond, List, [], ◌∷◌, map, length, refl, ap, sym, slice_index, slice_index_or, arith, All, Option, Some, None, Ok, Err, nat_lt, le-ltb}, lemmas.{Bool.{false≢true, eq-eqb}, List.{get_or-map, length-map, FromFn.{get_or-map-range_with_len}, Elements.{All-head, All-tail}}}}, specs.{Bool.{Decides}, List.{range_with_len}}},
+  std.{proofs.{Common.{◌≡◌, ◌∙◌, ◌<◌, ◌≤◌, ◌==◌, ◌+◌, ℕ, zero, suc, Bool, true, false, cond, List, [], ◌∷◌, map, length, refl, ap, sym, slice_index_or, arith, All, Option, Some, None, Ok, Err, nat_lt, le-ltb}, lemmas.{Simd.{map-map}, Bool.Decides.{nat_tests}, List.{get_or-map, length-map, FromFn.{get_or-map-range_with_len}, Elements.{All-tail, All-map}}}}, specs.{Bool.{Decides}, List.{range_with_len}}},
   cell_core.specs.declared.cell.Label.{Label},
   pick_meaning.specs.Rows.{rows_where, only_row},
   align_meaning.specs.{Faults.{duplicate_labels}, Targets.{first_where, first_repeated, unless_repeated, rows_of_targets, reindexed}},
@@ -19,9 +19,9 @@ module _ {X : Type 0} (p : X → Bool) where
   none_there [] d _ = refl
   none_there (x ∷ xs) d before = cc (before 0 (omega arith), none_there xs d (λ i below. before (suc i) (omega arith)))
 
-map_all : {A B C : Type 0} (P : A → Type 0) (f : A → B) (g : B → C) (h : A → C) → ((x : A) → P x → g (f x) ≡ h x) → (xs : List A) → All P xs → map g (map f xs) ≡ map h xs
-map_all P f g h _ [] _ = refl
-map_all P f g h same (x ∷ xs) all = λ i. same x (All-head P x xs all) i ∷ map_all P f g h same xs (All-tail P x xs all) i
+map_agree : {A B : Type 0} (P : A → Type 0) (f g : A → B) → ((x : A) → P x → f x ≡ g x) → (xs : List A) → All P xs → map f xs ≡ map g xs
+map_agree P f g _ [] _ = refl
+map_agree P f g same (x ∷ xs) all = cc (same x (all 0 x (omega arith)), map_agree P f g same xs (All-tail P x xs all))
 
 not_behind : (c at m : ℕ) → c < at → rows_where (λ d. c == d) at (range_with_len at m) ≡ []
 not_behind c _ zero _ = refl
@@ -29,16 +29,7 @@ not_behind c at (suc m) lt = grind (arith, not_behind c (at + 1) m (omega (arith
 
 found_at : (c at m : ℕ) → at ≤ c → rows_where (λ d. c == d) at (range_with_len at m) ≡ cond (nat_lt c (at + m)) (c ∷ []) []
 found_at c _ zero le = grind arith
-found_at c at (suc m) le =
-    elim (c == at) as (λ b. (c == at) ≡ b → cond b (at ∷ rows_where (λ d. c == d) (at + 1) (range_with_len (at + 1) m)) (rows_where (λ d. c == d) (at + 1) (range_with_len (at + 1) m)) ≡ cond (nat_lt c (at + suc m)) (c ∷ []) []) [
-      | true ↦ grind (arith, not_behind)
-      | false ↦ λ e.
-          let later : at + 1 ≤ c = omega (arith, differ c at e) in
-          found_at c (at + 1) m later ∙ ap (λ n. cond (nat_lt c n) (c ∷ []) []) (let f : at + 1 + m ≡ at + suc m = omega arith in f)
-    ] refl
-  where
-    differ : (c at : ℕ) → (c == at) ≡ false → c ≡ at → ⊥
-    differ c at h e = false≢true (sym h ∙ eq-eqb c at e)
+found_at c at (suc m) le = grind (arith, nat_tests, not_behind c (at + 1) m, found_at c (at + 1) m)
 
 module _ (keys targets : List (List Label)) where
   -- where the targets are the keys
@@ -69,10 +60,7 @@ module _ (keys targets : List (List Label)) where
     size = grind (arith, length-map)
 
     rows_at : (place : ℕ) → place < length keys → repeats_at rows codes place ≡ length (rows_where (same_tuple (slice_index_or keys place [])) 0 keys)
-    rows_at place lt =
-        (λ i. length (slice_index_or (made i) (slice_index (coded i) place) []))
-        ∙ ap (λ c. length (slice_index_or (buckets_of how_many (map of_key keys)) c [])) (get_or-map of_key keys place [] 0 lt)
-        ∙ ap (λ l. length l) (search (bucket, key_below))
+    rows_at place lt = grind (arith, get_or-map of_key keys place [] 0 lt, bucket (slice_index_or keys place []), key_below place [] lt)
 
     abbrev is_repeated : List Label → Bool
     is_repeated key = nat_lt 1 (length (rows_where (same_tuple key) 0 keys))
@@ -89,14 +77,10 @@ module _ (keys targets : List (List Label)) where
 
     -- the row of each target, where none repeats
     pub found : (told : Bool) (asked : List ℕ) (gaps : List (Option ℕ)) → Decides told (keys ≡ targets) → told ≡ false → NoneRepeats rows codes → asked ≡ map of_key targets → gaps ≡ map (λ code. only_row (slice_index_or rows code [])) asked → reindexed same_tuple keys targets ≡ Ok gaps
-    found _ _ _ is unlike none of_targets looked =
-        others _ is unlike
-        ∙ ap (λ o. unless_repeated o (rows_of_targets same_tuple keys targets)) (none_there _ keys [] (grind (arith, once, size)))
-        ∙ ap Ok (sym (
-        looked
-        ∙ (λ i. map (λ code. only_row (slice_index_or (made i) code [])) (of_targets i))
-        ∙ map_all (λ x. of_key x < how_many) _ (λ code. only_row (slice_index_or (buckets_of how_many (map of_key keys)) code [])) (λ target. only_row (rows_where (same_tuple target) 0 keys)) (λ x lt. ap only_row (bucket x lt)) targets target_below
-        ))
+    found told asked gaps is unlike none of_targets looked =
+        let look : ℕ → Option ℕ = λ code. only_row (slice_index_or (buckets_of how_many (map of_key keys)) code []) in
+        let rows_found = map_agree (λ x. of_key x < how_many) (λ x. look (of_key x)) (λ target. only_row (rows_where (same_tuple target) 0 keys)) (λ x lt. ap only_row (bucket x lt)) targets target_below in
+        cc (others told is unlike, none_there is_repeated keys [] (grind (arith, once, size)), rw (made, of_targets) at looked, map-map look of_key targets, rows_found)
 
   -- where the codes of the keys are the numbers from 0 on, none repeats, and each is its row
   module _ (codes : List ℕ) (coded : codes ≡ map of_key keys) (in_sequence : codes ≡ range_with_len 0 (length codes)) where
@@ -106,21 +90,16 @@ module _ (keys targets : List (List Label)) where
     one_row : (code : ℕ) → code < how_many → slice_index_or rows code [] ≡ cond (nat_lt code (length keys)) (code ∷ []) []
     one_row = grind (arith, get_or-map-range_with_len, found_at, size)
 
-    few : (b : Bool) (code : ℕ) → length (cond b (code ∷ []) []) ≤ 1
-    few = grind arith
-
     none_repeats : NoneRepeats rows codes
     none_repeats place lt =
         let inside : place < length keys = omega (arith, size rows codes refl coded) in
-        let code : ℕ = slice_index codes place in
-        let here : code ≡ of_key (slice_index_or keys place []) = cc (get_or-map of_key keys place [] 0 inside) in
-        let below : code < how_many = omega (arith, key_below place [] inside) in
-        omega (arith, few (nat_lt code (length keys)) code, ap (λ (l : List ℕ). length l) (one_row code below))
+        grind (arith, get_or-map of_key keys place [] 0 inside, key_below place [] inside, one_row (of_key (slice_index_or keys place [])))
 
     row_of : (b : Bool) (code : ℕ) → only_row (cond b (code ∷ []) []) ≡ cond b (Some code) None
     row_of = grind arith
 
     pub found_in_sequence : (told : Bool) (asked : List ℕ) (gaps : List (Option ℕ)) → Decides told (keys ≡ targets) → told ≡ false → asked ≡ map of_key targets → gaps ≡ map (row_below (length keys)) asked → reindexed same_tuple keys targets ≡ Ok gaps
     found_in_sequence told asked gaps is unlike of_targets looked =
+        let below : All (λ code. code < how_many) asked = rw of_targets (All-map (λ code. code < how_many) of_key targets target_below) in
         found _ _ refl coded told asked gaps is unlike none_repeats of_targets
-        (cc (map_all (λ x. of_key x < how_many) of_key (row_below (length keys)) (λ x. only_row (slice_index_or rows (of_key x) [])) (λ x lt. sym (row_of (nat_lt (of_key x) (length keys)) (of_key x)) ∙ ap only_row (sym (one_row (of_key x) lt))) targets target_below, map_all (λ x. of_key x < how_many) of_key (λ code. only_row (slice_index_or rows code [])) (λ x. only_row (slice_index_or rows (of_key x) [])) (λ x lt. refl) targets target_below))
+        (looked ∙ map_agree (λ code. code < how_many) (row_below (length keys)) (λ code. only_row (slice_index_or rows code [])) (λ code lt. sym (row_of (nat_lt code (length keys)) code) ∙ ap only_row (sym (one_row code lt))) asked below)

@@ -61,6 +61,7 @@ impl LabelKeys for BothSides<'_> {
 }
 
 // Whether two rows carry the same tuple.
+#[tactic(auto, using(crate::proofs::OrderLaws::rows_differ))]
 pub(crate) fn is_same_row(both: &BothSides<'_>, i: usize, j: usize) -> bool
     requires first { i < length (tuples_of both.now) }
     requires second { j < length (tuples_of both.now) }

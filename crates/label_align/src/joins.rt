@@ -31,6 +31,7 @@ fn levels_of_both(a: &Axis, b: &Axis) -> usize
 }
 
 // The rows of both sides joined: put in order, and cut into runs that carry one tuple.
+#[tactic(auto, using(crate::proofs::Hints::joined_rows))]
 fn joined_rows(alloc: Global, dict: &TextDict, both: &BothSides<'_>) -> Result<Entries, AlignFault>
     requires alike { HaveLevels both.now.levels (tuples_of both.now) }
     requires given { AreGivenTuples dict.now (tuples_of both.now) }

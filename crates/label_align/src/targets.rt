@@ -16,6 +16,7 @@ use row_keys::{Buckets, LevelRows, numbered, rows_by_code};
 use std::alloc::Global;
 
 // Whether the axis has these tuples, row by row.
+#[tactic(auto, using(index_core::proofs::SameLaws::holds, index_core::proofs::SameLaws::all_same))]
 fn has_tuples<R: LevelRows>(alloc: Global, axis: &Axis, tuples: &R) -> bool
     requires { HaveLevels (length axis.now.names) (R.tuples tuples.now) }
     ensures { Decides result (axis.now.tuples ≡ R.tuples tuples.now) }
@@ -32,6 +33,7 @@ fn has_tuples<R: LevelRows>(alloc: Global, axis: &Axis, tuples: &R) -> bool
 }
 
 // Whether a row of the axis has this tuple.
+#[tactic(auto, using(index_core::proofs::SameLaws::holds, index_core::proofs::SameLaws::all_same))]
 fn has_tuple(axis: &Axis, row: usize, tuple: &Tuple) -> bool
     requires row { row < length axis.now.tuples }
     requires levels { length tuple.now ≡ length axis.now.names }
@@ -84,6 +86,7 @@ fn rows_of_codes(alloc: Global, rows: &Buckets, codes: &[usize]) -> Result<Gaps,
 }
 
 // Whether these are the numbers from 0 on, as codes by first sight are where no key stands twice.
+#[tactic(auto, using(crate::proofs::Hints::are_in_sequence))]
 fn are_in_sequence(codes: &[usize]) -> bool
     ensures { Decides result (codes.now ≡ range_with_len 0 (length codes.now)) }
 {
@@ -122,6 +125,7 @@ fn row_if_one(rows: &[usize]) -> Option<usize>
 /// Where the targets are other tuples, `DuplicateLabels` with the first tuple of the axis that stands on more
 /// than one row, exactly where there is one. `NoMemory` may come in place of any answer, and `TooLarge` never
 /// comes.
+#[tactic(auto, using(crate::proofs::Hints::reindex))]
 pub fn reindex<R: LevelRows>(alloc: Global, a: &Axis, target: &R) -> Result<Gaps, AlignFault>
     requires { HaveLevels (length a.now.names) (R.tuples target.now) }
     ensures { AlignsBy as_it_is result (reindexed same_tuple a.now.tuples (R.tuples target.now)) }

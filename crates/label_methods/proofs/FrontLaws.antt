@@ -1,13 +1,10 @@
 -- Lists that are made item by item.
 use Rattle.{
   std.proofs.Common.{arith, ◌≡◌, List, [], ◌∷◌, ◌++◌, append_assoc, Result, Ok, Err},
-  meaning.specs.Fault.{FaultValue, then_value},
+  meaning.specs.Fault.{FaultValue},
   form_meaning.specs.Finish.{try_all},
   label_methods.specs.Columns.{with_front},
 }
-
-abbrev first_then : {A B : Type 0} → (A → Result B FaultValue) → List A → Result B FaultValue → Result (List B) FaultValue
-first_then f xs first = then_value first (λ y. then_value (try_all f xs) (λ ys. Ok (y ∷ ys)))
 
 -- one item more is made
 pub front_next : {A B : Type 0} (f : A → Result B FaultValue) (made : List B) (x : A) (y : B) (xs : List A) (whole : Result (List B) FaultValue)

@@ -1,6 +1,6 @@
 -- The labels of a level as the cells of a column, row by row.
 use Rattle.{
-  std.{proofs.{Common.{◌≡◌, ◌∙◌, ap, sym, subst, ℕ, zero, suc, ◌+◌, ◌<◌, List, [], ◌∷◌, ◌++◌, map, drop, length, slice_index_or, slice_get, Option, Some, append-nil, arith}, lemmas.{List.{length-map, map-append, FromFn.{length-range_with_len, get_or-range_with_len}}, Option.{slice_get-get_or}}}, specs.{Prelude.{Result, Ok, Err, unwrap_or}, List.{range_with_len}, Option.{option_and_then}}},
+  std.{proofs.{Common.{◌≡◌, subst, ℕ, zero, suc, ◌+◌, ◌<◌, List, [], ◌∷◌, ◌++◌, map, drop, length, slice_index_or, slice_get, Option, Some, append-nil, arith}, Math.Seq.{drop-cons}, lemmas.{List.{length-map, map-append, FromFn.{length-range_with_len, get_or-range_with_len}}, Option.{get_or_from_slice_get}}}, specs.{Prelude.{Result, Ok, Err, unwrap_or}, List.{range_with_len}, Option.{option_and_then}}},
   cell_core.specs.declared.cell.{Cell.{Cell}, Kind.{Kind, TheVariants.{Int64}}, Label.{Label, TheVariants.{Na}}},
   meaning.specs.{Text.{Text}, Cell.{CellValue, datum}, Fault.{FaultValue}},
   column_core.specs.{Blocks.{CellBlock}, Columns.{CellColumn}},
@@ -12,15 +12,10 @@ use Rattle.{
   label_methods.{specs.{Columns.{seen_column, with_front}, LevelColumns.{cell_of, level_cells, held_after, held_column, GetsCell, RefusesCell, level_column, level_columns}}, proofs.{Lists.{drop_next, drop_all}, FrontLaws.{front_next}}},
 }
 
-label_is : (tuple : List Label) (level : ℕ) (l : Label) → slice_get tuple level ≡ Some l → slice_index_or tuple level Na ≡ l
-label_is [] _ l is = cc
-label_is (x ∷ xs) zero l is = cc
-label_is (x ∷ xs) (suc level) l is = label_is xs _ l is
-
 cell_is : (tuples : List (List Label)) (row level : ℕ) (l : Label) → option_and_then (λ tuple. slice_get tuple level) (slice_get tuples row) ≡ Some l
     → slice_get (map (λ tuple. cell_of (slice_index_or tuple level Na)) tuples) row ≡ Some (cell_of l)
 cell_is [] _ _ l is = cc
-cell_is (t ∷ ts) zero _ l is = grind (arith, label_is)
+cell_is (t ∷ ts) zero level l is = grind (arith, get_or_from_slice_get t level l Na is)
 cell_is (t ∷ ts) (suc row) _ l is = cell_is ts _ _ l is
 
 -- the cells from a row on
@@ -45,22 +40,15 @@ kind_ends = grind (arith, no_more)
 abbrev pub held_from : List Text → Kind → AxisValue → ℕ → ℕ → List Cell → Result (ColumnOf CellValue) FaultValue
 held_from texts kind axis level row made = held_after kind (map (datum texts) made) (cells_value texts (drop row (level_cells axis level)))
 
--- one cell more in a column
-pub held_step : (texts : List Text) (kind : Kind) (axis : AxisValue) (row level : ℕ) (l : Label) (cell : Cell) (made made' : CellColumn) (whole : Result (ColumnOf CellValue) FaultValue)
-    → label_at axis row level ≡ Some l → cell ≡ cell_of l → made.kind ≡ kind → GetsCell made made' cell
-    → held_from texts kind axis level row made.cells ≡ whole → held_from texts kind axis level (row + 1) made'.cells ≡ whole
-held_step texts _ axis row level l cell _ _ _ at is same gets before = cc (gets texts (cells_value texts (drop (row + 1) (level_cells axis level))), cells_from axis row level l cell at is)
+module _ (texts : List Text) (kind : Kind) (axis : AxisValue) (row level : ℕ) (l : Label) (cell : Cell) (made : CellColumn) (whole : Result (ColumnOf CellValue) FaultValue) (at : label_at axis row level ≡ Some l) (is : cell ≡ cell_of l) (same : made.kind ≡ kind)
+    (before : held_from texts kind axis level row made.cells ≡ whole) where
+  -- one cell more in a column
+  pub held_step : (made' : CellColumn) → GetsCell made made' cell → held_from texts kind axis level (row + 1) made'.cells ≡ whole
+  held_step _ gets = cc (gets texts (cells_value texts (drop (row + 1) (level_cells axis level))), cells_from axis row level l cell at is)
 
--- or one that the kind doesn't hold
-pub held_refused : (texts : List Text) (kind : Kind) (axis : AxisValue) (row level : ℕ) (l : Label) (cell : Cell) (made : CellColumn) (fault : OpFault) (whole : Result (ColumnOf CellValue) FaultValue)
-    → label_at axis row level ≡ Some l → cell ≡ cell_of l → made.kind ≡ kind → RefusesCell made cell fault
-    → held_from texts kind axis level row made.cells ≡ whole → MakesBy seen_column texts (Err fault) whole
-held_refused texts kind axis row level l cell made fault _ at is same refused before =
-    subst (λ m. MakesBy seen_column texts (Err fault) m)
-    (ap (λ k. held_after k (map (datum texts) made.cells) (datum texts cell ∷ cells_value texts (drop (row + 1) (level_cells axis level)))) same
-    ∙ ap (λ cs. held_after kind (map (datum texts) made.cells) (cells_value texts cs)) (sym (cells_from axis row _ l _ at is))
-    ∙ before)
-    (refused texts (cells_value texts (drop (row + 1) (level_cells axis level))))
+  -- or one that the kind doesn't hold
+  pub held_refused : (fault : OpFault) → RefusesCell made cell fault → MakesBy seen_column texts (Err fault) whole
+  held_refused fault refused = subst (λ m. MakesBy seen_column texts (Err fault) m) (cc (cells_from axis row level l cell at is)) (refused texts (cells_value texts (drop (row + 1) (level_cells axis level))))
 
 -- all of them
 pub held_ends : (texts : List Text) (kind : Kind) (axis : AxisValue) (row level : ℕ) (made : CellColumn) → row ≡ length axis.tuples → made.kind ≡ kind
@@ -70,11 +58,7 @@ held_ends = grind (arith, no_more, append-nil)
 
 -- the levels from one on
 level_at : (n level : ℕ) → level < n → drop level (range_with_len 0 n) ≡ level ∷ drop (level + 1) (range_with_len 0 n)
-level_at n level lt =
-    let next : suc level ≡ level + 1 = omega arith in
-    let within : level < length (range_with_len 0 n) = omega (arith, length-range_with_len 0 n) in
-    let same : 0 + level ≡ level = omega arith in
-    cc (drop_next (range_with_len 0 n) level level (cc (slice_get-get_or (range_with_len 0 n) level 0 within, get_or-range_with_len 0 n level 0 lt)))
+level_at n level lt = grind (arith, drop-cons (range_with_len 0 n) level 0, get_or-range_with_len, length-range_with_len)
 
 abbrev pub columns_from : List Text → AxisValue → ℕ → List CellBlock → Result (List (ColumnOf CellValue)) FaultValue
 columns_from texts axis level made = with_front (blocks_value texts made) (try_all (level_column texts axis) (drop level (range_with_len 0 (length axis.names))))
@@ -83,10 +67,7 @@ pub level_step : (texts : List Text) (axis : AxisValue) (level : ℕ) (made made
     → made' ≡ made ++ single_block (table_column new) ∷ [] → level_column texts axis level ≡ Ok (seen_column texts new)
     → columns_from texts axis level made ≡ level_columns texts axis → columns_from texts axis (level + 1) made' ≡ level_columns texts axis
 level_step texts axis level made made' new lt more is before =
-    let n = length axis.names in
-    let all : blocks_value texts made' ≡ blocks_value texts made ++ seen_column texts new ∷ []
-    = grind (arith, map-append) in
-    cc (front_next (level_column texts axis) (blocks_value texts made) level (seen_column texts new) (drop (level + 1) (range_with_len 0 n)) (level_columns texts axis) (grind (arith, level_at)) is)
+    grind (arith, map-append, level_at (length axis.names) level lt, front_next (level_column texts axis) (blocks_value texts made) level (seen_column texts new) (drop (level + 1) (range_with_len 0 (length axis.names))) (level_columns texts axis))
 
 pub level_refused : (texts : List Text) (axis : AxisValue) (level : ℕ) (made : List CellBlock) (fault : OpFault) → level < length axis.names
     → MakesBy seen_column texts (Err fault) (level_column texts axis level) → columns_from texts axis level made ≡ level_columns texts axis
@@ -95,7 +76,4 @@ level_refused = grind (arith, level_at)
 
 pub levels_end : (texts : List Text) (axis : AxisValue) (level : ℕ) (made : List CellBlock) → level ≡ length axis.names
     → columns_from texts axis level made ≡ level_columns texts axis → level_columns texts axis ≡ Ok (blocks_value texts made)
-levels_end _ axis level _ is before =
-    let none : drop level (range_with_len 0 (length axis.names)) ≡ []
-    = cc (length-range_with_len 0 (length axis.names), drop_all (range_with_len 0 (length axis.names))) in
-    grind (arith, append-nil)
+levels_end _ axis level _ is before = grind (arith, append-nil, length-range_with_len, drop_all (range_with_len 0 (length axis.names)))

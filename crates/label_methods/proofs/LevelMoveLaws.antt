@@ -1,12 +1,10 @@
 -- Levels that go, or change places with one another.
 use Rattle.{
-  std.{proofs.{Common.{◌≡◌, ◌∙◌, refl, sym, ℕ, suc, ◌<◌, ◌≤◌, Bool, ℤ, List, [], ◌∷◌, ◌++◌, map, take, drop, length, Option, Some, None, Result, Ok, Err, if◌then◌else◌, arith}, Math.ListN.{get_or-map}, lemmas.{Bool.Decides.{nat_tests}, List.{length-map, map-append, take-map, map-set}}}, specs.{Prelude.{IfSome, remove, swap}, Option.{option_map}, List.{drop-map}}},
+  std.{proofs.{Common.{◌≡◌, ◌∙◌, refl, sym, ℕ, suc, ◌≤◌, List, [], ◌∷◌, ◌++◌, map, take, drop, length, Option, Some, None, arith}, Math.ListN.{get_or-map}, lemmas.{Bool.Decides.{nat_tests}, List.{length-map, map-append, take-map, map-set}}}, specs.{Prelude.{IfSome, remove, swap}, Option.{option_map}, List.{drop-map}}},
   cell_core.specs.{Texts.{IsGiven}, declared.cell.{Cell.{Cell}, Label.{Label}}},
-  meaning.specs.{Text.{Text}, Cell.{datum}, Fault.{FaultValue, bad_value, levels}, Place.{place_of}},
+  meaning.specs.{Text.{Text}, Cell.{datum}},
   multi_index.specs.Axes.{AxisValue, without_level, with_swapped},
-  pick_meaning.specs.Positions.{row_at},
-  select_meaning.specs.Keys.{found_pick},
-  table_meaning.specs.{Change.{with_labels}, Settled.{IsSettled}, Table.{NumberedTable, table_value}, Value.{Entry, scalar_in}},
+  table_meaning.specs.{Change.{with_labels}, Settled.{IsSettled}, Table.{NumberedTable, table_value}, Value.{scalar_in}},
   form_meaning.specs.Finish.{limited},
   method_meaning.specs.Levels.{level_dropped, level_gone, levels_swapped},
   frame_store.{specs.{Arguments.{arguments_of}, Objects.{Tables}, Parts.{axis_of}, Shown.{labels_value}}, proofs.Settling.{settled_by, cell_given}},
@@ -17,10 +15,6 @@ use Rattle.{
 pub option_given : (b : Bound) (place : ℕ) (o : Option Cell) (live : Tables) (texts : List Text) → Tells b place scalar_in (λ _ ts. option_map (datum ts) o) → IsSettled (arguments_of live) texts b.args.now → IfSome o (IsGiven texts)
 option_given b _ None _ _ _ _ = tt
 option_given b _ (Some c) _ _ tells settled = cell_given _ c (λ more. some_same _ _ (told_settled b _ scalar_in (λ _ ts. Some (datum ts c)) _ _ tells settled more))
-
--- a level by its number
-pub number_found : (count : ℕ) (z : ℤ) (o : Option ℕ) (level : ℕ) → o ≡ place_of z count → o ≡ Some level → found_pick (row_at count z) ≡ Ok level
-number_found _ z o _ is some = cc
 
 -- what is made of a list, item by item
 map-remove : {X Y : Type 0} (f : X → Y) (xs : List X) (i : ℕ) → map f (remove xs i) ≡ remove (map f xs) i
@@ -46,17 +40,11 @@ dropped_settled _ t _ level is settled =
     settled_by table_value table_value (λ v. level_dropped v level) _ t _ (λ ts. sym (dropped_seen ts t _ _ is)) settled
 
 -- another level stays, or none does
-abbrev if_several : Bool → Result Entry FaultValue → Result Entry FaultValue
-if_several b rest = if b then rest else Err (bad_value levels)
-
 levels_counted : (texts : List Text) (t : NumberedTable) → length (table_value texts t).level_names ≡ length t.level_names
 levels_counted = search length-map
 
 pub level_stays : (texts : List Text) (t : NumberedTable) (level : ℕ) → 2 ≤ length t.level_names → level_gone (table_value texts t) level ≡ limited (level_dropped (table_value texts t) level)
 level_stays = grind (arith, levels_counted, nat_tests)
-
-pub only_level : (texts : List Text) (t : NumberedTable) (level : ℕ) → length t.level_names < 2 → level_gone (table_value texts t) level ≡ Err (bad_value levels)
-only_level = grind (arith, levels_counted, nat_tests)
 
 -- the table with two levels exchanged
 pub swapped_seen : (texts : List Text) (t : NumberedTable) (axis : AxisValue) (a b : ℕ) → axis ≡ with_swapped (axis_of t) a b → table_value texts (with_labels t axis.tuples axis.names) ≡ levels_swapped (table_value texts t) a b

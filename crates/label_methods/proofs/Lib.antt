@@ -15,3 +15,4 @@ pub mod ResetTableLaws
 pub mod LevelMoveLaws
 pub mod ReindexLaws
 pub mod SectionLaws
+pub mod Hints

@@ -1,21 +1,19 @@
 -- The levels of a table as columns of a frame.
 use Rattle.{
-  std.{proofs.{Common.{◌≡◌, ◌∙◌, refl, ap, sym, subst, ℕ, zero, suc, pos, ◌+◌, ◌<◌, ◌||◌, not, nat_eq, Bool, true, false, List, [], ◌∷◌, ◌++◌, map, take, drop, length, slice_index_or, slice_get, All, Option, Some, None, Ok, Err, if◌then◌else◌, append_assoc, append-nil, arith}, Math.ListN.{get_or-map}, lemmas.{Bool.Decides.{nat_tests}, List.{length-map, map-append, take_more, take_all, Elements.{All-append}}, Option.{slice_get-get_or, get_or_from_slice_get}}}, specs.{Prelude.{unwrap_or}, List.{list_any, range_with_len}}},
+  std.{proofs.{Common.{◌≡◌, refl, ℕ, pos, ◌+◌, ◌<◌, not, nat_eq, Bool, true, false, List, [], ◌∷◌, ◌++◌, map, take, drop, length, slice_index_or, slice_get, All, Option, Some, None, if◌then◌else◌, append_assoc, append-nil, add-one, arith}, Math.{ListN.{get_or-map}, Seq.{drop-cons}}, lemmas.{Bool.Decides.{nat_tests}, List.{length-map, map-append, take_more, Elements.{All-append}}, Option.{get_or_from_slice_get, slice_get_within}}}, specs.{Prelude.{unwrap_or, codes}, List.{list_any, range_with_len}}},
   cell_core.specs.{Texts.{with_text}, declared.cell.{Label.{Label}, TextId.{TextId}}},
   column_core.{specs.{Blocks.{CellBlock}, Columns.{CellColumn}}, proofs.CellRows.{map-map}},
   meaning.specs.{Text.{Text}, Cell.{LabelValue, int, text, label_datum, IsLonger}},
   table_meaning.specs.{Settled.{IsSettled}, Table.{NumberedTable, Table, table_value, heading_value, column_at}},
   form_meaning.specs.Finish.{same_heading},
   method_meaning.specs.{Levels.{numbered_label, nameless_label}, Methods.{as_frame}},
-  form_parts.specs.Makes.{MakesBy, blocks_value},
-  frame_store.{specs.{Parts.{axis_of, block_column, single_block, table_column, IsSingle}, Shown.{headings_value}, declared.fault.OpFault.{OpFault}}, proofs.Settling.{settled_later, seen_later, settled_by, headings_part, level_names_part, cell_settled}},
+  frame_store.{specs.{Parts.{block_column, single_block, table_column, IsSingle}, Shown.{headings_value}}, proofs.Settling.{settled_later, seen_later, settled_by, headings_part, level_names_part, cell_settled}},
   selections.proofs.PlaceLaws.{label_settled as label_settled_by},
-  label_methods.{specs.{Labels.{column_tuple}, Resets.{frame_heading, frame_headings, reset_columns, reset_headings}}, proofs.Lists.{drop_next}},
+  label_methods.specs.{Labels.{column_tuple}, Resets.{frame_heading, frame_headings, reset_headings}},
 }
 use Rattle.cell_core.specs.declared.cell.Cell.TheVariants as cell
 use Rattle.cell_core.specs.declared.cell.Label.TheVariants as label
 use Rattle.method_meaning.specs.Levels as meant
-use Rattle.label_methods.specs.LevelColumns as levels
 
 heading_seen : (texts : List Text) (h : Option Label) → heading_value texts (frame_heading h) ≡ Some (unwrap_or (heading_value texts h) (int (pos 0)))
 heading_seen = grind arith
@@ -34,13 +32,11 @@ headings_settled = search (settled_by, headings_seen, headings_part)
 pub next_heading : (t : NumberedTable) (place : ℕ) (h : Option Label) (l : Label) → place < length t.headings → h ≡ slice_index_or t.headings place None → column_tuple h ≡ l ∷ []
     → drop place (frame_headings t) ≡ Some l ∷ drop (place + 1) (frame_headings t)
 next_heading t place h l lt is tuple =
-    let within : place < length (frame_headings t) = omega (arith, lt, length-map t.headings frame_heading) in
-    let next : suc place ≡ place + 1 = omega arith in
-    cc (drop_next (frame_headings t) place (Some l) (grind (arith, slice_get-get_or (frame_headings t) place (frame_heading None) within, get_or-map frame_heading t.headings place None)))
+    grind (arith, drop-cons (frame_headings t) place (frame_heading None), get_or-map frame_heading t.headings place None, length-map t.headings frame_heading, add-one)
 
 pub label_settled : (texts : List Text) (t : NumberedTable) (place : ℕ) (h : Option Label) (l : Label) → h ≡ slice_index_or t.headings place None → column_tuple h ≡ l ∷ []
     → IsSettled table_value texts t → IsSettled heading_value texts (Some l)
-label_settled _ t place h l is tuple settled = λ more. sym (seen _) ∙ ap (λ hs. slice_index_or hs place (Some (int (pos 0)))) (headings_settled _ t settled more) ∙ seen _
+label_settled texts t place h l is tuple settled = λ more. cc (headings_settled texts t settled more, seen (texts ++ more), seen texts)
   where
     seen : (ts : List Text) → slice_index_or (headings_value ts (frame_headings t)) place (Some (int (pos 0))) ≡ heading_value ts (Some l)
     seen ts = grind (arith, get_or-map (heading_value ts) (frame_headings t) place (frame_heading None), get_or-map frame_heading t.headings place None)
@@ -49,20 +45,13 @@ label_settled _ t place h l is tuple settled = λ more. sym (seen _) ∙ ap (λ 
 abbrev pub stands_from : List Text → Label → NumberedTable → ℕ → Bool
 stands_from texts l t place = list_any (same_heading (heading_value texts (Some l))) (headings_value texts (drop place (frame_headings t)))
 
-abbrev or_later : Bool → Bool → Bool
-or_later here later = here || later
+module _ (texts : List Text) (l other : Label) (t : NumberedTable) (place : ℕ) (h : Option Label) (b whole : Bool) (lt : place < length t.headings) (is : h ≡ slice_index_or t.headings place None) (tuple : column_tuple h ≡ other ∷ [])
+    (same : b ≡ same_heading (heading_value texts (Some l)) (heading_value texts (Some other))) where
+  pub label_met : b ≡ true → stands_from texts l t place ≡ whole → true ≡ whole
+  label_met = grind (arith, next_heading t place h other lt is tuple)
 
-stands_at : (texts : List Text) (l other : Label) (t : NumberedTable) (place : ℕ) (h : Option Label) (b : Bool) → place < length t.headings → h ≡ slice_index_or t.headings place None → column_tuple h ≡ other ∷ []
-    → b ≡ same_heading (heading_value texts (Some l)) (heading_value texts (Some other)) → stands_from texts l t place ≡ or_later b (stands_from texts l t (place + 1))
-stands_at _ l _ t _ h b lt is tuple same = grind (arith, next_heading)
-
-pub label_met : (texts : List Text) (l other : Label) (t : NumberedTable) (place : ℕ) (h : Option Label) (b whole : Bool) → place < length t.headings → h ≡ slice_index_or t.headings place None → column_tuple h ≡ other ∷ []
-    → b ≡ same_heading (heading_value texts (Some l)) (heading_value texts (Some other)) → b ≡ true → stands_from texts l t place ≡ whole → true ≡ whole
-label_met texts l other t place h b _ lt is tuple same so before = cc (stands_at texts l other t place h b lt is tuple same)
-
-pub label_passed : (texts : List Text) (l other : Label) (t : NumberedTable) (place : ℕ) (h : Option Label) (b whole : Bool) → place < length t.headings → h ≡ slice_index_or t.headings place None → column_tuple h ≡ other ∷ []
-    → b ≡ same_heading (heading_value texts (Some l)) (heading_value texts (Some other)) → b ≡ false → stands_from texts l t place ≡ whole → stands_from texts l t (place + 1) ≡ whole
-label_passed texts l other t place h b _ lt is tuple same so before = cc (stands_at texts l other t place h b lt is tuple same)
+  pub label_passed : b ≡ false → stands_from texts l t place ≡ whole → stands_from texts l t (place + 1) ≡ whole
+  label_passed = grind (arith, next_heading t place h other lt is tuple)
 
 -- the label of a nameless level, by what the labels of the columns are
 abbrev pub label_if : Bool → ℕ → LabelValue
@@ -71,13 +60,21 @@ label_if free level = if free then meant.index_label else numbered_label level
 levels_counted : (texts : List Text) (t : NumberedTable) → length (as_frame (table_value texts t)).level_names ≡ length t.level_names
 levels_counted = search length-map
 
-pub one_nameless : (old new : List Text) (t : NumberedTable) (index : Label) (there : Bool) (level : ℕ) → length t.level_names ≡ 1 → IsLonger old new → IsSettled table_value old t → label_datum new index ≡ meant.index_label
-    → there ≡ list_any (same_heading (heading_value new (Some index))) (headings_value new (frame_headings t)) → nameless_label (as_frame (table_value old t)) level ≡ label_if (not there) level
-one_nameless = grind (arith, nat_eq, levels_counted, seen_later, headings_seen, nat_tests)
+-- a text that gets a number
+pub interned : (old new : List Text) (words : Text) → new ≡ with_text old words → IsLonger old new
+interned = grind (arith, append-nil)
 
 -- a text that was given its number, as a label
 pub text_seen : (texts : List Text) (id : TextId) (words : Text) → slice_get texts id.0 ≡ Some words → label_datum texts (label.Text id) ≡ text words
 text_seen = search get_or_from_slice_get
+
+-- the label of the one level, by the text "index" that got its number
+pub one_nameless : (old new : List Text) (t : NumberedTable) (id : TextId) (there : Bool) (level : ℕ) → length t.level_names ≡ 1 → new ≡ with_text old (codes "index") → IsSettled table_value old t → slice_get new id.0 ≡ Some (codes "index")
+    → there ≡ list_any (same_heading (heading_value new (Some (label.Text id)))) (headings_value new (frame_headings t)) → nameless_label (as_frame (table_value old t)) level ≡ label_if (not there) level
+one_nameless old new t id there level one grown settled given is =
+    let longer = interned old new (codes "index") grown in
+    let seen = text_seen new id (codes "index") given in
+    grind (arith, nat_eq, levels_counted, seen_later, headings_seen, nat_tests)
 
 -- the name of a level
 pub level_named : (texts : List Text) (t : NumberedTable) (level : ℕ) (o : Option Label) → slice_get t.level_names level ≡ Some o
@@ -86,7 +83,7 @@ level_named texts t level o at =
     cc (get_or-map (heading_value texts) t.level_names level None, get_or_from_slice_get t.level_names level o None at)
 
 pub name_settled : (texts : List Text) (t : NumberedTable) (level : ℕ) (o : Option Label) → slice_get t.level_names level ≡ Some o → IsSettled table_value texts t → IsSettled heading_value texts o
-name_settled _ t level o at settled = λ more. sym (seen _) ∙ ap (λ hs. slice_index_or hs level None) (level_names_part _ t settled more) ∙ seen _
+name_settled texts t level o at settled = λ more. cc (level_names_part texts t settled more, seen (texts ++ more), seen texts)
   where
     seen : (ts : List Text) → slice_index_or (headings_value ts t.level_names) level None ≡ heading_value ts o
     seen ts = cc (get_or-map (heading_value ts) t.level_names level None, get_or_from_slice_get t.level_names level o None at)
@@ -96,11 +93,7 @@ abbrev label_of_level : Table → ℕ → Option LabelValue
 label_of_level v level = Some (meant.level_label v level)
 
 pub one_more_given : (old new : List Text) (l : Label) (labels labels' : List (Option Label)) → IsLonger old new → IsSettled headings_value old labels → IsSettled label_datum new l → labels' ≡ labels ++ Some l ∷ [] → IsSettled headings_value new labels'
-one_more_given old new l labels _ longer given here pushed =
-    subst (IsSettled headings_value new) (sym pushed) (λ more.
-    map-append (heading_value (new ++ more)) labels (Some l ∷ [])
-    ∙ (λ j. settled_later headings_value old new _ longer given more j ++ Some (here more j) ∷ [])
-    ∙ sym (map-append (heading_value new) labels (Some l ∷ [])))
+one_more_given old new l labels _ longer given here pushed = rw pushed (λ more. cc (map-append (heading_value (new ++ more)) labels (Some l ∷ []), map-append (heading_value new) labels (Some l ∷ []), settled_later headings_value old new labels longer given more, here more))
 
 pub all_levels : (texts first : List Text) (t : NumberedTable) (level : ℕ) (labels : List (Option Label)) → level ≡ length t.level_names → headings_value texts labels ≡ map (label_of_level (as_frame (table_value first t))) (range_with_len 0 level)
     → headings_value texts labels ≡ map (λ l. Some l) (meant.level_labels (as_frame (table_value first t)))
@@ -118,12 +111,7 @@ labels_meant = grind (arith, map-append, headings_seen, seen_later)
 pub one_more_heading : (t : NumberedTable) (place : ℕ) (h : Option Label) (l : Label) (first labels labels' : List (Option Label)) → place < length t.headings → h ≡ slice_index_or t.headings place None → column_tuple h ≡ l ∷ []
     → labels' ≡ labels ++ Some l ∷ [] → labels ≡ first ++ take place (frame_headings t) → labels' ≡ first ++ take (place + 1) (frame_headings t)
 one_more_heading t place h l _ _ _ lt is tuple pushed before =
-    let within : place < length (frame_headings t) = omega (arith, lt, length-map t.headings frame_heading) in
-    let here : slice_index_or (frame_headings t) place (frame_heading None) ≡ Some l = grind (arith, get_or-map frame_heading t.headings place None) in
-    grind (arith, append_assoc, take_more)
-
-pub all_headings : (t : NumberedTable) (place : ℕ) (first labels : List (Option Label)) → place ≡ length t.headings → labels ≡ first ++ take place (frame_headings t) → labels ≡ first ++ frame_headings t
-all_headings = grind (arith, take_all, length-map)
+    grind (arith, append_assoc, take_more (frame_headings t) place (frame_heading None), get_or-map frame_heading t.headings place None, length-map t.headings frame_heading)
 
 -- one column more
 pub one_more_column : (t : NumberedTable) (place : ℕ) (c : CellColumn) (first blocks blocks' : List CellBlock) → place < length t.columns → column_at t.columns place ≡ table_column c → blocks' ≡ blocks ++ single_block (table_column c) ∷ []
@@ -133,25 +121,5 @@ one_more_column = grind (arith, map-append, append_assoc, take_more)
 pub one_more_single : (c : CellColumn) (blocks blocks' : List CellBlock) → blocks' ≡ blocks ++ single_block (table_column c) ∷ [] → All IsSingle blocks → All IsSingle blocks'
 one_more_single c blocks _ pushed single = rw pushed (All-append IsSingle blocks (single_block (table_column c) ∷ []) single (grind arith))
 
-pub all_columns : (t : NumberedTable) (place : ℕ) (first blocks : List CellBlock) → place ≡ length t.columns → map block_column blocks ≡ map block_column first ++ take place t.columns → map block_column blocks ≡ map block_column first ++ t.columns
-all_columns = grind (arith, take_all)
-
--- the columns of the levels, and then those of the table
-pub columns_made : (texts : List Text) (t : NumberedTable) (blocks blocks' : List CellBlock) → levels.level_columns texts (axis_of t) ≡ Ok (blocks_value texts blocks) → map block_column blocks' ≡ map block_column blocks ++ t.columns
-    → reset_columns texts t ≡ Ok (blocks_value texts blocks')
-columns_made = grind (arith, map-append)
-
-pub columns_refused : (texts : List Text) (t : NumberedTable) (fault : OpFault) → MakesBy blocks_value texts (Err fault) (levels.level_columns texts (axis_of t)) → MakesBy blocks_value texts (Err fault) (reset_columns texts t)
-columns_refused = grind arith
-
--- a text that gets a number
-pub interned : (old new : List Text) (words : Text) → new ≡ with_text old words → IsLonger old new
-interned = grind (arith, append-nil)
-
-got_below : {X : Type 0} (xs : List X) (i : ℕ) (x : X) → slice_get xs i ≡ Some x → i < length xs
-got_below [] i x is = cc
-got_below (y ∷ ys) zero x is = omega arith
-got_below (y ∷ ys) (suc i) x is = grind (arith, got_below ys)
-
 pub text_settled : (texts : List Text) (id : TextId) (words : Text) → slice_get texts id.0 ≡ Some words → IsSettled label_datum texts (label.Text id)
-text_settled _ id _ given = label_settled_by _ (label.Text id) (cell.Text id) (λ ts. refl) (cell_settled _ (cell.Text id) (got_below _ _ _ given))
+text_settled _ id _ given = label_settled_by _ (label.Text id) (cell.Text id) (λ ts. refl) (cell_settled _ (cell.Text id) (slice_get_within _ _ _ given))

@@ -1,15 +1,14 @@
 -- The frame that the levels and the columns of a table become.
 use Rattle.{
-  std.{proofs.{Common.{arith, ◌≡◌, ◌∙◌, refl, ap, sym, subst, ℕ, pos, ◌+◌, Bool, true, false, List, [], ◌∷◌, ◌++◌, map, length, slice_index_or, All, Option, Some, None, Result, Ok, Err, if◌then◌else◌, length-append}, Math.ListN.{get_or-map}, lemmas.List.{length-map, Elements.{All-cons, All-nil, All-append, All-head, All-tail}, FromFn.{length-range_with_len, length-map-range_with_len}}}, specs.{Prelude.{IsSome, IfOk}, List.{range_with_len}}},
+  std.{proofs.{Common.{arith, ◌≡◌, ◌∙◌, refl, sym, subst, ℕ, ◌+◌, true, false, List, [], ◌∷◌, ◌++◌, map, length, slice_index_or, All, Option, Some, None, Result, Ok, Err, length-append}, Math.ListN.{get_or-map}, lemmas.List.{length-map, Elements.{All-nil, All-append, All-map}, FromFn.{length-range_with_len, length-map-range_with_len}}}, specs.{Prelude.{IsSome, IfOk}, List.{range_with_len}}},
   cell_core.specs.{Texts.{AreDistinct}, declared.{cell.{Cell.{Cell}, Label.{Label, TheVariants.{Na}}}, grid.Shape.TheVariants.{Frame}}},
   column_core.specs.Blocks.{CellBlock},
-  index_core.specs.Ranges.{number_label},
-  meaning.specs.{Text.{Text}, Cell.{CellValue, LabelValue, na, int, datum, label_datum, IsLonger}, Fault.{FaultValue, limit, then_value}, FaultOf.{fault_of}},
-  multi_index.specs.Axes.{AxisValue, range_axis, single_tuples},
-  table_meaning.specs.{Change.{with_labels}, Settled.{IsSettled}, Table.{ColumnOf, NumberedTable, Table, table_value, heading_value, tuple_value, column_value}, Valid.{IsWhole}, Value.{Entry, table}},
+  meaning.specs.{Text.{Text}, Cell.{CellValue, na, datum, label_datum, IsLonger}, Fault.{FaultValue, limit, then_value}},
+  multi_index.specs.Axes.{AxisValue, range_axis},
+  table_meaning.specs.{Change.{with_labels}, Settled.{IsSettled}, Table.{ColumnOf, NumberedTable, Table, table_value, heading_value, tuple_value, column_value}, Valid.{IsWhole}, Value.{Entry}},
   form_meaning.specs.{Finish.{within_limits, limited, finished, unless_repeated, default_labels, try_all}, Set.{list_column}},
   method_meaning.specs.{Levels.{label_cell, level_labels, levels_reset, renumbered}, Methods.{as_frame}},
-  form_parts.{specs.Makes.{MakesBy, blocks_value, AreColumns}, proofs.TableMade.{refused_on}},
+  form_parts.{specs.Makes.{MakesBy, blocks_value, AreColumns}, proofs.{LabelLaws.{default_seen}, TableMade.{refused_on}}},
   frame_store.{specs.{Parts.{HeadingList, axis_of, table_of, IsSingle}, Shown.{labels_value, headings_value, columns_value, cells_value, Makes}, declared.fault.OpFault.{OpFault, TheVariants.{Refused, NoMemory}}}, proofs.Settling.{seen_later, settled_by, columns_given, columns_name_part, columns_settled, table_settled}},
   selections.{specs.Headings.{NamesRepeated, repeated_heading}, proofs.{HeadingLaws.{repeated_seen, different}, RefusalLaws.{repeated_settled}}},
   label_methods.specs.{LevelColumns.{cell_of}, Resets.{reset_columns, reset_headings, reset_frame}},
@@ -23,7 +22,7 @@ cell_seen = grind arith
 
 cells_seen : (texts : List Text) (tuples : List (List Label)) (level : ℕ) → cells_value texts (map (λ tuple. cell_of (slice_index_or tuple level Na)) tuples) ≡ map (λ tuple. label_cell (slice_index_or tuple level na)) (labels_value texts tuples)
 cells_seen _ [] _ = refl
-cells_seen texts (t ∷ ts) level = λ j. (cell_seen _ _ ∙ ap label_cell (sym (get_or-map (label_datum texts) t level Na))) j ∷ cells_seen texts ts level j
+cells_seen texts (t ∷ ts) level = grind (arith, cell_seen, get_or-map (label_datum texts) t level Na, cells_seen texts ts level)
 
 -- the columns of the levels
 columns_seen : (texts : List Text) (t : NumberedTable) → levels.level_columns texts (axis_of t) ≡ meant.level_columns (as_frame (table_value texts t))
@@ -44,18 +43,15 @@ reset_by = grind (arith, all_seen)
 -- a level of two kinds
 pub reset_refused : (texts : List Text) (t : NumberedTable) (made : Result (List CellBlock) OpFault) (fault : OpFault) → made ≡ Err fault → MakesBy blocks_value texts made (reset_columns texts t)
     → Makes texts (Err fault) (levels_reset (as_frame (table_value texts t)))
-reset_refused texts t _ fault is makes =
-    subst (λ r. Makes texts (Err fault) r) (sym (reset_by _ t _ refl)) (search refused_on)
+reset_refused texts t _ fault is makes = rw (reset_by texts t (table_value texts t) refl) (grind (arith, refused_on))
 
 -- all of it
 pub reset_made : (old new : List Text) (t : NumberedTable) (labels : List (Option Label)) (blocks : List CellBlock) → IsLonger old new → IsSettled table_value old t → headings_value new labels ≡ reset_headings (as_frame (table_value old t))
     → reset_columns new t ≡ Ok (blocks_value new blocks)
     → finished (reset_frame (table_value new t) (headings_value new labels) (blocks_value new blocks)) ≡ levels_reset (as_frame (table_value old t))
 reset_made old new t _ blocks longer settled headed made =
-    let same : table_value new t ≡ table_value old t = grind (arith, seen_later) in
-    (λ j. finished (reset_frame (same j) (headed j) (blocks_value new blocks)))
-    ∙ ap (λ r. then_value r (finished_as (table_value old t))) (sym made)
-    ∙ sym (reset_by _ t _ (sym same))
+    let same = seen_later table_value old new t longer settled in
+    cc (reset_by new t (table_value old t) (sym same))
 
 -- what is made of each
 tried : {A B : Type 0} (P : B → Type 0) (f : A → Result B FaultValue) → ((a : A) → IfOk (f a) P) → (xs : List A) → IfOk (try_all f xs) (λ ys. (length ys ≡ length xs) × All P ys)
@@ -69,35 +65,20 @@ listed : (n : ℕ) (cells : List CellValue) → length cells ≡ n → IfOk (lis
 listed = grind arith
 
 rows_seen : (texts : List Text) (n : ℕ) (cs : List (ColumnOf Cell)) → All (HasRows n) cs → All (HasRows n) (columns_value texts cs)
-rows_seen _ n [] _ = All-nil (HasRows n)
-rows_seen texts n (c ∷ cs) all = All-cons (HasRows n) (column_value texts c) (columns_value texts cs) (length-map c.cells _ ∙ All-head (HasRows n) c cs all) (rows_seen _ n cs (All-tail (HasRows n) c cs all))
+rows_seen texts n cs all = All-map (HasRows n) (column_value texts) cs (λ k d lt. length-map _ (datum texts) ∙ all k d lt)
 
 rows_numbered : (texts : List Text) (n : ℕ) (cs : List (ColumnOf Cell)) → All (HasRows n) (columns_value texts cs) → All (HasRows n) cs
-rows_numbered _ n [] _ = All-nil (HasRows n)
-rows_numbered texts n (c ∷ cs) all =
-    All-cons (HasRows n) c cs (sym (length-map c.cells _) ∙ All-head (HasRows n) (column_value texts c) (columns_value texts cs) all) (rows_numbered _ n cs (All-tail (HasRows n) (column_value texts c) (columns_value texts cs) all))
+rows_numbered texts n cs all k d lt = grind (arith, all k (column_value texts d), get_or-map (column_value texts) cs k d, length-map)
 
 -- the columns that were made
 abbrev IsMadeOf : NumberedTable → List (ColumnOf CellValue) → Type 0
 IsMadeOf t ys = (length ys ≡ length t.level_names + length t.columns) × All (HasRows (length t.labels)) ys
 
 made_of : (texts : List Text) (t : NumberedTable) → IsWhole t → IfOk (reset_columns texts t) (IsMadeOf t)
-made_of texts t whole = go _ (search (tried, each))
-  where
-    each : (level : ℕ) → IfOk (levels.level_column texts (axis_of t) level) (HasRows (length t.labels))
-    each _ = search (listed, length-map)
-
-    go : (r : Result (List (ColumnOf CellValue)) FaultValue) → IfOk r (λ ys. (length ys ≡ length (range_with_len 0 (length t.level_names))) × All (HasRows (length t.labels)) ys)
-        → IfOk (then_value r (λ columns. Ok (columns ++ columns_value texts t.columns))) (IsMadeOf t)
-    go (Ok ys) h = (
-      grind (arith, length-append, length-range_with_len, length-map),
-      All-append (HasRows (length t.labels)) ys (columns_value texts t.columns) h.1 (rows_seen _ _ _ whole.filled),
-    )
-    go (Err fault) h = tt
-
-abbrev columns_or : Result (List (ColumnOf CellValue)) FaultValue → List (ColumnOf CellValue)
-columns_or (Ok columns) = columns
-columns_or (Err fault) = []
+made_of texts t whole =
+    let each : (level : ℕ) → IfOk (levels.level_column texts (axis_of t) level) (HasRows (length t.labels)) = λ level. search (listed, length-map) in
+    let own = rows_seen texts (length t.labels) t.columns whole.filled in
+    grind (arith, tried (HasRows (length t.labels)) (levels.level_column texts (axis_of t)) each (range_with_len 0 (length t.level_names)), length-append, length-range_with_len, length-map, own, All-append (HasRows {C = CellValue} (length t.labels)))
 
 pub columns_are : (texts : List Text) (t : NumberedTable) (blocks : List CellBlock) (count : ℕ) → IsWhole t → IsSettled table_value texts t → All IsSingle blocks → ((texts : List Text) → reset_columns texts t ≡ Ok (blocks_value texts blocks))
     → length t.level_names + length t.columns ≡ count → AreColumns texts (length t.labels) count blocks
@@ -113,32 +94,19 @@ columns_are texts t blocks count whole settled single made is =
 
 -- the labels that were made
 labels_some : (texts : List Text) (hs : List (Option Label)) → All IsSome (headings_value texts hs) → All IsSome hs
-labels_some _ [] _ = All-nil IsSome
-labels_some texts (h ∷ hs) all = All-cons IsSome h hs (one h (All-head IsSome (heading_value texts h) (headings_value texts hs) all)) (labels_some _ hs (All-tail IsSome (heading_value texts h) (headings_value texts hs) all))
-  where
-    one : (h : Option Label) → IsSome (heading_value texts h) → IsSome h
-    one None some = cc
-    one (Some l) _ = refl
-
-all_some : {X : Type 0} (f : X → LabelValue) (xs : List X) → All IsSome (map (λ x. Some (f x)) xs)
-all_some f [] = All-nil IsSome
-all_some f (x ∷ xs) = grind (arith, all_some f xs)
+labels_some texts hs all k d lt = grind (arith, all k (heading_value texts d), get_or-map (heading_value texts) hs k d, length-map)
 
 pub reset_some : (old new : List Text) (t : NumberedTable) (labels : List (Option Label)) → headings_value new labels ≡ reset_headings (as_frame (table_value old t)) → All IsSome labels
 reset_some old new t _ is =
     let F = as_frame (table_value old t) in
-    labels_some new _ (rw is (All-append IsSome (map (λ l. Some l) (level_labels F)) F.headings (all_some (λ l. l) _) (all_some _ _)))
+    labels_some new _ (rw is (All-append IsSome (map (λ l. Some l) (level_labels F)) F.headings (search All-map) (search All-map)))
 
 -- the labels 0, 1 and so on
-range_from : (texts : List Text) (ns : List ℕ) → labels_value texts (single_tuples (map number_label ns)) ≡ map (λ k. int (pos k) ∷ []) ns
-range_from _ [] = refl
-range_from texts (n ∷ ns) = search (range_from texts ns)
-
 range_count : (n : ℕ) → length (default_labels n) ≡ n
 range_count = search length-map-range_with_len
 
 pub range_rows : (n : ℕ) (axis : AxisValue) → axis ≡ range_axis n → length axis.tuples ≡ n
-range_rows n axis is = cc (length-map axis.tuples (tuple_value []), range_from [] (range_with_len 0 n), range_count n)
+range_rows n axis is = cc (length-map axis.tuples (tuple_value []), default_seen [] n, range_count n)
 
 -- the table of these parts
 abbrev pub own_headings : NumberedTable → List (Option Label) → HeadingList
@@ -152,38 +120,35 @@ pub parts_whole : (texts : List Text) (t : NumberedTable) (rows : ℕ) (axis : A
 parts_whole = grind (arith, range_rows, length-map, different)
 
 -- a label that stands again
-parts_headed : (texts : List Text) (u : Table) (labels : List (Option Label)) (found : Option Label) → AreDistinct texts → IsSettled headings_value texts labels → u.headings ≡ headings_value texts labels → repeated_heading labels ≡ found
-    → finished u ≡ unless_repeated (heading_value texts found) (limited u)
-parts_headed = grind (arith, repeated_seen)
+module _ (texts : List Text) (labels : List (Option Label)) (distinct : AreDistinct texts) (given : IsSettled headings_value texts labels) where
+  parts_headed : (u : Table) (found : Option Label) → u.headings ≡ headings_value texts labels → repeated_heading labels ≡ found → finished u ≡ unless_repeated (heading_value texts found) (limited u)
+  parts_headed = grind (arith, repeated_seen)
 
-pub parts_repeated : (texts : List Text) (u : Table) (labels : List (Option Label)) (why : OpFault) → AreDistinct texts → IsSettled headings_value texts labels → u.headings ≡ headings_value texts labels
-    → NamesRepeated why (repeated_heading labels) → Makes texts (Err why) (finished u)
-parts_repeated texts u _ (Refused code) distinct settled headed named = (
-  parts_headed _ u _ _ distinct settled headed named.1 ∙ ap (λ c. Err (fault_of texts c)) (sym named.2),
-  search repeated_settled,
-)
-parts_repeated _ u _ NoMemory _ _ _ _ = tt
+  pub parts_repeated : (u : Table) (why : OpFault) → u.headings ≡ headings_value texts labels → NamesRepeated why (repeated_heading labels) → Makes texts (Err why) (finished u)
+  parts_repeated u (Refused code) headed named = grind (arith, parts_headed u _ headed named.1, repeated_settled)
+  parts_repeated u NoMemory _ _ = tt
 
--- beyond the limits, or within them
-abbrev if_within : Table → Bool → Result Entry FaultValue
-if_within u b = then_value (if b then Ok u else Err limit) (λ u. Ok (table u))
+  -- beyond the limits, or within them
+  module _ (t : NumberedTable) (blocks : List CellBlock) (none : repeated_heading labels ≡ None) where
+    abbrev frame : Table
+    frame = reset_frame (table_value texts t) (headings_value texts labels) (blocks_value texts blocks)
 
-pub parts_beyond : (texts : List Text) (t : NumberedTable) (labels : List (Option Label)) (blocks : List CellBlock) → AreDistinct texts → IsSettled headings_value texts labels → repeated_heading labels ≡ None
-    → within_limits (length t.labels) (length blocks) ≡ false → finished (reset_frame (table_value texts t) (headings_value texts labels) (blocks_value texts blocks)) ≡ Err limit
-parts_beyond = grind (arith, parts_headed, range_count, length-map)
+    headed : finished frame ≡ limited frame
+    headed = parts_headed frame None refl none
 
-pub parts_made : (texts : List Text) (t made : NumberedTable) (rows : ℕ) (labels : List (Option Label)) (blocks : List CellBlock) → AreDistinct texts → IsSettled table_value texts t → IsSettled headings_value texts labels
-    → AreColumns texts (length t.labels) (length labels) blocks → repeated_heading labels ≡ None → within_limits (length t.labels) (length blocks) ≡ true → rows ≡ length t.labels → made ≡ parts_table t rows labels blocks
-    → Makes texts (Ok made) (finished (reset_frame (table_value texts t) (headings_value texts labels) (blocks_value texts blocks)))
-parts_made texts t _ _ _ _ distinct settled given columns none within is same = (
-  grind (arith, parts_headed, range_count, length-map, range_from),
-  subst (IsSettled table_value texts) (sym same)
-      (search (table_settled, columns_name_part, range_from, columns_settled)),
-)
+    pub parts_beyond : within_limits (length t.labels) (length blocks) ≡ false → finished frame ≡ Err limit
+    parts_beyond = grind (arith, headed, range_count, length-map)
+
+    pub parts_made : (made : NumberedTable) (rows : ℕ) → IsSettled table_value texts t → AreColumns texts (length t.labels) (length labels) blocks → within_limits (length t.labels) (length blocks) ≡ true → rows ≡ length t.labels → made ≡ parts_table t rows labels blocks
+        → Makes texts (Ok made) (finished frame)
+    parts_made _ _ settled columns within is same = (
+      grind (arith, headed, range_count, length-map, default_seen),
+      subst (IsSettled table_value texts) (sym same) (search (table_settled, columns_name_part, default_seen, columns_settled)),
+    )
 
 pub renumbered_beyond : (texts : List Text) (t : NumberedTable) → within_limits (length t.labels) (length t.columns) ≡ false → limited (renumbered (table_value texts t)) ≡ Err limit
 renumbered_beyond = grind (arith, range_count, length-map)
 
 pub renumbered_made : (texts : List Text) (t made : NumberedTable) (axis : AxisValue) (rows : ℕ) → axis ≡ range_axis rows → rows ≡ length t.labels → within_limits (length t.labels) (length t.columns) ≡ true → IsSettled table_value texts t
     → made ≡ with_labels t axis.tuples axis.names → Makes texts (Ok made) (limited (renumbered (table_value texts t)))
-renumbered_made = grind (arith, range_count, length-map, range_from, settled_by)
+renumbered_made = grind (arith, range_count, length-map, default_seen, settled_by)

@@ -1,13 +1,13 @@
 -- Rows by their label on one level.
 use Rattle.{
-  std.{proofs.{Common.{◌≡◌, ◌∙◌, refl, ap, sym, arith, ℕ, true, false, List, [], ◌∷◌, map, length, slice_index_or, Result, Ok, Err}, Math.ListN.{get_or-map}, lemmas.List.{length-map, FromFn.{length-range_with_len}, Elements.{All-map}}}, specs.{Prelude.{◌≢◌, remove}, List.{range_with_len}}},
+  std.{proofs.{Common.{◌≡◌, ◌∙◌, ◌++◌, refl, ap, sym, arith, ℕ, true, false, List, [], ◌∷◌, map, length, slice_index_or, Ok, Err}, Math.ListN.{get_or-map}, lemmas.List.{length-map, FromFn.{length-range_with_len}, Elements.{All-map}}}, specs.{Prelude.{◌≢◌, remove}, List.{range_with_len}}},
   cell_core.specs.{Texts.{AreDistinct}, declared.{cell.Label.{Label, TheVariants.{Na}}, grid.Shape.{Shape}}},
   column_core.specs.Blocks.{CellBlock},
-  meaning.specs.{Cell.{LabelValue, na, label_datum}, Fault.{FaultValue, no_key, limit, then_value}, Text.{Text}},
+  meaning.specs.{Cell.{LabelValue, na, label_datum}, Fault.{no_key, limit}, Text.{Text}},
   row_keys.specs.Keys.{label_in},
   multi_index.specs.Axes.{AxisValue, taken_axis, tuples_at, without_level},
   pick_meaning.{specs.{Labels.{unless_none}, Rows.{rows_where}}, proofs.RowLaws.{rows_where-map}},
-  table_meaning.specs.{Settled.{IsSettled}, Table.{NumberedTable, Table, column_at, table_value, tuple_value}, Valid.{IsWhole}, Value.{Entry}},
+  table_meaning.specs.{Settled.{IsSettled}, Table.{NumberedTable, Table, column_at, table_value, tuple_value}, Valid.{IsWhole}},
   form_meaning.specs.{Binding.{same_label}, Finish.{within_limits, limited}},
   form_parts.proofs.{LabelLaws.{same_by_number}, RowLaws.{tuples_settled}},
   select_meaning.specs.{Keys.{found_pick}, Select.{rows_taken}},
@@ -24,8 +24,7 @@ module _ (texts : List Text) where
 
 module _ (texts : List Text) (distinct : AreDistinct texts) (l : Label) (given : IsSettled label_datum texts l) (level : ℕ) where
   label_given : (tuple : List Label) → IsSettled tuple_value texts tuple → IsSettled label_datum texts (label_in level tuple)
-  label_given tuple settled = λ more.
-      sym (label_there _ tuple _) ∙ ap (λ t. slice_index_or t level na) (settled more) ∙ label_there _ tuple _
+  label_given tuple settled = λ more. cc (label_there (texts ++ more) tuple level, label_there texts tuple level, settled more)
 
   has_seen : (tuple : List Label) → IsSettled tuple_value texts tuple → has_label level (label_datum texts l) (tuple_value texts tuple) ≡ has_number level l tuple
   has_seen tuple settled =
@@ -57,17 +56,7 @@ section_whole t rows level whole =
       headings = whole.headings;
     }
 
--- another level stays, or none does
-levels_counted : (texts : List Text) (t : NumberedTable) → length (table_value texts t).level_names ≡ length t.level_names
-levels_counted = search length-map
-
 -- what is meant, by the rows that are found
-some_there : (key : List LabelValue) (rows : List ℕ) → length rows ≢ 0 → found_pick (unless_none key rows) ≡ Ok rows
-some_there = grind arith
-
-none_there : (key : List LabelValue) (rows : List ℕ) → length rows ≡ 0 → found_pick (unless_none key rows) ≡ Err (no_key key)
-none_there = grind arith
-
 module _ (texts : List Text) (distinct : AreDistinct texts) (t : NumberedTable) (l : Label) (level : ℕ) (rows : List ℕ) (given : IsSettled label_datum texts l) (settled : IsSettled table_value texts t) (is : rows ≡ rows_where (has_number level l) 0 t.labels) where
   abbrev V : Table
   V = table_value texts t
@@ -78,14 +67,11 @@ module _ (texts : List Text) (distinct : AreDistinct texts) (t : NumberedTable) 
   found : rows_with_label V key level ≡ found_pick (unless_none (key ∷ []) rows)
   found = grind (arith, rows_by_number, labels_part)
 
-  abbrev go : Result (List ℕ) FaultValue → Result Entry FaultValue
-  go r = then_value r (λ rows. limited (level_dropped (rows_taken V rows) level))
-
   pub section_missing : length rows ≡ 0 → section V key level ≡ Err (no_key (key ∷ []))
-  section_missing = search (found, none_there)
+  section_missing = grind (arith, found)
 
   meant : length rows ≢ 0 → section V key level ≡ limited (level_dropped (rows_taken V rows) level)
-  meant = search (found, some_there)
+  meant = grind (arith, found)
 
   tall : length (level_dropped (rows_taken V rows) level).labels ≡ length rows
   tall = search length-map
@@ -94,7 +80,7 @@ module _ (texts : List Text) (distinct : AreDistinct texts) (t : NumberedTable) 
   broad = search length-map
 
   pub section_beyond : length rows ≢ 0 → within_limits (length rows) (length t.columns) ≡ false → section V key level ≡ Err limit
-  section_beyond some beyond = grind (arith, meant, limited_beyond, tall, broad)
+  section_beyond = grind (arith, meant, limited_beyond, tall, broad)
 
   pub section_answer : (made : NumberedTable) → length rows ≢ 0 → within_limits (length rows) (length t.columns) ≡ true → made ≡ section_of t rows level → Makes texts (Ok made) (section V key level)
   section_answer _ some within same = grind (arith, meant, tall, broad, section_seen, settled_by)

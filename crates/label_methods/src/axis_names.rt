@@ -76,6 +76,7 @@ pub fn rename_axis(
 
 /// The table with the labels 0, 1 and so on in place of its own, or `Limit`. `NoMemory` may come in
 /// place of any answer.
+#[tactic(auto, using(crate::proofs::Hints::renumber))]
 pub fn renumber(alloc: Global, on: &ObjRef<'_>) -> Result<Table, OpFault>
     requires { IsWhole on.now }
     ensures { (texts : List OneText) → IsSettled table_value texts on.now

@@ -31,6 +31,7 @@ fn column_tuples(alloc: Global, on: &ObjRef<'_>) -> Result<Tuples, NoMemory>
 
 /// The axis of the labels of the columns, whose level has the columns' name. `NoMemory` is the only
 /// refusal.
+#[tactic(auto, using(crate::proofs::ColumnLabelLaws::tuples_alike))]
 pub fn columns_axis(alloc: Global, dict: &TextDict, on: &ObjRef<'_>) -> Result<Axis, NoMemory>
     requires { length on.now.headings ≡ length on.now.columns }
     ensures { IfOk result (λ axis. axis ≡ record {

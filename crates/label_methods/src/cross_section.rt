@@ -40,6 +40,7 @@ fn rows_with_label(
 }
 
 // The table of these rows without a level; another one stays.
+#[tactic(auto, using(selections::proofs::PickedLaws::places_inside))]
 fn rows_without_level(
     alloc: Global,
     on: &ObjRef<'_>,
@@ -61,6 +62,7 @@ fn rows_without_level(
 }
 
 // The rows that have the label on a level, without that level; another one stays.
+#[tactic(auto, using(crate::proofs::Hints::section))]
 fn section(
     alloc: Global,
     dict: &TextDict,

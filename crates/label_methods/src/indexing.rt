@@ -66,6 +66,7 @@ fn cell_labels(alloc: Global, column: &ColRef<'_>) -> Result<Vec<Label>, NoMemor
 }
 
 // The axis of the cells in these columns, without names. Of one column no tuple is made.
+#[tactic(auto, using(crate::proofs::Hints::cells_axis))]
 fn cells_axis(
     alloc: Global,
     dict: &TextDict,

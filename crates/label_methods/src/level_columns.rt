@@ -93,6 +93,7 @@ fn level_column(alloc: Global, axis: &Axis, level: usize) -> Result<Column, OpFa
 }
 
 // The levels as columns, each in a block of its own.
+#[tactic(auto, using(crate::proofs::LevelColumnLaws::levels_end))]
 pub(crate) fn level_columns(alloc: Global, axis: &Axis) -> Result<Blocks, OpFault>
     ensures single { IfOk result (All IsSingle) }
     ensures columns { (texts : List OneText) → MakesBy blocks_value texts result

@@ -50,6 +50,7 @@ fn numbered_level(levels: usize, number: i64) -> Result<usize, OpFault>
 }
 
 // The first level of the name.
+#[tactic(auto, using(crate::proofs::Hints::place_of_name))]
 fn place_of_name(dict: &TextDict, on: &ObjRef<'_>, name: Label) -> Option<usize>
     requires names { IsSettled headings_value dict.now on.now.level_names }
     requires name { IsSettled label_datum dict.now name }
@@ -121,6 +122,7 @@ fn under_within(alloc: Global, on: &ObjRef<'_>, axis: Axis) -> Result<Table, OpF
 }
 
 // The table without a level; another one must stay.
+#[tactic(auto, using(crate::proofs::Hints::without_level))]
 fn without_level(alloc: Global, on: &ObjRef<'_>, level: usize) -> Result<Table, OpFault>
     requires whole { IsWhole on.now }
     requires level { level < length on.now.level_names }
@@ -135,6 +137,7 @@ fn without_level(alloc: Global, on: &ObjRef<'_>, level: usize) -> Result<Table, 
 }
 
 // The table with two levels exchanged, each with its name.
+#[tactic(auto, using(crate::proofs::Hints::with_swapped))]
 fn with_swapped(alloc: Global, on: &ObjRef<'_>, i: usize, j: usize) -> Result<Table, OpFault>
     requires whole { IsWhole on.now }
     requires first { i < length on.now.level_names }

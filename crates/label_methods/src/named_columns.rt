@@ -101,6 +101,7 @@ pub fn named_places(
 /// The columns that the first argument names, or all where it is `None`.
 ///
 /// `NoKey` of the first label that no column has. `NoMemory` may come in place of any answer.
+#[tactic(auto, using(crate::proofs::Hints::subset_places))]
 pub fn subset_places(
     alloc: Global,
     store: &Store,

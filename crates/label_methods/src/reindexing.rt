@@ -36,6 +36,7 @@ fn axis_like(alloc: Global, dict: &TextDict, labels: &Tuples, like: &Axis) -> Re
 }
 
 // The rows of these labels, each of them the table's or missing.
+#[tactic(auto, using(crate::proofs::Hints::rows_reindexed))]
 fn rows_reindexed(
     alloc: Global,
     dict: &TextDict,
@@ -87,6 +88,7 @@ fn column_or_missing(
 }
 
 // The columns at these places, and missing ones at gaps, each in a block of its own.
+#[tactic(auto, using(crate::proofs::Hints::columns_or_missing))]
 fn columns_or_missing(alloc: Global, on: &ObjRef<'_>, places: &Gaps) -> Result<Blocks, NoMemory>
     requires { All (IsPlaceOf (length on.now.columns)) places.now }
     ensures single { IfOk result (All IsSingle) }
@@ -102,6 +104,7 @@ fn columns_or_missing(alloc: Global, on: &ObjRef<'_>, places: &Gaps) -> Result<B
 }
 
 // The columns of these labels, each of them the frame's or missing.
+#[tactic(auto, using(crate::proofs::Hints::columns_reindexed))]
 fn columns_reindexed(
     alloc: Global,
     dict: &TextDict,

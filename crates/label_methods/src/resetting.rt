@@ -87,6 +87,7 @@ fn nameless_label(dict: &mut TextDict, on: &ObjRef<'_>, level: usize) -> Result<
 }
 
 // The label of the column of a level: its name, or a text that stands for one.
+#[tactic(auto, using(std::proofs::Common::slice_get, crate::proofs::ResetLaws::level_named))]
 fn level_label(dict: &mut TextDict, on: &ObjRef<'_>, level: usize) -> Result<Label, NoMemory>
     requires known { IsKnownTable dict.old on.now }
     requires level { level < length on.now.level_names }
@@ -103,6 +104,7 @@ fn level_label(dict: &mut TextDict, on: &ObjRef<'_>, level: usize) -> Result<Lab
 }
 
 // The labels of the columns of all levels.
+#[tactic(auto, using(crate::proofs::ResetLaws::all_levels))]
 fn level_labels(
     alloc: Global,
     dict: &mut TextDict,
@@ -133,6 +135,7 @@ fn push_headings(labels: &mut Vec<Option<Label>>, on: &ObjRef<'_>) -> Result<(),
 }
 
 // The labels of the columns of the levels, and then those of the columns.
+#[tactic(auto, using(crate::proofs::ResetLaws::labels_meant))]
 fn reset_labels(
     alloc: Global,
     dict: &mut TextDict,
@@ -175,6 +178,7 @@ fn reset_columns(alloc: Global, on: &ObjRef<'_>) -> Result<Blocks, OpFault>
 
 // The frame of these columns under these labels, which must differ. Its rows have the labels 0, 1
 // and so on.
+#[tactic(auto, using(crate::proofs::Hints::reset_table))]
 fn reset_table(
     alloc: Global,
     dict: &TextDict,
@@ -204,6 +208,7 @@ fn reset_table(
 ///
 /// `WrongKind` where a level has labels of several kinds, `BadValue` of a heading that would stand
 /// twice, `Limit`. `NoMemory` may come in place of any answer.
+#[tactic(auto, using(crate::proofs::Hints::reset_levels))]
 pub fn reset_levels(alloc: Global, dict: &mut TextDict, on: &ObjRef<'_>) -> Result<Table, OpFault>
     requires { IsKnownTable dict.old on.now }
     ensures longer { IsLonger dict.old dict.new }

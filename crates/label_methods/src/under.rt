@@ -13,6 +13,7 @@ use selections::places_below;
 use std::alloc::Global;
 
 // The columns at these places, each in a block of its own.
+#[tactic(auto, using(crate::proofs::Hints::copied_columns))]
 pub(crate) fn copied_columns(
     alloc: Global,
     on: &ObjRef<'_>,
@@ -44,6 +45,7 @@ pub fn named_axis(axis: Axis, names: &[Option<Label>]) -> Axis
 }
 
 // The table under another axis, with a tuple for each row.
+#[tactic(auto, using(crate::proofs::Hints::table_under_axis))]
 pub(crate) fn table_under_axis(
     alloc: Global,
     on: &ObjRef<'_>,

@@ -38,7 +38,7 @@ module _ {K : Type 0} (same : K → K → Bool) (laws : IsEquivalence same) (key
   IsKnown x = list_any (same x) keys ≡ true
 
   rows_coded : (k : K) (xs : List K) → All IsKnown xs → rows_where (same k) 0 xs ≡ rows_of_code (rank k) (map rank xs)
-  rows_coded k xs known = sym (rows_where-map IsKnown (λ n. rank k == n) _ _ (λ x h. grind (arith, place_tells)) 0 xs known)
+  rows_coded k xs known = sym (rows_where-map IsKnown _ _ _ (λ x h. grind (arith, place_tells)) 0 xs known)
 
   -- a row with the rows that it meets
   pub pairs_coded : (stays : Bool) (row : ℕ) (left right : List K) → All IsKnown right → pairs_from same stays row left right ≡ pairs_from nat_eq stays row (map rank left) (map rank right)

@@ -87,7 +87,7 @@ module _ (left right : List (List Label)) (alike : HaveLevels (levels_of (left +
   few_right few k d lt = omega (arith, all_right IsAlike left right alike k d lt, few)
 
   pub alike_right : HaveLevels (levels_of right) right
-  alike_right k d lt = all_right IsAlike left _ alike k d lt ∙ sym (all_right IsAlike left _ alike 0 (Na ∷ []) (omega (arith, lt)))
+  alike_right k d lt = all_right IsAlike _ _ alike k d lt ∙ sym (all_right IsAlike left _ alike 0 (Na ∷ []) (omega (arith, lt)))
 
 -- what is answered is a join
 pub law_of : (texts : List Text) (how : How) (once : Validate) (left right : List (List Label)) (result : Result Pairs MergeFault)

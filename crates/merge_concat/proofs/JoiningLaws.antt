@@ -70,7 +70,7 @@ module _ {K : Type 0} (same less : K → K → Bool) (laws : IsEquivalence same)
   outer = flat_map of_key keys
 
   often : (a b : Option ℕ) → how_often (pair a b) outer ≡ sum_by (λ key. row_often a (lefts key) * row_often b (rights key)) keys
-  often a b = often_parts _ of_key keys ∙ sums (λ key. how_often (pair a b) (of_key key)) (λ key. row_often a (lefts key) * row_often b (rights key)) (λ key. often_product a b _ _) keys
+  often a b = often_parts _ of_key keys ∙ sums _ _ (λ key. often_product a b _ _) keys
     where
       sums : (f g : K → ℕ) → ((key : K) → f key ≡ g key) → (ks : List K) → sum_by f ks ≡ sum_by g ks
       sums f g e [] = refl
@@ -98,7 +98,7 @@ module _ {K : Type 0} (same less : K → K → Bool) (laws : IsEquivalence same)
     left_key = slice_index_or left i d
 
     left_there : IsThere left_key
-    left_there = any_front _ left right (any_at _ _ i d lt (laws.refl left_key))
+    left_there = any_front _ left _ (any_at _ _ i d lt (laws.refl left_key))
       where
         any_front : (p : K → Bool) (xs ys : List K) → list_any p xs ≡ true → list_any p (xs ++ ys) ≡ true
         any_front p [] _ e = absurd (false≢true e)
@@ -107,7 +107,7 @@ module _ {K : Type 0} (same less : K → K → Bool) (laws : IsEquivalence same)
     left_only : (b : Option ℕ) → how_often (pair (Some i) b) outer ≡ row_often b (rights left_key)
     left_only b =
         often (Some i) b
-        ∙ at_key _ (λ key. row_often (Some i) (lefts key) * row_often b (rights key)) (λ key. row_often b (rights key)) left_there
+        ∙ at_key _ _ (λ key. row_often b (rights key)) left_there
         (λ k. ap (λ n. n * row_often b (rights k)) (or_gap_there _ i d _ lt ∙ ap once_if (turned k _))
         ∙ (grind (arith, row_often)))
 
@@ -116,7 +116,7 @@ module _ {K : Type 0} (same less : K → K → Bool) (laws : IsEquivalence same)
     right_key = slice_index_or right j d
 
     right_there : IsThere right_key
-    right_there = any_back _ left right (any_at _ _ j d lt (laws.refl right_key))
+    right_there = any_back _ left _ (any_at _ _ j d lt (laws.refl _))
       where
         any_back : (p : K → Bool) (xs ys : List K) → list_any p ys ≡ true → list_any p (xs ++ ys) ≡ true
         any_back p [] _ e = e
@@ -125,7 +125,7 @@ module _ {K : Type 0} (same less : K → K → Bool) (laws : IsEquivalence same)
     right_only : how_often (pair None (Some j)) outer ≡ row_often None (lefts right_key)
     right_only =
         often None (Some j)
-        ∙ at_key _ (λ key. row_often None (lefts key) * row_often (Some j) (rights key)) (λ key. row_often None (lefts key)) right_there
+        ∙ at_key _ _ (λ key. row_often None (lefts key)) right_there
         (λ k. ap (λ n. row_often None (lefts k) * n) (or_gap_there _ j d _ lt ∙ ap once_if (turned k _))
         ∙ (grind (arith, row_often)))
 
@@ -137,7 +137,7 @@ module _ {K : Type 0} (same less : K → K → Bool) (laws : IsEquivalence same)
   -- a key of either side has a row
   no_gaps_at : (key : K) → IsThere key → row_often None (lefts key) * row_often None (rights key) ≡ 0
   no_gaps_at key there =
-      (λ i. gap_there (same key) 0 left i * gap_there (same key) 0 right i) ∙ either _ _ (sym (any_both _ left right) ∙ there)
+      (λ i. gap_there (same key) 0 left i * gap_there (same key) 0 right i) ∙ either _ _ (sym (any_both _ left _) ∙ there)
     where
       any_both : (p : K → Bool) (xs ys : List K) → list_any p (xs ++ ys) ≡ (list_any p xs || list_any p ys)
       any_both p [] _ = refl
@@ -154,7 +154,7 @@ module _ {K : Type 0} (same less : K → K → Bool) (laws : IsEquivalence same)
       none : (ks : List K) → All IsThere ks → sum_by (λ key. row_often None (lefts key) * row_often None (rights key)) ks ≡ 0
       none [] _ = refl
       none (k ∷ ks) all =
-          sum_by-cons (λ key. row_often None (lefts key) * row_often None (rights key)) k ks
+          sum_by-cons _ k ks
           ∙ (λ i. no_gaps_at k (All-head IsThere k ks all) i + none ks (All-tail IsThere k ks all) i)
 
   outer_inside : All (AreInside (length left) (length right)) outer
@@ -163,7 +163,7 @@ module _ {K : Type 0} (same less : K → K → Bool) (laws : IsEquivalence same)
       (λ key _. all_flat (AreInside (length left) (length right)) (IsPlaceOf (length left)) _
       (λ l there. All-map (AreInside (length left) (length right)) (pair l) (rights key) (λ k d lt. (search (gaps_inside, rows_inside))))
       (lefts key) (search (gaps_inside, rows_inside)))
-      keys (λ k d lt. tt)
+      keys _
 
   pub outer_is : IsJoin same Outer left right outer
   outer_is = record {

@@ -40,8 +40,8 @@ module _ (texts : List Text) (sorted : Bool) (left right : List (List Label)) wh
   stands_once key stands =
       ap (filter (same_tuple key)) keys_are
       ∙ (elim sorted as (λ b. filter (same_tuple key) (cond b (in_order (tuple_less texts) (distinct same_tuple rows)) (distinct same_tuple rows)) ≡ key ∷ []) [
-        | true ↦ in_order_keeps _ _ tuple_decides (tuple_weak texts) _ (distinct same_tuple rows) ∙ once _ _ tuple_decides (tuple_weak texts) key rows stands
-        | false ↦ once same_tuple _ tuple_decides (tuple_weak texts) key rows stands
+        | true ↦ in_order_keeps _ _ tuple_decides (tuple_weak _) _ (distinct same_tuple rows) ∙ once _ _ tuple_decides (tuple_weak texts) key rows stands
+        | false ↦ once _ _ tuple_decides (tuple_weak texts) key rows stands
       ])
 
   abbrev IsThere : List Label → Type 0

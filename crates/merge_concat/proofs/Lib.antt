@@ -11,3 +11,4 @@ pub mod EqualLaws
 pub mod AxisLaws
 pub mod UnitedLaws
 pub mod ExchangeLaws
+pub mod Hints

@@ -17,8 +17,8 @@ more_none = search append-nil
 
 pub pairs_more : (a b : PairLists) (es fs : List Pair) → AreListed a es → HasMore a b fs → AreListed b (es ++ fs)
 pairs_more a b es fs p q = record {
-  left = step (λ e. e.left) [] _ _ es fs p.left q.left;
-  right = step (λ e. e.right) [] _ _ es fs p.right q.right;
+  left = step _ [] _ _ es fs p.left q.left;
+  right = step _ [] _ _ es fs p.right q.right;
 }
 
 -- one row more of a side

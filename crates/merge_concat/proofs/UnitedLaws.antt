@@ -68,11 +68,11 @@ module _ (among tuples : List (List Label)) where
 
     pub one_kept : (kept kept' : List (List Label)) (tuple : List Label) → kept ≡ filter stands (take row tuples) → (length rows == 0) ≡ false → slice_get tuples row ≡ Some tuple → kept' ≡ kept ++ tuple ∷ []
         → kept' ≡ filter stands (take (row + 1) tuples)
-    one_kept _ _ tuple before some at more =
+    one_kept _ _ _ before some at more =
         let many : length rows ≡ 0 → ⊥ = search eqb-false in
         let lots : 0 < length (rows_where (same_tuple (slice_index_or tuples row [])) 0 among) = omega (arith, many, ap length rows_there) in
         more
-        ∙ (λ i. before i ++ sym (get_or_from_slice_get tuples row tuple [] at) i ∷ [])
+        ∙ (λ i. before i ++ sym (get_or_from_slice_get _ row _ [] at) i ∷ [])
         ∙ ap (λ b. filter stands (take row tuples) ++ cond b (slice_index_or tuples row [] ∷ []) []) (sym (any_row _ 0 among lots))
         ∙ sym (filter_more _ tuples _ [] lt)
 

@@ -10,6 +10,7 @@ use row_keys::LevelRows;
 use std::alloc::Global;
 
 // How many levels the axes have.
+#[tactic(auto, using(std::proofs::lemmas::List::take_all))]
 fn levels_of(axes: &[&Axis]) -> usize
     requires some { 1 ≤ length axes.now }
     requires alike { HaveLevelsOfFirst axes.now }
@@ -72,6 +73,7 @@ fn behind(alloc: Global, dict: &TextDict, labels: &[Label], axis: &Axis) -> Resu
 }
 
 // The labels of all axes, level by level from the last one on.
+#[tactic(auto, using(crate::proofs::Hints::all_levels))]
 pub(crate) fn all_levels(alloc: Global, dict: &TextDict, axes: &[&Axis]) -> Result<Axis, NoMemory>
     requires some { 1 ≤ length axes.now }
     requires alike { HaveLevelsOfFirst axes.now }
@@ -92,6 +94,7 @@ pub(crate) fn all_levels(alloc: Global, dict: &TextDict, axes: &[&Axis]) -> Resu
 /// concatenate and compare" of the pandas user guide): one axis at least, all with the same number of levels. With keys,
 /// one for each axis, the rows of an axis have its key in one level more, which is the first: there are three others at
 /// most then. `NoMemory` is the only refusal.
+#[tactic(auto, using(crate::proofs::Hints::axis_below))]
 pub fn axis_below(
     alloc: Global,
     dict: &TextDict,

@@ -111,6 +111,7 @@ pub fn concat_rows(alloc: Global, parts: &[ColRef<'_>]) -> Result<Column, MergeF
 /// # Errors
 ///
 /// Those of [`concat_rows`].
+#[tactic(auto, using(crate::proofs::BelowLaws::parts_at_kind))]
 pub fn concat_parts(alloc: Global, missing: Kind, parts: &[Part<'_>]) -> Result<Column, MergeFault>
     ensures { (texts : List (List ℕ)) → ConcatsBy (column_value texts) result
         (rows_concatenated (map (λ part. column_value texts (part_column missing part))

@@ -48,6 +48,7 @@ fn repeated_on(alloc: Global, axis: &Axis) -> Result<Option<Tuple>, NoMemory>
 }
 
 // Of the first axis on which a tuple stands on more than one row, the first such tuple.
+#[tactic(auto, using(crate::proofs::Hints::first_repeat))]
 fn first_repeat(alloc: Global, axes: &[&Axis]) -> Result<Option<Tuple>, NoMemory>
     ensures { IfOk result (λ repeated. repeated
         ≡ repeated_on_any same_tuple (tuples_of_each axes.now)) }
@@ -104,6 +105,7 @@ fn those_on_all(alloc: Global, first: &Axis, others: &[&Axis]) -> Result<Tuples,
 }
 
 // The different tuples of an axis, in the order of first sight.
+#[tactic(auto, using(crate::proofs::Hints::different))]
 fn different(alloc: Global, axis: &Axis) -> Result<Tuples, NoMemory>
     ensures { IfOk result (λ tuples. tuples ≡ distinct same_tuple axis.now.tuples) }
 {
@@ -113,6 +115,7 @@ fn different(alloc: Global, axis: &Axis) -> Result<Tuples, NoMemory>
 }
 
 // The tuples that stand on any of the axes, or on all of them.
+#[tactic(auto, using(crate::proofs::UnitedLaws::united_any))]
 fn union_of(alloc: Global, dict: &TextDict, axes: &[&Axis], inner: bool) -> Result<Tuples, NoMemory>
     requires { HaveLevelsOfFirst axes.now }
     ensures { IfOk result (λ tuples. tuples

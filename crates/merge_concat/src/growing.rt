@@ -70,6 +70,7 @@ pub(crate) fn with_room<T: Value>(alloc: Global, count: usize) -> Result<Owned<T
 }
 
 // Behind the rows those of values that lie side by side: two slices are copied.
+#[tactic(auto, using(crate::proofs::GrowLaws::cells_append))]
 fn with_side<T: Value>(rows: Owned<T>, side: &Dense<'_, T>) -> Result<Owned<T>, NoMemory>
     ensures { IfOk result (λ more. cells_of_rows T.cell more
         ≡ cells_of_rows T.cell rows
@@ -96,6 +97,7 @@ fn with_rows<T: Value>(mut rows: Owned<T>, lane: &Lane<'_, T>) -> Result<Owned<T
 }
 
 // Behind the rows those of a lane.
+#[tactic(auto, using(crate::proofs::Hints::with_lane))]
 fn with_lane<T: Value>(rows: Owned<T>, lane: &Lane<'_, T>) -> Result<Owned<T>, NoMemory>
     ensures { IfOk result (λ more. cells_of_rows T.cell more
         ≡ cells_of_rows T.cell rows ++ cells_of_lane T.cell lane.now) }

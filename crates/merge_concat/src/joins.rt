@@ -37,6 +37,7 @@ fn is_outer(how: How) -> bool
 /// `NotOneToOne` exactly where a key stands twice on a side on which `once` lets none stand twice, the left side
 /// first, with the key of the first row whose key does. Else `TooLarge` exactly where there are more than 2^26 pairs.
 /// `NoMemory` may come in place of any answer, and `DuplicateLabels` and `MixedKinds` never come.
+#[tactic(auto, using(crate::proofs::Hints::join_rows))]
 pub fn join_rows<L: KeyLevels, R: KeyLevels>(
     alloc: Global,
     dict: &TextDict,

@@ -61,6 +61,7 @@ fn push_pair(out: &mut PairLists, left: Option<usize>, right: Option<usize>) -> 
 }
 
 // Adds a left row, or a gap, with each right row.
+#[tactic(auto, using(crate::proofs::Hints::push_left))]
 fn push_left(out: &mut PairLists, left: Option<usize>, rights: &[usize]) -> Result<(), NoMemory>
     ensures { OnOk result (HasMore out.old out.new (pairs_with rights.now left)) }
 {
@@ -153,6 +154,7 @@ fn pairs_by_key(
 }
 
 // How many pairs these are, if a table may have as many rows.
+#[tactic(auto, using(crate::proofs::CountLaws::counted_more))]
 fn count_by_key(left: &CodedRows<'_>, right: &CodedRows<'_>) -> Option<usize>
     requires { left.now.count ≡ right.now.count }
     ensures { let counted = counted_by_key left.now.count left.now.codes.now right.now.codes.now in
@@ -171,6 +173,7 @@ fn count_by_key(left: &CodedRows<'_>, right: &CodedRows<'_>) -> Option<usize>
 }
 
 // Each left row with the right rows of its number, unless there are too many.
+#[tactic(auto, using(crate::proofs::Hints::joined_by_row))]
 fn joined_by_row(
     alloc: Global,
     stays: bool,
@@ -189,6 +192,7 @@ fn joined_by_row(
 }
 
 // The rows of each number, unless there are too many.
+#[tactic(auto, using(crate::proofs::Hints::joined_by_key))]
 fn joined_by_key(
     alloc: Global,
     left: &SideCodes<'_>,
@@ -218,6 +222,7 @@ fn exchanged(pairs: Pairs) -> Pairs
 }
 
 // The rows of both sides whose keys have equal numbers, unless there are too many.
+#[tactic(auto, using(crate::proofs::CountLaws::exchanged_joined))]
 pub(crate) fn joined_by_code(
     alloc: Global,
     how: How,

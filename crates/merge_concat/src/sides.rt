@@ -100,6 +100,7 @@ pub(crate) struct CodedRows<'a> {
 
 impl CodedRows<'_> {
     /// The rows whose keys have a number, in order. Takes no memory.
+    #[tactic(auto, using(crate::proofs::Hints::rows_of))]
     pub fn rows_of(&self, code: usize) -> &[usize]
         requires { code < self.now.count }
         ensures { result.now ≡ rows_of_code code self.now.codes.now }

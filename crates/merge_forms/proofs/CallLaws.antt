@@ -1,25 +1,32 @@
--- Calls of `merge` and their arguments.
+-- Calls of `merge` and their arguments; no Series has it.
 use Rattle.{
-  std.{proofs.{lemmas.{Option.{same_Some}, Bool.{and_parts, Decides.{nat_tests}}, List.{length-map}}, Common.{◌≡◌, ◌∙◌, ◌≤◌, ap, refl, sym, arith, ℕ, suc, Bool, true, false, ⊎_elim, List, [], ◌∷◌, ◌++◌, map, length, slice_get, Option, Some, None, Result, Ok, Err, option_map, nat_lt, if◌then◌else◌}}, specs.Prelude.{IfSome}},
-  cell_core.specs.declared.{cell.Cell.{Cell}, grid.Shape.TheVariants.{Frame}},
-  meaning.specs.{Text.{Text}, Cell.{CellValue, LabelValue, datum}, Operator.{cell_label}, Fault.{FaultValue, then_value}},
+  std.{proofs.{Common.{◌≡◌, true, refl, Option, Some, ◌∙◌, ◌≤◌, ap, sym, arith, ℕ, suc, Bool, false, ⊎_elim, List, [], ◌∷◌, ◌++◌, map, length, slice_get, None, Result, Ok, Err, option_map, nat_lt, if◌then◌else◌}, lemmas.{Option.{same_Some}, Bool.{and_parts, Decides.{nat_tests}}, List.{length-map}}}, specs.Prelude.{IfSome}},
+  cell_core.specs.declared.{grid.Shape.{Shape, TheVariants.{Frame}}, cell.Cell.{Cell}},
+  meaning.specs.{Text.{Text}, Cell.{CellValue, datum}, Operator.{cell_label}, Fault.{FaultValue, then_value}},
+  form_meaning.{specs.{declared.{Method.{Method, TheVariants.{Other}}, OtherMethod.TheVariants.{Merge}, Parameter.{Parameter}}, Signature.{method_names, method_named, fits_shape, parameters_of, needed, optional}, Binding.{not_taken, not_listed, bound, each, is_scalar, count_of, takes, text_in}, Make.{on}, Select.{cells_of}}, proofs.ShapeLaws.{named_fits, of_frame}},
+  method_meaning.specs.{Calls.{is_merge, merge_call, chain_result, call_result}, Merge.{MergeKeys, merged_rows, how_named, validate_in, merge_result}, Levels.{label_cell}},
+  merge_forms.specs.{declared.keys.MergeKeys.{MergeKeys as NumberedKeys}, Keys.{keys_seen, cell_labels, labels_on, keys_checked}, Calls.{is_plain, merge_of, IsMergeCall}},
   join_meaning.specs.declared.{How.{How}, Validate.{Validate}},
   table_meaning.specs.{Settled.{IsSettled}, Table.{NumberedTable, Table, table_value}, Value.{Entry, cell, Given, GivenList, NamedGiven, one, no_given, more_given, object_in}},
-  form_meaning.specs.{declared.{Method.TheVariants.{Other}, OtherMethod.TheVariants.{Merge}, Parameter.{Parameter}}, Signature.{parameters_of, needed, optional}, Binding.{not_taken, not_listed, bound, bound_of, on_bound, each, is_scalar, count_of, takes, text_in}, Make.{on}, Select.{cells_of}},
-  method_meaning.specs.{Levels.{label_cell}, Calls.{merge_call, chain_result, call_result}, Merge.{keys_of_merge, merged_rows, how_named, validate_in, merge_result}},
   form_parts.specs.Makes.{MakesBy},
-  frame_store.specs.{declared.{arguments.{Chain.{Chain, TheVariants.{Plain}}, Named.{Named}, Value.{Value, TheVariants.{Object}}}, fault.OpFault.{OpFault}, object.ObjId.{ObjId}}, Arguments.{object_value, shape_at}, Objects.{Tables}, Shown.{cells_value, Makes}, World.{World, entry_in, arguments_in, AreKnownArguments}},
+  frame_store.specs.{declared.{arguments.{Chain.{Chain, TheVariants.{Plain}}, Named.{Named}, Value.{Value, TheVariants.{Object}}}, fault.OpFault.{OpFault}, object.ObjId.{ObjId}}, Arguments.{object_value, shape_at}, Objects.{Tables}, Shown.{cells_value, Makes}, World.{World, entry_in, AreKnownArguments}},
   label_methods.specs.Chains.{chain_in},
   signatures.{specs.{Bound.{given_in, stands_at, IsBound}, declared.bound.Bound.{Bound as BoundArguments}}, proofs.RuleLaws.{filled}},
-  merge_forms.{specs.{Calls.{is_plain, merge_of, IsMergeCall}, Keys.{cell_labels, labels_on, keys_checked}}, proofs.ShapeLaws.{merge_is_of_frame}},
 }
 use Rattle.form_meaning.specs.declared.ParameterName.TheVariants as name
 use Rattle.form_meaning.specs.declared.Form.TheVariants as form
 use Rattle.form_meaning.specs.declared.Omitted.TheVariants as omitted
 
--- arguments that are bound
-pub bound_reads : (w : World) (ps : List Parameter) (args : List Named) (read : List Given → Result Entry FaultValue) (b : BoundArguments) → IsBound w ps args (Ok b) → on_bound (bound_of ps (arguments_in w args)) read ≡ read (given_in w b)
-bound_reads w _ _ _ b is = search
+merge_of_frame : (shape : Shape) → fits_shape (Other Merge) shape ≡ true → shape ≡ Frame
+unfolding method_names
+merge_of_frame = search of_frame
+
+merge_is_of_frame : (shape : Shape) (name : Text) → is_merge (method_named shape name) ≡ true → shape ≡ Frame
+merge_is_of_frame shape name is = by _ refl is
+  where
+    by : (o : Option Method) → method_named shape name ≡ o → is_merge o ≡ true → shape ≡ Frame
+    by (Some (Other Merge)) named _ = merge_of_frame _ (named_fits _ _ _ named)
+    by o named is = cc
 
 -- each parameter has what fits it
 fitted : (a b c : Bool) (gs xs : List Given) → (if a then (if b then (if c then bound gs else not_listed) else not_taken) else not_taken) ≡ bound xs → (a ≡ true) × (b ≡ true)
@@ -54,40 +61,48 @@ cells_back : (cs : List CellValue) → map label_cell (map cell_label cs) ≡ cs
 cells_back [] = refl
 cells_back (c ∷ cs) = λ i. cell_back c i ∷ cells_back cs i
 
-pub told_given : (w : World) (b : BoundArguments) (told : Option (List Cell)) → IsMergeCall w b → ((live : Tables) (texts : List Text) → option_map (cell_labels texts) told ≡ labels_on (stands_at live texts b 2)) → IfSome told (IsSettled cells_value w.texts)
+abbrev pub AreTold : BoundArguments → Option (List Cell) → Type 0
+AreTold b told = (live : Tables) (texts : List Text) → option_map (cell_labels texts) told ≡ labels_on (stands_at live texts b 2)
+
+pub told_given : (w : World) (b : BoundArguments) (told : Option (List Cell)) → IsMergeCall w b → AreTold b told → IfSome told (IsSettled cells_value w.texts)
 told_given w b None h _ = tt
 told_given w b (Some cells) h tells = λ more.
     let same : cell_labels (w.texts ++ more) cells ≡ cell_labels w.texts cells =
     same_Some _ _ (cc (tells w.tables (w.texts ++ more), h.given more, tells w.tables w.texts)) in
     sym (cells_back _) ∙ ap (map _) same ∙ cells_back _
 
-pub told_some : (w : World) (b : BoundArguments) (told : Option (List Cell)) → IsMergeCall w b → ((live : Tables) (texts : List Text) → option_map (cell_labels texts) told ≡ labels_on (stands_at live texts b 2)) → IfSome told (λ cells. 1 ≤ length cells)
+pub told_some : (w : World) (b : BoundArguments) (told : Option (List Cell)) → IsMergeCall w b → AreTold b told → IfSome told (λ cells. 1 ≤ length cells)
 told_some w b None h _ = tt
 told_some w b (Some cells) h tells =
     let some = rw (← tells w.tables w.texts) at (labels_some w b h) in
     omega (arith, some, length-map (cells_value w.texts cells) cell_label, length-map cells (datum w.texts))
 
--- what is meant, by what is read
-module _ (w : World) (b : BoundArguments) (h : IsMergeCall w b) (l r : Table) (t : Text) (how : How) (once : Validate) (told : Option (List LabelValue)) (right_is : Some r ≡ object_in (stands_at w.tables w.texts b 0)) (text_is : Some t ≡ text_in (stands_at w.tables w.texts b 1)) (how_is : how ≡ how_named t)
-    (told_is : told ≡ labels_on (stands_at w.tables w.texts b 2)) (once_is : once ≡ validate_in (text_in (stands_at w.tables w.texts b 3))) where
-  abbrev by_parts : Option Table → Option Text → Given → Validate → Result Entry FaultValue
-  by_parts right text labels once = on right (λ r. on text (λ t. then_value (keys_of_merge l r labels) (merged_rows l r (how_named t) once)))
-
-  reads : merge_result l (given_in w b) ≡ by_parts (object_in (stands_at w.tables w.texts b 0)) (text_in (stands_at w.tables w.texts b 1)) (stands_at w.tables w.texts b 2) (validate_in (text_in (stands_at w.tables w.texts b 3)))
-  reads = grind arith
-
--- a refusal of the keys
+-- what is meant, by the tables that are read
 abbrev refused : {X : Type 0} → OpFault → Result X OpFault
 refused fault = Err fault
 
-pub keys_refused : {X Y : Type 0} (view : List Text → X → Y) (texts : List Text) (m : Result Y FaultValue) (go : Y → Result Entry FaultValue) (meant : Result Entry FaultValue) (fault : OpFault) → meant ≡ then_value m go → MakesBy view texts (refused {X = X} fault) m → Makes texts (Err fault) meant
-keys_refused = grind arith
+module _ (w : World) (b : BoundArguments) (h : IsMergeCall w b) (on other : ObjId) (l r : NumberedTable) (left_at : w.tables on.0 ≡ Some l) (right_at : w.tables other.0 ≡ Some r) (right_is : (live : Tables) (texts : List Text) → Some (object_value live texts other) ≡ object_in (stands_at live texts b 0))
+    (t : Text) (text_is : (live : Tables) → Some t ≡ text_in (stands_at live w.texts b 1)) (how : How) (how_is : how ≡ how_named t) (told : Option (List Cell)) (told_is : AreTold b told) where
+  abbrev L : Table
+  L = table_value w.texts l
 
--- what is meant, by the tables that are read
-pub read_is : (w : World) (b : BoundArguments) → IsMergeCall w b → (on other : ObjId) (l r : NumberedTable) (t : Text) (how : How) (once : Validate) (told : Option (List LabelValue)) → w.tables on.0 ≡ Some l → w.tables other.0 ≡ Some r
-    → Some (object_value w.tables w.texts other) ≡ object_in (stands_at w.tables w.texts b 0) → Some t ≡ text_in (stands_at w.tables w.texts b 1) → how ≡ how_named t → told ≡ labels_on (stands_at w.tables w.texts b 2) → once ≡ validate_in (text_in (stands_at w.tables w.texts b 3))
-    → merge_result (object_value w.tables w.texts on) (given_in w b) ≡ then_value (keys_checked (table_value w.texts l) (table_value w.texts r) told) (merged_rows (table_value w.texts l) (table_value w.texts r) how once)
-read_is w b h on = grind (arith, reads)
+  abbrev R : Table
+  R = table_value w.texts r
+
+  abbrev checked : Result MergeKeys FaultValue
+  checked = keys_checked L R (option_map (cell_labels w.texts) told)
+
+  abbrev meant : Result Entry FaultValue
+  meant = merge_result (object_value w.tables w.texts on) (given_in w b)
+
+  read_is : (once : Validate) → once ≡ validate_in (text_in (stands_at w.tables w.texts b 3)) → meant ≡ then_value checked (merged_rows L R how once)
+  read_is = grind (arith, right_is w.tables w.texts, text_is w.tables, told_is w.tables w.texts)
+
+  pub keys_refused : (fault : OpFault) → MakesBy keys_seen w.texts (refused {X = NumberedKeys} fault) checked → Makes w.texts (Err fault) meant
+  keys_refused = grind (arith, read_is _ refl)
+
+  pub rows_answered : (once : Validate) → once ≡ validate_in (text_in (stands_at w.tables w.texts b 3)) → (keys : MergeKeys) → checked ≡ Ok keys → (new : List Text) (made : Result NumberedTable OpFault) → Makes new made (merged_rows L R how once keys) → Makes new made meant
+  rows_answered once is _ found _ _ made = rw (read_is once is, found) made
 
 pub shape_read : (w : World) (on : ObjId) (l : NumberedTable) → w.tables on.0 ≡ Some l → shape_at w.tables on ≡ Frame → l.shape ≡ Frame
 shape_read w on l at is = cc

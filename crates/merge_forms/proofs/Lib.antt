@@ -1,9 +1,5 @@
-pub mod PlaceLaws
-pub mod PairLaws
-pub mod ColumnLaws
-pub mod HeadingLaws
 pub mod KeyLaws
 pub mod RowLaws
 pub mod TableLaws
-pub mod ShapeLaws
 pub mod CallLaws
+pub mod Hints

@@ -1,27 +1,112 @@
 -- The rows of two frames that have equal keys, with texts by number and with texts.
 use Rattle.{
-  std.{proofs.{Common.{rules, ◌≡◌, ◌∙◌, ◌≤◌, ◌^◌, refl, sym, subst, arith, ℕ, Bool, cond, List, [], ◌∷◌, ◌++◌, length, All, Option, Some, None, Result, Ok, Err, option_map}, lemmas.{Bool.Decides.{nat_tests}, List.{length-map, Elements.{All-map}, FromFn.{length-range_with_len}}}}, specs.Prelude.{IfOk, IfSome}},
+  std.{proofs.{Common.{arith, ◌≡◌, ◌∙◌, ◌+◌, ap, refl, sym, ℕ, Bool, true, false, not, cond, List, [], ◌∷◌, ◌++◌, map, All, Option, Some, None, rules, ◌≤◌, ◌^◌, length, Result, Ok, Err, option_map}, lemmas.{List.{map-append, length-map, Elements.{All-head, All-tail, All-map}, FromFn.{length-range_with_len}}, Bool.Decides.{nat_tests}}}, specs.{Prelude.{IfSome, option_map, IfOk}, List.{flat_map}}},
+  meaning.specs.{Reduce.{distinct}, Fault.{Side as MeantSide}, Text.{Text}, FaultOf.{side_of}},
+  sorting.specs.Sorting.{in_order},
+  pick_meaning.{specs.Rows.{rows_where}, proofs.RowLaws.{rows_where-map}},
+  align_meaning.{specs.{Joins.{Entry as KeyEntry, entries_of, keys_in_order}, Targets.{first_where, first_repeated}}, proofs.OrderLaws.{all_append, all_distinct, all_in_order, in_order_map}},
+  group_meaning.proofs.ListLaws.{filter_seen},
+  merge_concat.{proofs.CodeLaws.{with_seen}, specs.{declared.{fault.MergeFault.{MergeFault}, pairs.Pairs.{Pairs}}, Pairs.{JoinsBy}, Joining.{IsJoinOf}}},
+  join_meaning.specs.{declared.{How.{How, TheVariants.{Outer}}, Validate.{Validate}}, Pairs.{pair, partners, pairs_from, pair_of_entry, key_pairs, RepeatedKey, repeated_on, repeated_key, Pair, JoinRefusal, not_one_to_one, within_limit, joined}},
   cell_core.specs.{declared.{cell.{Side.{Side}, Label.{Label}}, code.Code.TheVariants.{BadMerge}}, Texts.{AreDistinct}},
-  meaning.specs.{Text.{Text}, FaultOf.{side_of}},
   column_core.specs.{Columns.{CellColumn}, Moves.{IsPlaceOf}},
   multi_index.specs.Axes.{HaveLevels},
   row_keys.specs.Keys.{same_tuple as same_numbers},
   label_align.specs.Tuples.{tuple_less},
   factorize.{specs.Keys.{column_keys, levels_of}, proofs.LabelLaws.{columns_alike}},
-  align_meaning.proofs.OrderLaws.{all_append},
-  join_meaning.specs.{declared.{How.{How}, Validate.{Validate}}, Pairs.{Pair, RepeatedKey, repeated_key, key_pairs, JoinRefusal, not_one_to_one, too_large, within_limit, joined}},
-  merge_concat.specs.{declared.{fault.MergeFault.{MergeFault}, pairs.Pairs.{Pairs}}, Pairs.{JoinsBy}, Joining.{IsJoinOf}},
   table_meaning.specs.{Settled.{IsSettled}, Table.{NumberedTable, Table, table_value, tuple_value}, Value.{Entry}},
-  form_meaning.specs.Infix.{same_tuple, tuple_before},
+  form_meaning.specs.Infix.{same_tuple},
   form_parts.proofs.RowLaws.{tuple_by_number, tuples_settled},
   method_meaning.specs.{Groups.{row_keys}, Merge.{unless_twice}},
   frame_store.{specs.Shown.{labels_value, Refuses}, proofs.Settling.{settled_by}},
   label_methods.proofs.IndexingLaws.{all_rows, tuples_seen},
   key_columns.proofs.KeyLaws.{numbered_keys},
-  merge_forms.{specs.{declared.keys.MergeKeys.{MergeKeys}, Keys.{keys_value}, Rows.{repeated_in, pairs_in, met_result, AreRowsMet, MeetsBy}}, proofs.PairLaws.{pairs_seen, again_seen, again_keeps, repeated_seen}},
+  merge_forms.specs.{declared.keys.MergeKeys.{MergeKeys}, Keys.{keys_value}, Rows.{repeated_in, pairs_in, met_result, AreRowsMet, MeetsBy}},
 }
 use Rattle.join_meaning.specs.Pairs as join
 use Rattle.merge_concat.specs.declared.fault.MergeFault.TheVariants as fault
+
+abbrev pub repeated_seen : {X Y : Type 0} → (X → Y) → RepeatedKey X → RepeatedKey Y
+repeated_seen f k = record { side = k.side; key = f k.key }
+
+abbrev on_side : {X : Type 0} → MeantSide → X → RepeatedKey X
+on_side s key = record { side = s; key = key }
+
+module _ {X Y : Type 0} (f : X → Y) (P : X → Type 0) (same : X → X → Bool) (same' : Y → Y → Bool) (equal : (x y : X) → P x → P y → same' (f x) (f y) ≡ same x y) where
+  rows_seen : (key : X) (keys : List X) → P key → All P keys → rows_where (same' (f key)) 0 (map f keys) ≡ rows_where (same key) 0 keys
+  rows_seen = search rows_where-map
+
+  from_seen : (stays : Bool) (row : ℕ) (left right : List X) → All P left → All P right → pairs_from same' stays row (map f left) (map f right) ≡ pairs_from same stays row left right
+  from_seen _ _ [] _ _ _ = refl
+  from_seen stays row (key ∷ keys) _ lefts rights = λ i.
+      map (pair (Some row)) (partners stays (rows_seen _ _ (All-head P _ _ lefts) rights i)) ++ from_seen stays (row + 1) keys _ (All-tail P _ _ lefts) rights i
+
+  distinct_seen : (xs : List X) → All P xs → distinct same' (map f xs) ≡ map f (distinct same xs)
+  distinct_seen [] _ = refl
+  distinct_seen (x ∷ xs) all =
+      cc (distinct_seen xs (All-tail P x _ all), filter_seen P f (λ q. not (same' q (f x))) (λ q. not (same q x)) (λ q h. ap not (equal q x h (All-head P x _ all))) (distinct same xs) (all_distinct P same xs (All-tail P x _ all)))
+
+  -- a key that stands twice
+  first_seen : (p : X → Bool) (p' : Y → Bool) → ((x : X) → P x → p' (f x) ≡ p x) → (xs : List X) → All P xs → first_where p' (map f xs) ≡ option_map f (first_where p xs)
+  first_seen p _ _ [] _ = refl
+  first_seen p p' agree (x ∷ xs) all =
+      (λ i. cond (agree x (All-head P x _ all) i) (Some (f x)) (first_seen p p' agree xs (All-tail P x _ all) i))
+      ∙ (grind arith)
+
+  twice_seen : (keys : List X) → All P keys → first_repeated same' (map f keys) ≡ option_map f (first_repeated same keys)
+  twice_seen = search (first_seen, rows_seen)
+
+  on_seen : (s : MeantSide) (b : Bool) (keys : List X) → All P keys → repeated_on s same' b (map f keys) ≡ option_map (repeated_seen f) (repeated_on s same b keys)
+  on_seen = grind (arith, twice_seen)
+
+  again_seen : (once : Validate) (left right : List X) → All P left → All P right → repeated_key same' once (map f left) (map f right) ≡ option_map (repeated_seen f) (repeated_key same once left right)
+  again_seen = grind (arith, on_seen)
+
+  module _ (less : X → X → Bool) (less' : Y → Y → Bool) (below : (x y : X) → P x → P y → less' (f x) (f y) ≡ less x y) (left right : List X) (lefts : All P left) (rights : All P right) where
+    abbrev entries : X → List (KeyEntry X)
+    entries key = entries_of key (rows_where (same key) 0 left) (rows_where (same key) 0 right)
+
+    abbrev of_key' : Y → List (KeyEntry Y)
+    of_key' key = entries_of key (rows_where (same' key) 0 (map f left)) (rows_where (same' key) 0 (map f right))
+
+    key_seen : (key : X) → P key → map pair_of_entry (of_key' (f key)) ≡ map pair_of_entry (entries key)
+    key_seen = search (rows_seen, with_seen)
+
+    keys_seen : (keys : List X) → All P keys
+        → map pair_of_entry (flat_map of_key' (map f keys)) ≡ map pair_of_entry (flat_map entries keys)
+    keys_seen [] _ = refl
+    keys_seen (key ∷ keys) all =
+        map-append _ (of_key' (f key)) (flat_map of_key' (map f keys))
+        ∙ (λ i. key_seen key (All-head P _ _ all) i ++ keys_seen keys (All-tail P _ _ all) i)
+        ∙ sym (map-append _ (entries key) (flat_map entries keys))
+
+    outer_seen : key_pairs same' less' Outer (map f left) (map f right) ≡ key_pairs same less Outer left right
+    outer_seen =
+        let both : All P (left ++ right) = search all_append in
+        let once = all_distinct P _ _ both in
+        let keys =
+        ap (keys_in_order same' less') (sym (map-append f left right)) ∙ ap (in_order less') (distinct_seen _ both) ∙ in_order_map P f _ _ below _ once in
+        cc (keys_seen _ (all_in_order P _ _ once))
+
+    pairs_seen : (how : How) → key_pairs same' less' how (map f left) (map f right) ≡ key_pairs same less how left right
+    pairs_seen = grind (arith, from_seen, outer_seen)
+
+-- a key that stands twice is one of a side's
+module _ {X : Type 0} (P : X → Type 0) (same : X → X → Bool) where
+  first_keeps : (p : X → Bool) (xs : List X) → All P xs → IfSome (first_where p xs) P
+  first_keeps p [] _ = tt
+  first_keeps p (x ∷ xs) all = elim (p x) as (λ b. IfSome (cond b (Some x) (first_where p xs)) P) [ true ↦ All-head P x _ all | false ↦ first_keeps p xs (All-tail P x _ all) ]
+
+  on_keeps : (s : MeantSide) (b : Bool) (keys : List X) → All P keys → IfSome (repeated_on s same b keys) (λ k. P k.key)
+  on_keeps s false _ _ = tt
+  on_keeps s true _ all = named _ (search first_keeps)
+    where
+      named : (o : Option X) → IfSome o P → IfSome (option_map (on_side s) o) (λ k. P k.key)
+      named None h = tt
+      named (Some key) h = h
+
+  again_keeps : (once : Validate) (left right : List X) → All P left → All P right → IfSome (repeated_key same once left right) (λ k. P k.key)
+  again_keeps = grind (arith, on_keeps)
 
 -- a label for each level
 alike : (levels : ℕ) (keys : List (List Label)) → HaveLevels levels keys → HaveLevels (levels_of keys) keys
@@ -41,14 +126,8 @@ module _ (of_left of_right : List CellColumn) (m n : ℕ) where
       search (alike, few_levels)
 
 module _ {K : Type 0} where
-  abbrev limited : Bool → List Pair → Result (List Pair) (JoinRefusal K)
-  limited b ps = cond b (Err too_large) (Ok ps)
-
   abbrev unless : Option (RepeatedKey K) → Result (List Pair) (JoinRefusal K) → Result (List Pair) (JoinRefusal K)
   unless again rest = join.unless_repeated again rest
-
-  abbrev no_key : Option (RepeatedKey K)
-  no_key = None
 
   joined_ok : (again : Option (RepeatedKey K)) (ps pairs : List Pair) → unless again (within_limit ps) ≡ Ok pairs → (again ≡ None) × (pairs ≡ ps) × (length ps ≤ 2 ^ 26)
   joined_ok = grind (arith, nat_tests)
@@ -87,13 +166,11 @@ module _ (texts : List Text) (distinct : AreDistinct texts) (l r : NumberedTable
 
   pairs_are : pairs_in how L R (keys_value keys) ≡ pairs
   pairs_are =
-      (λ i. key_pairs same_tuple tuple_before how (sym (tuples_seen texts l keys.left) i) (sym (tuples_seen texts r keys.right) i))
-      ∙ pairs_seen _ _ _ _ equal _ _ (λ x y f g. refl) _ _ kl_settled kr_settled _
+      rw (← tuples_seen texts l keys.left, ← tuples_seen texts r keys.right) (pairs_seen _ _ _ _ equal _ _ (λ x y f g. refl) _ _ kl_settled kr_settled _)
 
   again_is : repeated_in once L R (keys_value keys) ≡ option_map (repeated_seen (tuple_value texts)) again
   again_is =
-      (λ i. repeated_key same_tuple once (sym (tuples_seen texts l keys.left) i) (sym (tuples_seen texts r keys.right) i))
-      ∙ again_seen _ _ _ _ equal _ _ _ kl_settled kr_settled
+      rw (← tuples_seen texts l keys.left, ← tuples_seen texts r keys.right) (again_seen _ _ _ _ equal _ _ _ kl_settled kr_settled)
 
   none_again : again ≡ None → repeated_in once L R (keys_value keys) ≡ None
   none_again is = cc again_is
@@ -101,7 +178,7 @@ module _ (texts : List Text) (distinct : AreDistinct texts) (l r : NumberedTable
   twice : (side : Side) (key : List Label) → again ≡ Some record { side = side_of side; key = key } → (rest : Result Entry _) → Refuses texts (BadMerge side key) (unless_twice (repeated_in once L R (keys_value keys)) rest)
   twice _ _ is rest = (
     grind (arith, again_is),
-    λ more. cc (subst (λ (o : Option (RepeatedKey (List Label))). IfSome o (λ k. IsSettled tuple_value texts k.key)) is (again_keeps _ _ _ _ _ kl_settled kr_settled) more),
+    λ more. cc ((rw is at (again_keeps (IsSettled tuple_value texts) same_numbers once kl kr kl_settled kr_settled)) more),
   )
 
   module _ (lks rks : List (List Label)) (lks_are : lks ≡ kl) (rks_are : rks ≡ kr) where
@@ -129,8 +206,8 @@ module _ (l r : NumberedTable) (keys : MergeKeys) (how : How) where
   rows_met : (made : Pairs) → IsJoinOf same_numbers how (numbered_keys l keys.left) (numbered_keys r keys.right) made → AreRowsMet l r made
   rows_met _ is =
       record {
-        left = rw is.seen.left (All-map (IsPlaceOf (length l.labels)) (λ p. p.left) _ (subst (λ n. All (λ p. IsPlaceOf n p.left) is.pairs) (rows_of l _) is.join.left_rows));
-        right = rw is.seen.right (All-map (IsPlaceOf (length r.labels)) (λ p. p.right) _ (subst (λ n. All (λ p. IsPlaceOf n p.right) is.pairs) (rows_of r _) is.join.right_rows));
+        left = rw is.seen.left (All-map (IsPlaceOf (length l.labels)) (λ p. p.left) _ (rw (rows_of l keys.left) at is.join.left_rows));
+        right = rw is.seen.right (All-map (IsPlaceOf (length r.labels)) (λ p. p.right) _ (rw (rows_of r keys.right) at is.join.right_rows));
         same = grind (arith, length-map);
       }
 

@@ -1,62 +1,121 @@
--- The frame of joined rows.
+-- The columns of joined rows, and the frame of them.
 use Rattle.{
-  std.{proofs.{Common.{◌≡◌, ◌∙◌, ◌^◌, ◌<◌, ◌≤◌, ap, refl, sym, subst, arith, ℕ, suc, Bool, true, false, List, [], ◌∷◌, map, length, slice_index_or, All, Option, Some, None, Result, Ok, Err, if◌then◌else◌}, lemmas.{Bool.Decides.{nat_tests}, List.{length-map, length-append, Elements.{All-append, All-map, All-cons, All-nil, All-filter}, FromFn.{length-map-range_with_len}}}}, specs.Prelude.{IsSome}},
+  selections.{proofs.{AnswerLaws.{column_seen}, HeadingLaws.{repeated_seen}, RefusalLaws.{repeated_settled}}, specs.Headings.{NamesRepeated, repeated_heading}},
+  form_parts.proofs.{GapLaws.{on_rows_seen}, LabelLaws.{default_seen}},
+  group_meaning.proofs.ListLaws.{map_map},
+  std.{proofs.{lemmas.{List.{drop_more, length-map, map-append, take_more, length-append, Elements.{All-map, All-append, All-filter}, FromFn.{map-range_with_len_more, length-map-range_with_len}}, Option.{slice_get_within, get_or_from_slice_get}, Bool.Decides.{nat_tests}}, Common.{◌≡◌, ◌∙◌, ◌+◌, ap, refl, sym, arith, ℕ, suc, false, List, [], ◌∷◌, ◌++◌, map, take, drop, length, slice_get, All, Option, Some, None, append_assoc, nat_eq, Result, filter, ◌^◌, ◌<◌, subst, Bool, true, slice_index_or, Ok, Err, if◌then◌else◌}, Math.ListN.{get_or-map}}, specs.{List.{range_with_len, position_or_len}, Prelude.{IfSome, IsSome}}},
+  cell_core.specs.{declared.{cell.{Cell.{Cell, TheVariants.{Na}}, Label.{Label}}, code.Code.TheVariants.{Limit}, grid.Shape.TheVariants.{Frame}}, Texts.{AreDistinct, IsLonger}},
+  meaning.specs.{Text.{Text}, Cell.{CellValue, na_cell, datum, LabelValue}, Column.{gap_cell}, Fault.{FaultValue}, FaultOf.{fault_of}},
+  join_meaning.specs.{Pairs.{Pair}, declared.{How.{How}, Validate.{Validate}}},
+  table_meaning.specs.{Settled.{IsSettled}, Table.{ColumnOf, Table, column_at, column_value, NumberedTable, table_value, heading_value}, Value.{Entry}, Valid.{IsWhole}},
+  frame_store.{specs.{Shown.{columns_value, headings_value, Makes}, World.{IsKnownTable}, declared.fault.OpFault.{OpFault, TheVariants.{Refused, NoMemory}}, Parts.{HeadingList, columns_of, table_of}}, proofs.Settling.{table_settled, settled_later, seen_later, columns_part}},
+  method_meaning.specs.{Rows.{all_places}, Merge.{MergeKeys, is_key, right_key, right_places, key_cell, left_column, column_of_side, suffixed_heading, merged, merged_rows}},
+  merge_forms.specs.{Columns.{key_cell_at, key_cells, column_on, joined_or_left, left_column_on, merged_columns}, declared.keys.MergeKeys.{MergeKeys as NumberedKeys}, Keys.{keys_value, AreMergeKeys}, Rows.{MeetsBy, AreRowsMet, repeated_in, pairs_in}, Headings.{merged_headings}},
+  label_methods.proofs.{NamedLaws.{is_other, others_meant}, TableLaws.{limited_within}},
   sorting.proofs.RankLaws.{below_range},
-  cell_core.specs.{declared.{cell.{Cell.TheVariants.{Na}, Label.{Label}}, code.Code.TheVariants.{Limit}, grid.Shape.TheVariants.{Frame}}, Texts.{AreDistinct, IsLonger}},
-  meaning.specs.{Text.{Text}, Cell.{LabelValue}, Fault.{FaultValue, limit, then_value}, FaultOf.{fault_of}},
   column_core.specs.Blocks.{CellBlock},
   multi_index.specs.Axes.{AxisValue, range_axis},
-  join_meaning.specs.{declared.{How.{How}, Validate.{Validate}}, Pairs.{Pair}},
   merge_concat.specs.{declared.pairs.Pairs.{Pairs}, Pairs.{ArePairs}},
-  table_meaning.specs.{Settled.{IsSettled}, Table.{NumberedTable, Table, table_value, heading_value}, Valid.{IsWhole}, Value.{Entry, table}},
-  form_meaning.specs.{Finish.{within_limits, limited, unless_repeated, finished, default_labels}, Infix.{common_name}, Select.{heading_at}},
-  form_parts.proofs.LabelLaws.{default_seen},
-  method_meaning.specs.{Rows.{all_places}, Merge.{MergeKeys, is_key, suffixed_heading, left_heading, right_heading, right_places, merged, merged_rows}},
-  frame_store.{specs.{declared.fault.OpFault.{OpFault, TheVariants.{Refused, NoMemory}}, Parts.{HeadingList, columns_of, table_of}, Shown.{headings_value, columns_value, Makes, Refuses}}, proofs.Settling.{table_settled, settled_later, seen_later, columns_part}},
-  selections.{specs.Headings.{NamesRepeated, repeated_heading}, proofs.{HeadingLaws.{repeated_seen}, RefusalLaws.{repeated_settled}}},
+  form_meaning.specs.{Finish.{within_limits, limited, unless_repeated, default_labels}, Infix.{common_name}, Select.{heading_at}},
   frame_methods.proofs.RenameLaws.{frame_heads},
-  label_methods.proofs.TableLaws.{limited_within},
-  merge_forms.{specs.{Headings.{merged_headings}, Columns.{merged_columns}, Rows.{repeated_in, pairs_in, HasMet}, Tables.{IsHeaded, MayFinish}}, proofs.ColumnLaws.{columns_seen, columns_meant, columns_settled, columns_counted}},
 }
+use Rattle.method_meaning.specs.Merge as meant
 
--- within the limits, or beyond them
-abbrev within_then : Table → Bool → Result Entry FaultValue
-within_then t b = then_value (if b then Ok t else Err limit) (λ t. Ok (table t))
+-- one column more
+pub one_more_in_range : {X : Type 0} (f : ℕ → X) (place : ℕ) (x : X) (made made' : List X) → x ≡ f place → made' ≡ made ++ x ∷ [] → made ≡ map f (range_with_len 0 place) → made' ≡ map f (range_with_len 0 (place + 1))
+one_more_in_range = grind (arith, map-range_with_len_more)
 
-too_many : (rows columns : ℕ) → 2 ^ 26 < rows → within_limits rows columns ≡ false
-too_many = grind (arith, nat_tests)
+pub one_more_at : {X : Type 0} (f : ℕ → X) (places : List ℕ) (k place : ℕ) (x : X) (first made made' : List X) → slice_get places k ≡ Some place → x ≡ f place → made' ≡ made ++ x ∷ [] → made ≡ first ++ map f (take k places)
+    → made' ≡ first ++ map f (take (k + 1) places)
+one_more_at f places k place x _ _ _ at is pushed before = rw (pushed, before, is, take_more places k 0 (slice_get_within places k place at), map-append, get_or_from_slice_get places k place 0 at, append_assoc)
 
-module _ (texts : List Text) (distinct : AreDistinct texts) (labels : List (Option Label)) (settled : IsSettled headings_value texts labels) (t : Table) (h : IsHeaded texts labels t) where
-  finished_by : (found : Option Label) → repeated_heading labels ≡ found → finished t ≡ unless_repeated (heading_value texts found) (limited t)
-  finished_by = grind (arith, repeated_seen)
+-- the cells of a key, one more of them
+pub one_more_key : {C : Type 0} (na : C) (left right : List C) (ls rs : List (Option ℕ)) (row : ℕ) (l r : Option ℕ) (c : C) (made made' whole : List C) → length rs ≡ length ls → slice_get ls row ≡ Some l → slice_get rs row ≡ Some r
+    → c ≡ key_cell_at na left right l r → made' ≡ made ++ c ∷ [] → made ++ key_cells na left right (drop row ls) (drop row rs) ≡ whole → made' ++ key_cells na left right (drop (row + 1) ls) (drop (row + 1) rs) ≡ whole
+one_more_key na left right ls rs row l r _ _ _ _ same here there is pushed before =
+    let lt = slice_get_within ls row l here in
+    rw (pushed, is, append_assoc) (rw (drop_more ls row None lt, drop_more rs row None (omega (arith, lt, same)), get_or_from_slice_get ls row l None here, get_or_from_slice_get rs row r None there) at before)
 
-  pub may_within : (count : ℕ) → repeated_heading labels ≡ None → length t.labels ≡ count → within_limits count (length labels) ≡ true → finished t ≡ Ok (table t)
-  may_within = grind (arith, finished_by, limited_within)
+-- how many there are
+key_count : {C : Type 0} (na : C) (left right : List C) (ls rs : List (Option ℕ)) → length rs ≡ length ls → length (key_cells na left right ls rs) ≡ length ls
+key_count _ _ _ [] _ _ = refl
+key_count _ _ _ (l ∷ ls) [] same = search
+key_count na _ _ (l ∷ ls) (r ∷ rs) same = ap suc (key_count na _ _ ls rs (omega (arith, same)))
 
-  pub may_beyond : (count : ℕ) → repeated_heading labels ≡ None → length t.labels ≡ count → within_limits count (length labels) ≡ false → Refuses texts Limit (finished t)
-  may_beyond = grind (arith, finished_by)
+module _ {C : Type 0} (na : C) (l r : List (ColumnOf C)) (keys : MergeKeys) (lefts rights : List (Option ℕ)) (same : length rights ≡ length lefts) where
+  abbrev IsLong : ColumnOf C → Type 0
+  IsLong c = length c.cells ≡ length lefts
 
-  pub may_many : repeated_heading labels ≡ None → 2 ^ 26 < length t.labels → Refuses texts Limit (finished t)
-  may_many = grind (arith, finished_by, too_many)
+  left_counted : (place : ℕ) → length (left_column_on na l r keys lefts rights place).cells ≡ length lefts
+  left_counted = grind (arith, key_count, length-map)
 
-  pub may_repeated : (why : OpFault) → NamesRepeated why (repeated_heading labels) → MayFinish {X = HeadingList} texts (Err why) t
-  may_repeated (Refused code) named = (finished_by _ named.1 ∙ ap (λ c. Err (fault_of texts c)) (sym named.2), search repeated_settled)
-  may_repeated NoMemory _ = tt
+  columns_counted : (places : List ℕ) → All IsLong (merged_columns na l r keys places lefts rights)
+  columns_counted places =
+      All-append IsLong _ _
+      (All-map IsLong (left_column_on na l r keys lefts rights) (range_with_len 0 (length l)) (λ k d lt. left_counted _))
+      (All-map IsLong (column_on na r rights) places (λ k d lt. search length-map))
 
-pub within_few : (rows columns : ℕ) → within_limits rows columns ≡ true → rows ≤ 2 ^ 26
-within_few = grind (arith, nat_tests)
+-- a column that is no key has none that stands for it
+pub no_right : (lefts rights : List ℕ) (place : ℕ) → length rights ≡ length lefts → is_key lefts place ≡ false → slice_get rights (position_or_len (nat_eq place) lefts) ≡ None
+no_right [] [] _ _ _ = refl
+no_right [] (r ∷ rights) _ same other = search
+no_right (l ∷ lefts) [] _ same other = search
+no_right (l ∷ lefts) (r ∷ rights) place same other = grind (arith, nat_eq, slice_get, no_right lefts rights place (omega (arith, same)))
+
+-- as they are seen
+module _ (texts : List Text) where
+  cell_on : (cells : List Cell) (gap : Option ℕ) → datum texts (gap_cell Na cells gap) ≡ gap_cell na_cell (map (datum texts) cells) gap
+  cell_on _ None = refl
+  cell_on cells (Some place) = sym (get_or-map (datum texts) cells _ _)
+
+  key_seen : (left right : List Cell) (l r : Option ℕ) → datum texts (key_cell_at Na left right l r) ≡ key_cell_at na_cell (map (datum texts) left) (map (datum texts) right) l r
+  key_seen = grind (arith, cell_on)
+
+  keys_seen : (left right : List Cell) (ls rs : List (Option ℕ)) → map (datum texts) (key_cells Na left right ls rs) ≡ key_cells na_cell (map (datum texts) left) (map (datum texts) right) ls rs
+  keys_seen _ _ [] _ = refl
+  keys_seen _ _ (l ∷ ls) [] = refl
+  keys_seen left right (l ∷ ls) (r ∷ rs) = search (key_seen, keys_seen left right ls rs)
+
+  on_seen : (cs : List (ColumnOf Cell)) (rows : List (Option ℕ)) (place : ℕ) → column_value texts (column_on Na cs rows place) ≡ column_on na_cell (columns_value texts cs) rows place
+  on_seen cs rows place = cc (on_rows_seen texts rows (column_at cs place ∷ []), column_seen texts cs place)
+
+  module _ (l r : List (ColumnOf Cell)) (keys : MergeKeys) (lefts rights : List (Option ℕ)) where
+    left_seen : (place : ℕ) → column_value texts (left_column_on Na l r keys lefts rights place) ≡ left_column_on na_cell (columns_value texts l) (columns_value texts r) keys lefts rights place
+    left_seen place = by (right_key keys place)
+      where
+        by : (o : Option ℕ) → column_value texts (joined_or_left Na l r lefts rights place o) ≡ joined_or_left na_cell (columns_value texts l) (columns_value texts r) lefts rights place o
+        by (Some other) = grind (arith, column_seen, keys_seen)
+        by None = on_seen l _ _
+
+    columns_seen : (places : List ℕ) → columns_value texts (merged_columns Na l r keys places lefts rights) ≡ merged_columns na_cell (columns_value texts l) (columns_value texts r) keys places lefts rights
+    columns_seen places = rw (map-append, map_map, map_map, length-map) (λ i. map (λ place. left_seen place i) (range_with_len 0 (length l)) ++ map (λ place. on_seen r rights place i) places)
+
+columns_settled : (texts : List Text) (l r : List (ColumnOf Cell)) (keys : MergeKeys) (lefts rights : List (Option ℕ)) (places : List ℕ) → IsSettled columns_value texts l → IsSettled columns_value texts r
+    → IsSettled columns_value texts (merged_columns Na l r keys places lefts rights)
+columns_settled = grind (arith, columns_seen)
+
+-- as they are meant
+cells_meant : (left right : List CellValue) (ps : List Pair) → key_cells na_cell left right (map (λ p. p.left) ps) (map (λ p. p.right) ps) ≡ map (key_cell left right) ps
+cells_meant _ _ [] = refl
+cells_meant left right (p ∷ ps) = cc (cells_meant left right ps)
+
+left_meant : (l r : Table) (ps : List Pair) (place : ℕ) (o : Option ℕ) → joined_or_left na_cell l.columns r.columns (map (λ p. p.left) ps) (map (λ p. p.right) ps) place o ≡ meant.joined_or_left l r ps place o
+left_meant = grind (arith, cells_meant)
+
+columns_meant : (l r : Table) (keys : MergeKeys) (ps : List Pair) → merged_columns na_cell l.columns r.columns keys (right_places r keys) (map (λ p. p.left) ps) (map (λ p. p.right) ps)
+    ≡ map (left_column l r keys ps) (all_places l) ++ map (column_of_side r (map (λ p. p.right) ps)) (right_places r keys)
+columns_meant l r keys ps = λ i. map (λ place. left_meant l r ps place (right_key keys place) i) (all_places l) ++ map (column_of_side r (map (λ p. p.right) ps)) (right_places r keys)
 
 -- as many numbered rows
-pub rows_numbered : (count : ℕ) → length (range_axis count).tuples ≡ count
+rows_numbered : (count : ℕ) → length (range_axis count).tuples ≡ count
 rows_numbered = grind (arith, length-map, length-map-range_with_len)
 
--- the frame that is meant
-module _ (l r : Table) (keys : MergeKeys) (ps : List Pair) where
-  pub rows_meant : length (merged l r keys ps).labels ≡ length ps
-  rows_meant = search length-map-range_with_len
+-- the columns of the right side are its own
+rights_below : (r : Table) (keys : MergeKeys) → All (λ place. place < length r.columns) (right_places r keys)
+rights_below r keys = All-filter _ (λ place. place < length r.columns) _ (below_range (length r.columns))
 
-  pub is_headed : (texts : List Text) (labels : List (Option Label)) → headings_value texts labels ≡ merged_headings l r keys → IsHeaded texts labels (merged l r keys ps)
-  is_headed = grind (arith, length-append, length-map)
+pub rights_inside : (texts : List Text) (r : NumberedTable) (keys : MergeKeys) (rights : List ℕ) → rights ≡ right_places (table_value texts r) keys → All (λ place. place < length r.columns) rights
+rights_inside texts r keys _ is = rw is (subst (λ n. All (λ place. place < n) (right_places (table_value texts r) keys)) (length-map r.columns _) (rights_below (table_value texts r) keys))
 
 -- each column has a label
 some_suffixed : (suffix : Text) (others : List (Option LabelValue)) (h : Option LabelValue) → IsSome h → IsSome (suffixed_heading suffix others h)
@@ -69,112 +128,131 @@ module _ (l r : Table) (keys : MergeKeys) (of_left : All IsSome l.headings) (of_
   some_at : (t : Table) → All IsSome t.headings → length t.headings ≡ length t.columns → (place : ℕ) → place < length t.columns → IsSome (heading_at t place)
   some_at = grind arith
 
-  lefts_some : All IsSome (map (left_heading l r keys) (all_places l))
-  lefts_some = All-map IsSome _ _ (λ k d lt.
+  all_labelled : All IsSome (merged_headings l r keys)
+  all_labelled =
+      All-append IsSome _ _
+      (All-map IsSome _ _ (λ k d lt.
       let place = slice_index_or (all_places l) k d in
       let some = some_at l of_left left_counted _ (below_range (length l.columns) k d lt) in
-      some_if (is_key keys.left place) _ _ some (search some_suffixed))
-
-  rights_below : All (λ place. place < length r.columns) (right_places r keys)
-  rights_below = All-filter _ (λ place. place < length r.columns) _ (below_range (length _))
-
-  rights_some : All IsSome (map (right_heading l r keys) (right_places r keys))
-  rights_some = All-map IsSome _ _ (λ k d lt.
-      some_suffixed _ _ _ (some_at r of_right right_counted _ (rights_below k d lt)))
-
-  pub all_labelled : All IsSome (merged_headings l r keys)
-  all_labelled = All-append IsSome _ _ lefts_some rights_some
+      some_if (is_key keys.left place) _ _ some (search some_suffixed)))
+      (All-map IsSome _ _ (λ k d lt. some_suffixed _ _ _ (some_at r of_right right_counted _ (rights_below r keys k d lt))))
 
 -- the same by numbers
-some_seen : (texts : List Text) (h : Option Label) → IsSome (heading_value texts h) → IsSome h
-some_seen = grind arith
+module _ (texts : List Text) where
+  some_seen : (h : Option Label) → IsSome (heading_value texts h) → IsSome h
+  some_seen = grind arith
 
-seen_some : (texts : List Text) (h : Option Label) → IsSome h → IsSome (heading_value texts h)
-seen_some = grind arith
+  seen_some : (h : Option Label) → IsSome h → IsSome (heading_value texts h)
+  seen_some = grind arith
 
-pub headings_some : (texts : List Text) (hs : List (Option Label)) → All IsSome hs → All IsSome (headings_value texts hs)
-headings_some _ _ all = All-map IsSome _ _ (λ k d lt. seen_some _ _ (all k d lt))
+  headings_some : (hs : List (Option Label)) → All IsSome hs → All IsSome (headings_value texts hs)
+  headings_some _ all = All-map IsSome _ _ (λ k d lt. seen_some _ (all k d lt))
 
-pub some_headings : (texts : List Text) (hs : List (Option Label)) → All IsSome (headings_value texts hs) → All IsSome hs
-some_headings _ [] _ = All-nil _
-some_headings _ (h ∷ hs) all =
-    All-cons IsSome h _ (some_seen _ h (all 0 None (omega arith))) (some_headings _ hs (λ k d lt. all (suc k) d (omega (arith, lt))))
+  some_headings : (hs : List (Option Label)) → All IsSome (headings_value texts hs) → All IsSome hs
+  some_headings hs all = λ k d lt. some_seen _ (subst IsSome (get_or-map (heading_value texts) hs k d) (all k _ (omega (arith, length-map hs (heading_value texts), lt))))
 
-module _ (old new : List Text) (longer : IsLonger old new) (l r : NumberedTable) (left_given : IsSettled table_value old l) (right_given : IsSettled table_value old r) (keys : MergeKeys) where
+-- more rows than the limit
+too_many : (rows columns : ℕ) → 2 ^ 26 < rows → within_limits rows columns ≡ false
+too_many = grind (arith, nat_tests)
+
+-- the frame that is frame_meant, of rows that are met and labels that are made
+module _ (old new : List Text) (l r : NumberedTable) (numbers : NumberedKeys) (known : record { left : IsKnownTable old l; right : IsKnownTable old r; frames : (l.shape ≡ Frame) × (r.shape ≡ Frame); keys : AreMergeKeys l r numbers }) (how : How) (once : Validate) (met : Option Pairs)
+    (found : record { rows : MeetsBy old (Ok met) (repeated_in once (table_value old l) (table_value old r) (keys_value numbers)) (pairs_in how (table_value old l) (table_value old r) (keys_value numbers)); inside : IfSome met (AreRowsMet l r) }) (distinct : AreDistinct new) (labels slice : List (Option Label))
+    (labelled : record { longer : IsLonger old new; given : IsSettled headings_value new labels; labels : headings_value new labels ≡ merged_headings (table_value old l) (table_value old r) (keys_value numbers) }) (sliced : slice ≡ labels) where
   abbrev L : Table
   L = table_value old l
 
   abbrev R : Table
   R = table_value old r
 
-  pub labels_some : IsWhole l → IsWhole r → l.shape ≡ Frame → r.shape ≡ Frame → (labels : List (Option Label)) → headings_value new labels ≡ merged_headings L R keys → All IsSome labels
-  labels_some left_whole right_whole left_frame right_frame _ is =
-      some_headings _ _ (subst (All IsSome) (sym is)
-      (all_labelled L R _ (headings_some _ _ (left_whole.headings.labelled left_frame)) (headings_some _ _ (right_whole.headings.labelled right_frame))
-      (search length-map)
-      (search length-map)))
+  abbrev keys : MergeKeys
+  keys = keys_value numbers
 
-  module _ (ps : List Pair) (made : Pairs) (are : ArePairs made ps) (rights : List ℕ) (rights_are : rights ≡ right_places R keys) (name : Option Label) (named : heading_value old name ≡ common_name L.columns_name R.columns_name) (name_given : IsSettled heading_value old name) (labels : List (Option Label)) (labels_are : headings_value new labels ≡ merged_headings L R keys) (labels_given : IsSettled headings_value new labels) (count : ℕ) (counted : count ≡ length made.left) (axis : AxisValue) (axis_is : axis ≡ range_axis count)
-      (headings : HeadingList) (headings_are : headings ≡ record { columns_name = name; labels = labels }) (blocks : List CellBlock) (blocks_are : columns_of blocks ≡ merged_columns Na l.columns r.columns keys rights made.left made.right) where
-    rows_are : length made.left ≡ length ps
-    rows_are = ap length are.left ∙ length-map ps _
+  abbrev ps : List Pair
+  ps = pairs_in how L R keys
 
-    abbrev whole : NumberedTable
-    whole = record {
-      shape = Frame;
-      columns_name = name;
-      level_names = (range_axis count).names;
-      labels = (range_axis count).tuples;
-      headings = labels;
-      columns = merged_columns Na l.columns r.columns keys rights made.left made.right;
-    }
+  abbrev frame_meant : Table
+  frame_meant = merged L R keys ps
 
-    columns_are : columns_value new (merged_columns Na l.columns r.columns keys rights made.left made.right) ≡ (merged L R keys ps).columns
-    columns_are = grind (arith, columns_seen, seen_later, columns_part, columns_meant)
+  abbrev answer : Result Entry FaultValue
+  answer = merged_rows L R how once keys
 
-    whole_seen : table_value new whole ≡ merged L R keys ps
-    whole_seen = λ i. record {
-      shape = Frame;
-      columns_name = (seen_later heading_value old new _ longer name_given ∙ named) i;
-      level_names = None ∷ [];
-      labels = (default_seen new _ ∙ ap default_labels (counted ∙ rows_are)) i;
-      headings = labels_are i;
-      columns = columns_are i;
-    }
+  rows_meant : length frame_meant.labels ≡ length ps
+  rows_meant = search length-map-range_with_len
 
-    whole_settled : IsSettled table_value new whole
-    whole_settled =
-        table_settled _ whole (settled_later heading_value old new name longer name_given) (λ more. refl) (λ more. search default_seen) labels_given
-        (search (columns_settled, settled_later, columns_part))
+  headed : length frame_meant.columns ≡ length labels
+  headed = grind (arith, length-append, length-map)
 
-    -- the frame that is made is the one that is meant
-    pub made_is : (how : How) (once : Validate) (made' : NumberedTable) → repeated_in once L R keys ≡ None → ps ≡ pairs_in how L R keys → finished (merged L R keys ps) ≡ Ok (table (merged L R keys ps)) → made' ≡ table_of Frame axis headings blocks
-        → Makes new (Ok made') (merged_rows L R how once keys)
-    made_is = grind (arith, whole_seen, whole_settled)
+  finished_by : (found : Option Label) → repeated_heading slice ≡ found → answer ≡ unless_repeated (heading_value new found) (limited frame_meant)
+  finished_by = grind (arith, repeated_seen new labels distinct labelled.given, found.rows.0, sliced)
 
-    -- its parts fit
-    pub parts_fit : length made.right ≡ length made.left → All IsSome labels → repeated_heading labels ≡ None → IsWhole (table_of Frame axis headings blocks)
-    parts_fit = grind (arith, length-map, length-append, whole_seen, rows_numbered, columns_counted, frame_heads)
+  pub repeated_so : (why : OpFault) → NamesRepeated why (repeated_heading slice) → Makes new (Err why) answer
+  repeated_so (Refused code) named =
+      let given : IsSettled headings_value new slice = rw sliced labelled.given in
+      (finished_by _ named.1 ∙ ap (λ c. Err (fault_of new c)) (sym named.2), search repeated_settled)
+  repeated_so NoMemory _ = tt
 
--- as many rows as pairs
-pub pairs_counted : (l r : Table) (keys : MergeKeys) (ps : List Pair) (made : Pairs) (count : ℕ) → ArePairs made ps → count ≡ length made.left → length (merged l r keys ps).labels ≡ count
-pairs_counted l r keys ps _ _ are is = rows_meant l r keys _ ∙ sym (is ∙ ap length are.left ∙ length-map ps _)
+  module _ (none : repeated_heading slice ≡ None) where
+    pub many_so : met ≡ None → Makes new (Err (Refused Limit)) answer
+    many_so is = let many : 2 ^ 26 < length ps = rw is at found.rows.1 in grind (arith, finished_by _ none, too_many, rows_meant)
 
-pub met_some : (met : Option Pairs) (ps : List Pair) (made : Pairs) → met ≡ Some made → HasMet met ps → ArePairs made ps
-met_some = grind arith
+    module _ (made : Pairs) (some : met ≡ Some made) (count : ℕ) (counted : count ≡ length made.left) where
+      are : ArePairs made ps
+      are = grind (arith, found.rows.1)
 
-pub met_none : (met : Option Pairs) (ps : List Pair) → met ≡ None → HasMet met ps → 2 ^ 26 < length ps
-met_none _ _ is has = rw is at has
+      rows_are : count ≡ length ps
+      rows_are = counted ∙ ap length are.left ∙ length-map ps _
 
--- why no frame is made
-abbrev refused : {X : Type 0} → OpFault → Result X OpFault
-refused fault = Err fault
+      pub beyond_so : within_limits count (length labels) ≡ false → Makes new (Err (Refused Limit)) answer
+      beyond_so = grind (arith, finished_by _ none, headed, rows_meant, rows_are)
 
-pub refused_is : (new : List Text) (L R : Table) (keys : MergeKeys) (how : How) (once : Validate) (why : OpFault) → repeated_in once L R keys ≡ None → MayFinish {X = HeadingList} new (Err why) (merged L R keys (pairs_in how L R keys)) → Makes new (Err why) (merged_rows L R how once keys)
-refused_is _ L R = grind arith
+      -- its columns and rows
+      module _ (rights : List ℕ) (counted_right : ℕ) (kept : rights ≡ filter (is_other keys.right) (range_with_len 0 counted_right)) (columns : counted_right ≡ length r.columns) (a b called : Option Label) (a_is : a ≡ l.columns_name) (b_is : b ≡ r.columns_name) (named : record { name : heading_value old called ≡ common_name (heading_value old a) (heading_value old b); settled : IsSettled heading_value old called })
+          (axis : AxisValue) (axis_is : axis ≡ range_axis count) (headings : HeadingList) (headings_are : headings ≡ record { columns_name = called; labels = slice }) (blocks : List CellBlock) (blocks_are : columns_of blocks ≡ merged_columns Na l.columns r.columns keys rights made.left made.right) where
+        abbrev whole : NumberedTable
+        whole = record {
+          shape = Frame;
+          columns_name = called;
+          level_names = (range_axis count).names;
+          labels = (range_axis count).tuples;
+          headings = labels;
+          columns = merged_columns Na l.columns r.columns keys rights made.left made.right;
+        }
 
--- the columns of the right side are its own
-pub rights_inside : (texts : List Text) (r : NumberedTable) (keys : MergeKeys) (rights : List ℕ) → rights ≡ right_places (table_value texts r) keys → All (λ place. place < length r.columns) rights
-rights_inside texts r keys _ is =
-    rw is
-    (subst (λ n. All (λ place. place < n) (right_places (table_value texts r) keys)) (length-map r.columns _) (All-filter _ (λ place. place < length (table_value texts r).columns) _ (below_range (length (table_value texts r).columns))))
+        rights_are : rights ≡ right_places R keys
+        rights_are = others_meant old r _ _ _ kept columns
+
+        columns_are : columns_value new (merged_columns Na l.columns r.columns keys rights made.left made.right) ≡ frame_meant.columns
+        columns_are = grind (arith, are, rights_are, columns_seen, seen_later, columns_part, columns_meant)
+
+        whole_seen : table_value new whole ≡ frame_meant
+        whole_seen = λ i. record {
+          shape = Frame;
+          columns_name = (seen_later heading_value old new _ labelled.longer named.settled ∙ named.name ∙ (λ j. common_name (heading_value old (a_is j)) (heading_value old (b_is j)))) i;
+          level_names = None ∷ [];
+          labels = (default_seen new _ ∙ ap default_labels rows_are) i;
+          headings = labelled.labels i;
+          columns = columns_are i;
+        }
+
+        whole_settled : IsSettled table_value new whole
+        whole_settled =
+            table_settled _ whole (settled_later heading_value old new called labelled.longer named.settled) (λ more. refl) (λ more. search default_seen) labelled.given
+            (search (columns_settled, settled_later, columns_part))
+
+        -- the frame that is made is the one that is frame_meant
+        pub made_is : within_limits count (length labels) ≡ true → (made' : NumberedTable) → made' ≡ table_of Frame axis headings blocks → Makes new (Ok made') answer
+        made_is = grind (arith, finished_by _ none, limited_within, headed, rows_meant, rows_are, whole_seen, whole_settled)
+
+        labels_some : All IsSome labels
+        labels_some =
+            some_headings _ _ (subst (All IsSome) (sym labelled.labels)
+            (all_labelled L R _ (headings_some _ _ (known.left.whole.headings.labelled known.frames.0)) (headings_some _ _ (known.right.whole.headings.labelled known.frames.1))
+            (search (length-map, known.left.whole.headed))
+            (search (length-map, known.right.whole.headed))))
+
+        -- its parts fit
+        pub parts_fit : IsWhole (table_of Frame axis headings blocks)
+        parts_fit =
+            let same = (rw some at found.inside).same in
+            grind (arith, labels_some, length-map, length-append, whole_seen, rows_numbered, columns_counted, frame_heads)

@@ -40,6 +40,7 @@ fn key_cell(
 }
 
 // The cells of a key on the joined rows.
+#[tactic(auto, using(crate::proofs::TableLaws::one_more_key))]
 fn key_column(
     alloc: Global,
     left: &ColRef<'_>,
@@ -64,6 +65,7 @@ fn key_column(
 }
 
 // A column of the left side on the joined rows.
+#[tactic(auto, using(crate::proofs::TableLaws::no_right))]
 fn left_column(
     alloc: Global,
     l: &ObjRef<'_>,
@@ -93,6 +95,7 @@ fn left_column(
 }
 
 // The columns of the left side on the joined rows.
+#[tactic(auto, using(crate::proofs::Hints::left_columns))]
 fn left_columns(
     alloc: Global,
     l: &ObjRef<'_>,

@@ -31,6 +31,7 @@ pub(crate) struct MergeKeys {
 }
 
 // The labels that `on` names, if it is given.
+#[tactic(auto, using(signatures::proofs::ScalarLaws::scalars_are))]
 pub(crate) fn labels_told(alloc: Global, bound: &Bound<'_>) -> Result<Option<Cells>, NoMemory>
     requires { plain.HasNoText (slice_get bound.now.parameters.now 2) }
     ensures { IfOk result (λ told. (live : Tables) (texts : List Text)
@@ -56,6 +57,7 @@ pub(crate) fn labels_told(alloc: Global, bound: &Bound<'_>) -> Result<Option<Cel
 }
 
 // The labels of columns that both frames have, in the order of the left.
+#[tactic(auto, using(crate::proofs::Hints::common_labels))]
 fn common_labels(
     alloc: Global,
     dict: &TextDict,
@@ -85,6 +87,7 @@ fn common_labels(
 }
 
 // The columns of these labels on both sides. A label that is absent on the left is refused first.
+#[tactic(auto, using(crate::proofs::Hints::keys_named))]
 fn keys_named(
     alloc: Global,
     dict: &TextDict,
@@ -135,6 +138,7 @@ fn keys_told(
 }
 
 // Whether the keys are of the same kinds on both sides.
+#[tactic(auto, using(crate::proofs::KeyLaws::not_same, crate::proofs::KeyLaws::same_on))]
 fn are_same_kinds(l: &ObjRef<'_>, r: &ObjRef<'_>, keys: &MergeKeys) -> bool
     requires { ArePaired l.now r.now keys.now }
     ensures { result ≡ meant.are_same_kinds

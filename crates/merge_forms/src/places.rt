@@ -6,6 +6,7 @@ ghost use Rattle.method_meaning.specs.Merge.{is_key};
 use cell_core::Places;
 
 // The first place among the keys at which a column stands, if it is one.
+#[tactic(auto, using(crate::proofs::Hints::key_at))]
 pub(crate) fn key_at(keys: &Places, column: usize) -> Option<usize>
     ensures key { is_some result ≡ is_key keys.now column }
     ensures place { IfSome result (λ place. position_or_len (nat_eq column) keys.now ≡ place) }

@@ -33,6 +33,7 @@ fn met(joined: Result<Pairs, MergeFault>) -> Result<Option<Pairs>, OpFault>
 
 // The rows of both frames that have equal keys, NA with NA, and as `how` says those that meet none; no pairs where
 // there are more than a table may have rows. A key that stands twice on a side where each may stand once is refused.
+#[tactic(auto, using(crate::proofs::RowLaws::both_fit, key_columns::proofs::KeyLaws::keys_counted))]
 pub(crate) fn rows_met(
     alloc: Global,
     dict: &TextDict,

@@ -1,6 +1,6 @@
 -- One more level, first or last.
 use Rattle.{
-  std.proofs.{Common.{◌≡◌, ap, refl, arith, ℕ, zero, suc, ◌+◌, ◌-◌, ◌<◌, ◌≤◌, Bool, true, false, List, [], ◌∷◌, ◌++◌, length, take, set, replicate, slice_index_or}, lemmas.List.{take_more, take_all, length-take-le, length-append, length-replicate, Elements.{All-cons, All-head, All-tail}}},
+  std.proofs.{Common.{◌≡◌, ap, refl, arith, ℕ, zero, suc, ◌+◌, ◌-◌, ◌<◌, ◌≤◌, Bool, true, false, List, [], ◌∷◌, ◌++◌, length, take, set, replicate, slice_index_or}, lemmas.List.{take_more, length-take-le, Elements.{All-cons, All-head, All-tail}}},
   cell_core.specs.declared.cell.Label.{Label},
   multi_index.specs.Axes.{HaveLevels, with_one, first_of, tuples_with},
 }
@@ -52,7 +52,7 @@ pub levels_with : (outer : Bool) (levels : ℕ) (labels : List Label) (tuples : 
 levels_with _ _ [] _ alike = grind arith
 levels_with _ _ (l ∷ labels) [] alike = grind arith
 levels_with outer levels (l ∷ labels) (t ∷ tuples) alike =
-    All-cons (λ t. length t ≡ levels + 1) (with_one outer l t) (tuples_with outer labels tuples) (longer outer) (levels_with outer levels labels tuples (All-tail (λ t. length t ≡ levels) t tuples alike))
+    All-cons (λ t. length t ≡ levels + 1) (with_one outer l t) (tuples_with outer labels tuples) (longer _) (levels_with _ _ labels _ (All-tail (λ t. length t ≡ levels) t tuples alike))
   where
     longer : (b : Bool) → length (with_one b l t) ≡ levels + 1
     longer true = let size = All-head (λ t. length t ≡ levels) t tuples alike in omega arith
@@ -74,9 +74,3 @@ added_next = grind (arith, added_more)
 pub next_written : {X : Type 0} (outer : Bool) (x : X) (room xs : List X) (k place : ℕ) (y : X) → k < length xs → length xs ≤ 3 → place ≡ first_of outer + k → y ≡ slice_index_or xs k y
     → room ≡ four_with outer x (take k xs) → set room place y ≡ four_with outer x (take (k + 1) xs)
 next_written = grind (arith, length-take-le, written, take_more)
-
-pub end_written : {X : Type 0} (outer : Bool) (x : X) (room xs : List X) (k n : ℕ) → length xs ≤ k → n ≡ length xs → length xs ≤ 3 → room ≡ four_with outer x (take k xs) → take (n + 1) room ≡ with_one outer x xs
-end_written = grind (arith, take_all, all_written)
-
-pub four_long : {X : Type 0} (outer : Bool) (x : X) (xs : List X) → length xs ≤ 3 → length (four_with outer x xs) ≡ 4
-four_long = grind (arith, length-append, length-replicate)

@@ -1,6 +1,6 @@
 -- Some levels of an axis, by their places.
 use Rattle.{
-  std.{proofs.{Common.{◌≡◌, ◌∙◌, ap, sym, refl, arith, ℕ, suc, ◌+◌, ◌-◌, ◌<◌, List, [], ◌∷◌, ◌++◌, length, map, take, drop, set, remove, swap, slice_index_or, Option, None, All}, lemmas.List.{take_more, take_more_set, map-append, map-id, map-set, take-map, drop-map, get_or-map, length-map, length-drop, Elements.{All-head, All-tail, All-map, All-append, All-take, All-drop, All-set}, FromFn.{fill_by_all, length-range_with_len, get_or-range_with_len, map-range_with_len_more}, Edits.{length-remove}}}, specs.List.{range_with_len}},
+  std.{proofs.{Common.{◌≡◌, ◌∙◌, ap, sym, refl, arith, ℕ, ◌+◌, ◌<◌, List, [], ◌∷◌, ◌++◌, length, map, take, drop, set, remove, swap, slice_index_or, Option, None, All}, lemmas.List.{take_more, take_more_set, map-append, map-id, map-set, take-map, drop-map, get_or-map, length-map, Elements.{All-head, All-tail, All-map}, FromFn.{fill_by_all, length-range_with_len, get_or-range_with_len, map-range_with_len_more}}}, specs.List.{range_with_len}},
   cell_core.specs.declared.cell.Label.{Label, TheVariants.{Na}},
   index_core.specs.Labels.{labels_at},
   multi_index.specs.Axes.{AxisValue, HaveLevels, at_levels, without_level, without_leading, with_swapped},
@@ -9,27 +9,6 @@ use Rattle.{
 -- all levels
 pub levels_below : (n : ℕ) → All (λ level. level < n) (range_with_len 0 n)
 levels_below = grind (arith, length-range_with_len, get_or-range_with_len)
-
-pub removed_below : (n level : ℕ) → All (λ l. l < n) (remove (range_with_len 0 n) level)
-removed_below n level =
-    All-append (λ l. l < n) (take level (range_with_len 0 n)) (drop (suc level) (range_with_len 0 n)) (All-take (λ l. l < n) level (range_with_len 0 n) (levels_below n)) (All-drop (λ l. l < n) (suc level) (range_with_len 0 n) (levels_below n))
-
-pub removed_counted : (n level : ℕ) → level < n → length (remove (range_with_len 0 n) level) + 1 ≡ n
-removed_counted = search (length-range_with_len, length-remove)
-
-pub dropped_below : (n some : ℕ) → All (λ l. l < n) (drop some (range_with_len 0 n))
-dropped_below n some = All-drop (λ l. l < n) some (range_with_len 0 n) (levels_below n)
-
-pub dropped_counted : (n some : ℕ) → length (drop some (range_with_len 0 n)) ≡ n - some
-dropped_counted = search (length-range_with_len, length-drop)
-
-pub swapped_below : (n i j : ℕ) → i < n → j < n → All (λ l. l < n) (swap (range_with_len 0 n) i j)
-swapped_below n i j first second = both (range_with_len 0 n) (omega (arith, length-range_with_len 0 n)) (omega (arith, length-range_with_len 0 n)) (levels_below n)
-  where
-    both : (xs : List ℕ) → i < length xs → j < length xs → All (λ l. l < n) xs → All (λ l. l < n) (swap xs i j)
-    both [] _ _ all = all
-    both (d ∷ ys) lt lt' all =
-        All-set (λ l. l < n) (set (d ∷ ys) i (slice_index_or (d ∷ ys) j d)) j (slice_index_or (d ∷ ys) i d) (all i d lt) (All-set (λ l. l < n) (d ∷ ys) i (slice_index_or (d ∷ ys) j d) (all j d lt') all)
 
 pub one_level_more : (levels levels' : List ℕ) (level : ℕ) → levels ≡ range_with_len 0 level → levels' ≡ levels ++ level ∷ [] → levels' ≡ range_with_len 0 (level + 1)
 one_level_more _ _ level before pushed = cc (map-id (range_with_len 0 level), map-range_with_len_more (λ n. n) 0 level level (omega arith), map-id (range_with_len 0 (level + 1)))
@@ -51,7 +30,7 @@ module _ {X : Type 0} (xs : List X) (n : ℕ) (d : X) (size : length xs ≡ n) w
   read k = slice_index_or xs k d
 
   all_read : map read (range_with_len 0 n) ≡ xs
-  all_read = sym (fill_by_all read xs n d size (λ k lt. refl))
+  all_read = sym (fill_by_all _ xs n d size (λ k lt. refl))
 
   pub read_removed : (i : ℕ) → map read (remove (range_with_len 0 n) i) ≡ remove xs i
   read_removed = grind (arith, map-append, take-map, drop-map, all_read)
@@ -70,8 +49,8 @@ maps_alike P f g same (x ∷ xs) all = λ j. same x (All-head P x xs all) j ∷ 
 module _ (axis : AxisValue) (n : ℕ) (alike : HaveLevels n axis.tuples) (count : length axis.names ≡ n) where
   levels_are : (order : List ℕ) (labels : List Label → List Label) (names : List (Option Label)) → ((t : List Label) → length t ≡ n → labels_at t order ≡ labels t)
       → map (λ level. slice_index_or axis.names level None) order ≡ names → at_levels axis order ≡ record { tuples = map labels axis.tuples; names = names }
-  levels_are order labels _ same are =
-      let tuples = maps_alike (λ t. length t ≡ n) (λ t. labels_at t order) labels same axis.tuples alike in
+  levels_are _ _ _ same are =
+      let tuples = maps_alike _ _ _ same axis.tuples alike in
       search
 
   pub level_removed : (order : List ℕ) (level : ℕ) → order ≡ remove (range_with_len 0 n) level → at_levels axis order ≡ without_level axis level
@@ -85,7 +64,7 @@ module _ (axis : AxisValue) (n : ℕ) (alike : HaveLevels n axis.tuples) (count 
 
 -- tuples at some levels have a label for each
 pub levels_at : (tuples : List (List Label)) (order : List ℕ) → HaveLevels (length order) (map (λ tuple. labels_at tuple order) tuples)
-levels_at tuples order = All-map (λ t. length t ≡ length order) (λ t. labels_at t order) tuples (λ k d lt. length-map order (λ level. slice_index_or (slice_index_or tuples k d) level Na))
+levels_at tuples order = All-map (λ t. length t ≡ length order) (λ t. labels_at t order) tuples (λ k d lt. length-map order _)
 
 -- a list of one level
 pub only_place : (order : List ℕ) → length order ≡ 1 → slice_index_or order 0 0 ∷ [] ≡ order

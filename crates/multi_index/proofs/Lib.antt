@@ -6,3 +6,4 @@ pub mod SideLaws
 pub mod LevelLaws
 pub mod ListedLaws
 pub mod AddedLaws
+pub mod Hints

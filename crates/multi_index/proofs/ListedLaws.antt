@@ -41,10 +41,10 @@ module _ {L : Type 0} (cmp : L → L → Ordering) where
 
   pub stands_apart : (tuple bound : List L) (level : ℕ) (d : L) (order whole : Ordering) → level < length tuple → level < length bound → order ≡ cmp (slice_index_or tuple level d) (slice_index_or bound level d) → (order ≡ Equal → ⊥)
       → leading_cmp cmp (drop level tuple) (drop level bound) ≡ whole → order ≡ whole
-  stands_apart tuple bound level d order _ inside lt is apart before =
-      stays order (leading_cmp cmp (drop (level + 1) tuple) (drop (level + 1) bound)) apart
+  stands_apart tuple bound level d _ _ inside lt is apart before =
+      stays _ _ apart
       ∙ ap (λ o. ordering_then o (leading_cmp cmp (drop (level + 1) tuple) (drop (level + 1) bound))) is
-      ∙ sym (stands_both tuple bound level d inside lt)
+      ∙ sym (stands_both _ _ _ d inside lt)
       ∙ before
     where
       stays : (o rest : Ordering) → (o ≡ Equal → ⊥) → o ≡ ordering_then o rest
@@ -53,7 +53,7 @@ module _ {L : Type 0} (cmp : L → L → Ordering) where
       stays Greater _ _ = refl
 
   pub stands_short : (tuple bound : List L) (level : ℕ) (whole : Ordering) → length tuple ≤ level → level < length bound → leading_cmp cmp (drop level tuple) (drop level bound) ≡ whole → Less ≡ whole
-  stands_short tuple bound level _ all lt before = sym (none_left (drop level bound) (left bound level lt)) ∙ ap (λ l. leading_cmp cmp l (drop level bound)) (sym (drop_all level tuple all)) ∙ before
+  stands_short tuple bound level _ all lt before = sym (none_left _ (left _ _ lt)) ∙ ap (λ l. leading_cmp cmp l (drop level bound)) (sym (drop_all level tuple all)) ∙ before
     where
       none_left : (bs : List L) → 1 ≤ length bs → leading_cmp cmp [] bs ≡ Less
       none_left [] some = absurd (omega arith)
@@ -83,17 +83,17 @@ module _ (texts : List Text) (tuples : List (List Label)) (sorted : is_in_order 
 
   pub begins_at : (bound : List Label) (row : ℕ) → row ≤ length tuples → ((k : ℕ) → k < row → (d : List Label) → is_lt (cmp (slice_index_or tuples k d) bound) ≡ true)
       → ((d : List Label) → row < length tuples → is_lt (cmp (slice_index_or tuples row d) bound) ≡ false) → IsSplitAt (reaches cmp (Some bound)) tuples row
-  begins_at bound row few before here =
-      split_at_first (reaches cmp (Some bound)) tuples row
-      (λ k d lt. reach_on (is_lt (cmp (slice_index_or tuples (k + 1) d) bound)) (is_lt (cmp (slice_index_or tuples k d) bound)) (search (leading_below, order_total, in_turn)))
+  begins_at _ _ few before here =
+      split_at_first _ _ _
+      (λ k d lt. search (reach_on, leading_below, order_total, in_turn))
       few (λ k lt d. ap not (before k lt d)) (λ d lt. ap not (here d lt))
 
   pub ends_at : (bound : List Label) (row : ℕ) → row ≤ length tuples → ((k : ℕ) → k < row → (d : List Label) → is_gt (cmp (slice_index_or tuples k d) bound) ≡ false)
       → ((d : List Label) → row < length tuples → is_gt (cmp (slice_index_or tuples row d) bound) ≡ true) → IsSplitAt (λ tuple. not (stays_within cmp (Some bound) tuple)) tuples row
-  ends_at bound row few before here =
-      split_at_first (λ tuple. not (stays_within cmp (Some bound) tuple)) tuples row
-      (λ k d lt. leave_on (is_gt (cmp (slice_index_or tuples (k + 1) d) bound)) (is_gt (cmp (slice_index_or tuples k d) bound)) (search (leading_within, order_total, in_turn)))
-      few (λ k lt d. ap (λ b. not (not b)) (before k lt d)) (λ d lt. ap (λ b. not (not b)) (here d lt))
+  ends_at _ _ few before here =
+      split_at_first _ _ _
+      (λ k d lt. search (leave_on, leading_within, order_total, in_turn))
+      few (λ k lt d. grind arith) (λ d lt. grind arith)
 
   -- their slice
   pub slice_found : (lower upper : Option (List Label)) (first end : ℕ) (rows : Rows) → rows_of rows ≡ rows_between first end → IsSplitAt (reaches cmp lower) tuples first

@@ -1,6 +1,6 @@
 -- Axes whose tuples are the same.
 use Rattle.{
-  std.{proofs.{Common.{◌≡◌, ◌∙◌, ℕ, ◌<◌, Bool, List, [], ◌∷◌, length, refl, ap, sym, arith, Some, slice_index_or}, lemmas.Option.{slice_get-get_or}}, specs.{Prelude.{slice_get, option_and_then}, Bool.{Decides}}},
+  std.{proofs.{Common.{◌≡◌, ◌∙◌, ℕ, ◌<◌, Bool, List, [], ◌∷◌, length, refl, ap, sym, arith, Some, slice_index_or}, lemmas.Option.{slice_get-get_or}}, specs.{Prelude.{slice_get}, Bool.{Decides}}},
   cell_core.specs.declared.cell.Label.{Label},
   index_core.proofs.SameLaws.{all_same},
   multi_index.specs.Axes.{AxisValue, HaveLevels, single_tuples, label_at},
@@ -32,10 +32,10 @@ pub same_at_row : (a b : AxisValue) (row levels : ℕ) → row < length a.tuples
 same_at_row a b row _ lt lt' alike alike' same =
     let x = slice_index_or a.tuples row [] in
     let y = slice_index_or b.tuples row [] in
-    let e = tuple_there a row lt in
-    let f = tuple_there b row lt' in
+    let e = tuple_there a _ lt in
+    let f = tuple_there b _ lt' in
     let m = alike row [] lt in
     let n = alike' row [] lt' in
     let at : (level : ℕ) → level < length x → slice_get x level ≡ slice_get y level =
-    λ level inside. sym (ap (option_and_then (λ t. slice_get t level)) e) ∙ same level (omega arith) ∙ ap (option_and_then (λ t. slice_get t level)) f in
+    λ level inside. cc (same level (omega arith)) in
     cc (all_same x y (m ∙ sym n) at)

@@ -49,6 +49,7 @@ impl Model for Axis {
 
 impl Axis {
     /// One level of the whole numbers from 0 to n - 1, without a name. `NoMemory` is the only refusal.
+    #[tactic(auto, using(crate::proofs::TupleLaws::levels_of_single))]
     pub fn range(alloc: Global, n: usize) -> Result<Axis, NoMemory>
         requires { n ≤ 2 ^ 63 }
         ensures { IfOk result (λ axis. axis ≡ range_axis n) }
@@ -261,6 +262,7 @@ impl Axis {
     }
 
     /// The same rows without a level, which leaves with its name. `NoMemory` is the only refusal.
+    #[tactic(auto, using(crate::proofs::Hints::drop_level))]
     pub fn drop_level(&self, alloc: Global, level: usize) -> Result<Axis, NoMemory>
         requires level { level < length self.now.names }
         requires stays { 2 ≤ length self.now.names }
@@ -273,6 +275,7 @@ impl Axis {
 
     /// The same rows without so many leading levels, which leave with their names; one level or more stays.
     /// `NoMemory` is the only refusal.
+    #[tactic(auto, using(crate::proofs::Hints::drop_levels))]
     pub fn drop_levels(&self, alloc: Global, count: usize) -> Result<Axis, NoMemory>
         requires { count < length self.now.names }
         ensures { IfOk result (λ axis. axis ≡ without_leading self.now count) }
@@ -285,6 +288,7 @@ impl Axis {
 
     /// The same rows with two levels exchanged, which may be one and the same; each keeps its name.
     /// `NoMemory` is the only refusal.
+    #[tactic(auto, using(crate::proofs::Hints::swap_levels))]
     pub fn swap_levels(&self, alloc: Global, i: usize, j: usize) -> Result<Axis, NoMemory>
         requires first { i < length self.now.names }
         requires second { j < length self.now.names }
@@ -435,6 +439,7 @@ fn taken(alloc: Global, tuples: &Tuples, places: &Places) -> Result<Tuples, NoMe
 }
 
 // The labels of tuples of one label.
+#[tactic(auto, using(crate::proofs::TupleLaws::one_more_single))]
 fn single_level(alloc: Global, tuples: &Tuples) -> Result<Index, NoMemory>
     requires { HaveLevels 1 tuples.now }
     ensures { IfOk result (λ index. single_tuples index ≡ tuples.now) }

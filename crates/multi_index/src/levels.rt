@@ -9,6 +9,7 @@ use cell_core::{Label, NoMemory, Tuple, Tuples};
 use std::alloc::Global;
 
 // All levels, in order.
+#[tactic(auto, using(crate::proofs::LevelLaws::one_level_more))]
 pub(crate) fn all_levels(alloc: Global, levels: usize) -> Result<Vec<usize>, NoMemory>
     ensures { IfOk result (λ order. order.items ≡ range_with_len 0 levels) }
 {
@@ -64,6 +65,7 @@ pub(crate) fn tuples_of(alloc: Global, axis: &Axis, order: &[usize]) -> Result<T
 }
 
 // The names of these levels, in their order, and none behind them.
+#[tactic(auto, using(std::proofs::lemmas::List::take_all))]
 pub(crate) fn names_of(axis: &Axis, order: &[usize]) -> [Option<Label>; 4]
     requires few { length order.now ≤ 4 }
     requires inside { All (λ level. level < length axis.now.names) order.now }
@@ -101,6 +103,7 @@ fn tuple_with(alloc: Global, axis: &Axis, row: usize, label: Label, outer: bool)
 }
 
 // The labels of each row with one more, first or last.
+#[tactic(auto, using(std::proofs::lemmas::List::take_all))]
 pub(crate) fn tuples_with(
     alloc: Global,
     axis: &Axis,

@@ -17,6 +17,7 @@ use std::alloc::Global;
 use std::cmp::Ordering;
 
 // Whether these are the leading labels of a tuple.
+#[tactic(auto, using(crate::proofs::ListedLaws::leads_all, crate::proofs::ListedLaws::leads_short))]
 fn leads(leading: &Tuple, tuple: &Tuple) -> bool
     ensures { result ≡ leads same_number leading.now tuple.now }
 {
@@ -52,6 +53,7 @@ pub(crate) fn places_of(
 }
 
 // How a tuple's leading labels stand to a bound.
+#[tactic(auto, using(crate::proofs::ListedLaws::stands_equal))]
 fn compare(dict: &TextDict, tuple: &Tuple, bound: &Tuple) -> Ordering
     ensures { result ≡ leading_cmp (order_in dict.now) tuple.now bound.now }
 {

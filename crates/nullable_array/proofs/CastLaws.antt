@@ -1,6 +1,6 @@
 -- The numbers that texts are.
 use Rattle.{
-  std.{proofs.{Common.{◌≡◌, ℕ, zero, suc, ◌<◌, Bool, true, false, ◌&&◌, List, [], ◌∷◌, length, slice_index, arith, ℤ, Option, Some, None, option_map, FitsSigned, w64}, lemmas.{Bool.{lt-ltb, ltb-true, and_parts, and_from, eqb-true, false_from_ne_true}, Str.{IsUtf8-from_ascii, Parse.{IsNumeralModel, numerals_by_value, tells_all_ascii_digits}}}}, specs.Str.{all_ascii_digits, IsAscii, IsUtf8, Parse.{IsNumeral, digits_value, without_leading_sign, signed_digits_value}}},
+  std.{proofs.{Common.{◌≡◌, ℕ, zero, suc, ◌<◌, Bool, true, false, ◌&&◌, List, [], ◌∷◌, slice_index, arith, ℤ, Option, Some, None, option_map, FitsSigned, w64}, lemmas.{Bool.{lt-ltb, ltb-true, and_parts, and_from, eqb-true, false_from_ne_true}, Str.{IsUtf8-from_ascii, Parse.{IsNumeralModel, numerals_by_value, tells_all_ascii_digits}}}}, specs.Str.{all_ascii_digits, IsAscii, IsUtf8, Parse.{IsNumeral, digits_value, without_leading_sign, signed_digits_value}}},
   cell_core.specs.declared.cell.{TextId.{TextId}, Kind.TheVariants.{Int64, Boolean}},
   meaning.specs.{Cell.{has_64_bits, datum, text_of, int_cell, truth_cell as truth_value_cell}, Cast.{is_numeral, numeral_value, whole_number, truth_value, truth_of_number, cast_cell}},
   column_core.specs.Columns.{number_cell, truth_cell, text_cell},
@@ -19,7 +19,7 @@ bits_fit = grind (arith, ltb-true)
 -- a text that is read
 pub numeral_read : (bs : List ℕ) (z : ℤ) → IsNumeral 10 (without_leading_sign bs) → FitsSigned w64 (signed_digits_value 10 bs) → z ≡ signed_digits_value 10 bs → Some z ≡ numeral_value bs
 numeral_read bs z n f e =
-    let is = and_from _ _ (lt-ltb 0 (length (without_leading_sign bs)) n.0) (digits.from (without_leading_sign bs) n.1) in
+    let is = and_from _ _ (lt-ltb 0 _ n.0) (digits.from (without_leading_sign bs) n.1) in
     search (and_from, fits_bits)
 
 -- a text that isn't read

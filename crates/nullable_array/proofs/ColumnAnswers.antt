@@ -1,6 +1,6 @@
 -- What kernels answer, from rows of values to columns of cells.
 use Rattle.{
-  std.{proofs.Common.{arith, ◌≡◌, ℕ, List, refl, sym, ap, ◌∙◌, Option, Some, option_map, Result, Ok, Err, IfOk}, specs.List.{range_with_len}},
+  std.{proofs.Common.{arith, ◌≡◌, ℕ, List, refl, Option, Some, option_map, Result, Ok, Err, IfOk}, specs.List.{range_with_len}},
   cell_core.specs.declared.cell.{Cell.{Cell}, Kind.{Kind}},
   meaning.specs.{Cell.{CellValue, datum, AreGiven}, Column.{not_cast, tabulate, column_of}, Cast.{cast_cell, cast_column}},
   nullable_array.specs.{declared.ops.ArrayFault.{ArrayFault}, Answers.{Answers}},
@@ -20,8 +20,7 @@ total_cast_column texts _ kind is k0 ca n p w law = cc (map-map (λ k. ca (p k))
 -- a cast to the kind of the column
 pub kept_cast_column : {X : Type 0} (texts : List (List ℕ)) (given kind : Kind) → given ≡ kind → (ca : Option X → Cell) (n : ℕ) (p : ℕ → Option X) → ((x : Option X) → cast_cell kind (datum texts (ca x)) ≡ Some (datum texts (ca x)))
     → cast_column given (column_value texts (column_with kind ca n p)) ≡ Ok (column_value texts (column_with kind ca n p))
-kept_cast_column texts given kind is ca n p law =
-    total_cast_column texts given kind is kind ca n p (λ x. datum texts (ca x)) law ∙ ap (λ l. Ok record { kind = kind; cells = l }) (sym (map-map (λ k. ca (p k)) (datum texts) (range_with_len 0 n)))
+kept_cast_column texts given kind is ca n p law = cc (total_cast_column texts given kind is kind ca n p (λ x. datum texts (ca x)) law, map-map (λ k. ca (p k)) (datum texts) (range_with_len 0 n))
 
 -- a cast that may be refused: an answer on the values of rows is the one on the column
 pub cast_answer : {X U : Type 0} (texts : List (List ℕ)) (given kind : Kind) → given ≡ kind → (k0 : Kind) (ca : Option X → Cell) (cu : Option U → Cell) (f : Option X → Option (Option U))

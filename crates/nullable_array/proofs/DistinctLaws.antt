@@ -31,7 +31,7 @@ row_folded = grind arith
 -- a fold of rows is one of the values that are present
 pub values_folded : {S T : Type 0} (step : S → T → S) (row : ℕ → Option T) (s : S) (ks : List ℕ) → fold (λ u k. step_row step u (row k)) s ks ≡ fold step s (present_values (map row ks))
 values_folded _ _ s [] = refl
-values_folded step row s (k ∷ ks) = row_folded step row s (row k) ks (λ t. values_folded step row t ks)
+values_folded _ _ s (k ∷ ks) = row_folded _ _ s _ ks (λ t. values_folded _ _ t ks)
 
 -- a value that is not seen
 abbrev not_in : {K : Type 0} → (K → K → Bool) → List K → K → Bool
@@ -60,12 +60,12 @@ module _ {K : Type 0} (eq : K → K → Bool) (laws : IsEquivalence eq) where
 
   all_seen : (seen keys : List K) → fold (insert_key eq) seen keys ≡ seen ++ unseen eq seen keys
   all_seen seen [] = sym (append-nil seen)
-  all_seen seen (k ∷ keys) = all_seen (insert_key eq seen k) keys ∙ seen_more k seen keys
+  all_seen seen (k ∷ keys) = all_seen (insert_key eq seen k) keys ∙ seen_more k _ _
 
   -- the values of rows, inserted one after another, are each value once
   pub each_value_once : (n : ℕ) (row : ℕ → Option K) → folded (insert_key eq) [] n row ≡ distinct eq (present_values (tabulate n row))
   each_value_once n row =
-      values_folded (insert_key eq) row [] (range_with_len 0 n) ∙ all_seen [] (present_values (tabulate n row)) ∙ filter-all (distinct eq (present_values (tabulate n row)))
+      values_folded _ row [] _ ∙ all_seen [] _ ∙ filter-all _
 
 -- each of a list
 data Each {T : Type 0} (P : T → Type 0) : List T → Type 0 where

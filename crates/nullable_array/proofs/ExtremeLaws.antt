@@ -1,6 +1,6 @@
 -- The last of rows, told with a number that stands before all.
 use Rattle.{
-  std.{proofs.{Common.{◌≡◌, ℕ, ◌+◌, Bool, false, sym, ap, ◌∙◌, Option, Some, None, arith}, lemmas.Int.{ints}}, specs.{Prelude.{ℤ, pos, negsuc, ◌<ℤ◌, FitsSigned, unwrap_or, if◌then◌else◌}, Int.{w64}, Ordering.{int_cmp, is_lt}, declared.cmp.Ordering.{Ordering}}},
+  std.{proofs.Common.{◌≡◌, ℕ, ◌+◌, Bool, false, Option, Some, None, arith}, specs.{Prelude.{ℤ, pos, negsuc, ◌<ℤ◌, unwrap_or, if◌then◌else◌}, Ordering.{int_cmp, is_lt}, declared.cmp.Ordering.{Ordering}}},
   column_core.specs.Rows.{flagged},
   nullable_array.{specs.Folds.{step_row, folded, least_step, greatest_step}, proofs.FoldLaws.{folded_more}},
 }
@@ -17,8 +17,7 @@ module _ (cmp : ℤ → ℤ → Ordering) (blank : ℤ) where
   pub last_more : (row : ℕ → Option ℤ) (n : ℕ) (best : ℤ) (p : Bool) (x : ℤ) → best ≡ unwrap_or (folded (greatest_step cmp) None n row) blank → row n ≡ flagged p x
       → is_lt (cmp best blank) ≡ false → (is_lt (cmp blank x) ≡ false → x ≡ blank)
       → later best (if p then x else blank) ≡ unwrap_or (folded (greatest_step cmp) None (n + 1) row) blank
-  last_more row n _ p x so_far is first alone =
-      cc (step (folded (greatest_step cmp) None n row) p x (ap (λ b. is_lt (cmp b blank)) (sym so_far) ∙ first) alone, folded_more (greatest_step cmp) None n row)
+  last_more = grind (arith, step, folded_more)
 
 -- what isn't the blank was seen
 pub seen : (s : Option ℤ) (blank best : ℤ) → best ≡ unwrap_or s blank → ((best ≡ blank) → ⊥) → Some best ≡ s
@@ -33,12 +32,6 @@ greatest = pos 9223372036854775807
 
 not_before : (x y : ℤ) → ((x <ℤ y) → ⊥) → is_lt (int_cmp x y) ≡ false
 not_before = grind arith
-
-pub least_first : (x : ℤ) → FitsSigned w64 x → is_lt (int_cmp x least) ≡ false
-least_first = grind (arith, not_before, ints)
-
-pub greatest_last : (x : ℤ) → FitsSigned w64 x → is_lt (int_cmp greatest x) ≡ false
-greatest_last = grind (arith, not_before, ints)
 
 pub turned : (n : ℕ) (row : ℕ → Option ℤ) → folded (greatest_step (λ a b. int_cmp b a)) None n row ≡ folded (least_step int_cmp) None n row
 turned = search

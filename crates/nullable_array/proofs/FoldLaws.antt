@@ -74,14 +74,14 @@ module _ {T : Type 0} (P : Option T → Type 0) (none : P None) (cmp : T → T �
 
   rows_keep : (step : Option T → T → Option T) → ((s : Option T) (x : T) → P s → P (Some x) → P (step s x)) → (row : ℕ → Option T) (a n : ℕ) (s : Option T) → P s → ((k : ℕ) → a ≤ k → k < a + n → P (row k)) → P (fold (λ t k. step_row step t (row k)) s (range_with_len a n))
   rows_keep _ _ _ a zero s p h = p
-  rows_keep step keeps row a (suc n) s p h = rows_keep step keeps row (a + 1) n (step_row step s (row a)) (one (row a) (h a (omega arith) (omega arith))) (λ k le lt. h k (omega arith) (omega arith))
+  rows_keep step keeps row a (suc n) s p h = rows_keep _ keeps row (a + 1) n _ (one _ (h a (omega arith) (omega arith))) (λ k le lt. h k (omega arith) (omega arith))
     where
       one : (o : Option T) → P o → P (step_row step s o)
       one None q = p
       one (Some x) q = keeps s x p q
 
   pub least_kept : (n : ℕ) (row : ℕ → Option T) → ((k : ℕ) → k < n → P (row k)) → P (folded (least_step cmp) None n row)
-  least_kept n row h = rows_keep (least_step cmp) least_keeps row 0 n None none (λ k le lt. h k (omega arith))
+  least_kept n row h = rows_keep _ least_keeps row 0 n _ none (λ k le lt. h k (omega arith))
 
   pub greatest_kept : (n : ℕ) (row : ℕ → Option T) → ((k : ℕ) → k < n → P (row k)) → P (folded (greatest_step cmp) None n row)
-  greatest_kept n row h = rows_keep (greatest_step cmp) greatest_keeps row 0 n None none (λ k le lt. h k (omega arith))
+  greatest_kept n row h = rows_keep _ greatest_keeps row 0 n _ none (λ k le lt. h k (omega arith))

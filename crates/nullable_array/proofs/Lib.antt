@@ -10,3 +10,4 @@ pub mod PlaceLaws
 pub mod PairRows
 pub mod OrderedLaws
 pub mod ExtremeLaws
+pub mod Hints

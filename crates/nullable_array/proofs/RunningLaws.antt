@@ -19,7 +19,7 @@ module _ {T : Type 0} (texts : List (List ℕ)) (cell : Option T → Cell) (f : 
 
   pub running_seen : (n : ℕ) → running f [] (map (datum texts) (tabulate n (λ k. cell (row k)))) ≡ map (datum texts) (tabulate n (λ k. number_cell (running_row step row k)))
   running_seen n =
-      ap (running f []) (map-map (λ k. cell (row k)) (datum texts) (range_with_len 0 n)) ∙ runs 0 n ∙ sym (search map-map)
+      ap (running f []) (map-map _ _ _) ∙ runs 0 n ∙ sym (search map-map)
 
 -- a sum that has begun
 sum_up_to : {T : Type 0} (texts : List (List ℕ)) (cell : Option T → Cell) (value : T → ℤ) (row : ℕ → Option T) → datum texts (cell None) ≡ na_cell → ((x : T) → is_present (datum texts (cell (Some x))) ≡ true)
@@ -33,16 +33,16 @@ sum_up_to {T} texts cell value row missing there law k x e =
 module _ (texts : List (List ℕ)) (n : ℕ) where
   pub number_sums : (row : ℕ → Option ℤ) → cumulate_column cumulation.sum (column_value texts (column_with Int64 number_cell n row)) ≡ Ok (column_value texts (column_with Int64 number_cell n (running_row running_step row)))
   number_sums row = ap (λ l. Ok record { kind = Int64; cells = l })
-      (running_seen texts number_cell (reduction_cell reduction.sum) running_step row refl (λ x y. refl) (sum_up_to texts number_cell (λ x. x) row refl (λ x. refl) (λ s x. refl)) n)
+      (running_seen _ number_cell (reduction_cell reduction.sum) _ row refl (λ x y. refl) (sum_up_to _ number_cell _ row refl (λ x. refl) (λ s x. refl)) n)
 
   pub truth_sums : (row : ℕ → Option Bool) → cumulate_column cumulation.sum (column_value texts (column_with Boolean truth_cell n row)) ≡ Ok (column_value texts (column_with Int64 number_cell n (running_row (λ s x. running_step s (one_of_truth x)) row)))
   truth_sums row = ap (λ l. Ok record { kind = Int64; cells = l })
-      (running_seen texts truth_cell (reduction_cell reduction.sum) (λ s x. running_step s (one_of_truth x)) row refl (λ x y. refl) (sum_up_to texts truth_cell one_of_truth row refl (λ x. refl) (search)) n)
+      (running_seen _ truth_cell (reduction_cell reduction.sum) _ row refl (λ x y. refl) (sum_up_to _ truth_cell _ row refl (λ x. refl) (search)) n)
 
   pub number_leasts : (row : ℕ → Option ℤ) → cumulate_column cumulation.min (column_value texts (column_with Int64 number_cell n row)) ≡ Ok (column_value texts (column_with Int64 number_cell n (running_row (least_step int_cmp) row)))
   number_leasts row = ap (λ l. Ok record { kind = Int64; cells = l })
-      (running_seen texts number_cell (reduction_cell reduction.min) (least_step int_cmp) row refl (λ x y. refl) (λ k x e. least_seen texts number_cell int_cmp refl (λ x. refl) (λ b x. refl) (λ x y. refl) (k + 1) row) n)
+      (running_seen _ number_cell (reduction_cell reduction.min) _ row refl (λ x y. refl) (λ k x e. least_seen _ number_cell _ refl (λ x. refl) (λ b x. refl) (λ x y. refl) (k + 1) row) n)
 
   pub number_greatests : (row : ℕ → Option ℤ) → cumulate_column cumulation.max (column_value texts (column_with Int64 number_cell n row)) ≡ Ok (column_value texts (column_with Int64 number_cell n (running_row (greatest_step int_cmp) row)))
   number_greatests row = ap (λ l. Ok record { kind = Int64; cells = l })
-      (running_seen texts number_cell (reduction_cell reduction.max) (greatest_step int_cmp) row refl (λ x y. refl) (λ k x e. greatest_seen texts number_cell int_cmp refl (λ x. refl) (λ b x. refl) (λ x y. refl) (k + 1) row) n)
+      (running_seen _ number_cell (reduction_cell reduction.max) _ row refl (λ x y. refl) (λ k x e. greatest_seen _ number_cell _ refl (λ x. refl) (λ b x. refl) (λ x y. refl) (k + 1) row) n)

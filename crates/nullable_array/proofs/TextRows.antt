@@ -24,10 +24,10 @@ row_stays = grind (arith, text_stays, length-append)
 pub text_written : (earlier later : List (List ℕ)) (at : ℕ → Option (List ℕ)) (i : ℕ) (values : List TextId) (present : List Bool) (o : Option TextId) (blank : TextId) → IsLonger earlier later
     → AreTexts earlier at i values present → i < length values → i < length present → IsTextRow later (at i) o
     → AreTexts later at (i + 1) (slice_set values i (unwrap_or o blank)) (slice_set present i (is_some o))
-text_written earlier later at i values present o blank longer w hv hp row k h =
+text_written _ _ _ i values present o blank longer w hv hp row k h =
     elim (cases_eq k i) [
       | inl same ↦ grind (arith, slice_set, unwrap_or, is_some, option-set_same)
-      | inr other ↦ rw (option-set_other values present i k (unwrap_or o blank) (is_some o) other) (row_stays earlier later (at k) _ longer (w k (omega (arith, other))))
+      | inr other ↦ rw (option-set_other values present i k (unwrap_or o blank) (is_some o) other) (row_stays _ _ _ _ longer (w k (omega (arith, other))))
     ]
 
 -- a column of texts, made through the fronts of vectors
@@ -43,4 +43,4 @@ texts_made = grind (arith, map-map, range-same)
 -- and they are given
 pub texts_given : (texts : List (List ℕ)) (at : ℕ → Option (List ℕ)) (count : ℕ) (values : List TextId) (present : List Bool) (col : CellColumn) → AreTexts texts at count values present
     → col ≡ column_with string text_cell count (option_at values present) → AreGiven texts col.cells
-texts_given texts _ count values present _ w e = rw e (given-tabulate texts count (λ k. text_cell (option_at values present k)) (λ k lt. (w k lt).1))
+texts_given _ _ _ _ _ _ w e = rw e (given-tabulate _ _ _ (λ k lt. (w k lt).1))

@@ -12,12 +12,9 @@ record AreTold (seen : List Bool) (some all : Bool) : Type 0 where
   has_false : list_any (beq false) seen ≡ not all
   count : length seen ≡ truths_told some all
 
-insert_old : (seen : List Bool) (x : Bool) → list_any (beq x) seen ≡ true → seen ≡ insert_key beq seen x
-insert_old _ x h = cc
-
 all_told : (xs seen : List Bool) (some all : Bool) → AreTold seen some all → AreTold (fold (insert_key beq) seen xs) (fold (λ s x. s || x) some xs) (fold (λ s x. s && x) all xs)
 all_told [] _ _ _ t = t
-all_told (x ∷ xs) seen some all t = all_told xs (insert_key beq seen x) (some || x) (all && x) (grind (arith, insert_old, list_any-append, beq, length-append))
+all_told (x ∷ xs) _ _ _ t = all_told xs _ _ _ (grind (arith, list_any-append, beq, length-append))
 
 -- as many different truth values are present as the flags tell
 pub truths_counted : (n : ℕ) (row : ℕ → Option Bool) → truths_of n row ≡ length (distinct beq (present_values (tabulate n row)))

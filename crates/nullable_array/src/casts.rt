@@ -125,6 +125,7 @@ impl RowOp<TextId, (), bool> for TruthOfText<'_> {
 
 /// The whole number of 64 bits that a text is: a sign, which may be missing, and digits, with spaces at both ends left
 /// out. Takes no memory.
+#[tactic(auto, using(crate::proofs::SpaceLaws::nothing_left_out))]
 pub fn number_of_text(text: &str) -> Option<i64>
     ensures { result ≡ whole_number text.now }
 {
@@ -136,6 +137,7 @@ pub fn number_of_text(text: &str) -> Option<i64>
     number_of_bytes(bytes)
 }
 
+#[tactic(auto, using(crate::proofs::Hints::number_of_numeral))]
 fn number_of_numeral(text: &str) -> Option<i64>
     ensures { result ≡ numeral_value text.now }
 {
@@ -145,6 +147,7 @@ fn number_of_numeral(text: &str) -> Option<i64>
     }
 }
 
+#[tactic(auto, using(crate::proofs::CastLaws::numeral_no_text))]
 fn number_of_bytes(bytes: &[u8]) -> Option<i64>
     ensures { result ≡ numeral_value bytes.now }
 {

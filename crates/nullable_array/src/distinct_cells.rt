@@ -59,6 +59,7 @@ fn distinct_numbers<A: Source<i64>>(alloc: Global, a: &A) -> Result<u64, NoMemor
 const MOST_HASHED: usize = 1 << 15;
 
 // How many different values there are, or `None` where these aren't few.
+#[tactic(auto, using(crate::proofs::FoldLaws::folded_more))]
 fn few_values<T: Eq + Hash + Copy + Drop, A: Source<T>>(
     alloc: Global,
     a: &A,
@@ -88,6 +89,7 @@ fn count_ordered<A: Source<i64>>(alloc: Global, a: &A) -> Result<u64, NoMemory>
     Ok(numbers.len() as u64)
 }
 
+#[tactic(auto, using(crate::proofs::FoldLaws::folded_more))]
 fn present_numbers<A: Source<i64>>(alloc: Global, a: &A) -> Result<Vec<i64>, NoMemory>
     ensures { IfOk result (λ numbers. numbers.items
         ≡ present_values (tabulate (A.count_of a.now) (A.row_of a.now))) }
@@ -154,6 +156,7 @@ fn place_of(least: i64, number: i64) -> Option<usize>
     }
 }
 
+#[tactic(auto, using(crate::proofs::FoldLaws::folded_more))]
 fn distinct_values<T: Eq + Hash + Copy + Drop, A: Source<T>>(
     alloc: Global,
     a: &A,

@@ -28,6 +28,7 @@ pub(crate) fn fold_rows<T, S: Copy, F: Fold<T, S>, A: Source<T>>(fold: &F, start
 
 /// The same, where no further value changes what isn't the start any more: so it is known at the first such row.
 #[inline(always)]
+#[tactic(auto, using(crate::proofs::FoldLaws::folded_more))]
 pub(crate) fn fold_until<T, F: Fold<T, bool>, A: Source<T>>(fold: &F, start: bool, a: &A) -> bool
     requires { (x : T) → F.step_of fold.now (not start) x ≡ not start }
     ensures { result ≡ folded (F.step_of fold.now) start (A.count_of a.now) (A.row_of a.now) }

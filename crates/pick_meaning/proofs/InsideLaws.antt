@@ -1,7 +1,7 @@
 -- What keys pick lies within the axis, and what a label, a slice and a mask pick is in order.
 use Rattle.{
-  std.{proofs.{Common.{◌≡◌, subst, refl, arith, ℕ, suc, ◌+◌, ◌<◌, ◌≤◌, Bool, true, false, List, [], ◌∷◌, ◌++◌, length, All, Option, Some, Result, Ok, if◌then◌else◌}, lemmas.List.{Elements.{All-nil, All-append, All-head}, FromFn.{length-range_with_len, get_or-range_with_len}}}, specs.{Cmp.{IsTotalOrder, Lexicographic.{pointwise}}, List.Sorted.{IsStrictlyIncreasing}, Ordering.{is_lt, is_eq}, declared.cmp.Ordering.{Ordering}}},
-  pick_meaning.{specs.{Faults.{PickFault, then_pick}, Rows.{rows_where, rows_between}, Labels.{rows_of_key, rows_of_keys}, Slices.{sorted_slice, one_row, row_of_bound, end_row, label_slice, slice_on}, Masks.{cell_of_label, kept_by_label, masked_rows}}, proofs.OrderLaws.{below_too}},
+  std.{proofs.{Common.{◌≡◌, refl, arith, ℕ, suc, ◌+◌, ◌<◌, ◌≤◌, Bool, true, false, List, [], ◌∷◌, ◌++◌, length, All, Option, Some, Result, Ok, if◌then◌else◌}, lemmas.List.{Elements.{All-nil, All-append, All-head}, FromFn.{length-range_with_len, get_or-range_with_len}}}, specs.{Cmp.{IsTotalOrder, Lexicographic.{pointwise}}, List.Sorted.{IsStrictlyIncreasing}, Ordering.{is_lt, is_eq}, declared.cmp.Ordering.{Ordering}}},
+  pick_meaning.{specs.{Faults.{PickFault, then_pick}, Rows.{rows_where, rows_between}, Labels.{rows_of_key, rows_of_keys}, Slices.{sorted_slice, one_row, row_of_bound, end_row, label_slice, slice_on}, Masks.{kept_by_label, masked_rows}}, proofs.OrderLaws.{below_too}},
 }
 
 pub ok_same : {A E : Type 0} (a b : A) → ◌≡◌ {A = Result A E} (Ok a) (Ok b) → a ≡ b
@@ -40,14 +40,10 @@ module _ {K X : Type 0} (meets : K → X → Bool) (xs : List X) where
   pub keys_inside : (keys : List K) (rows : List ℕ) → rows_of_keys meets xs keys ≡ Ok rows → All (λ row. row < length xs) rows
   keys_inside [] _ e = grind (arith, ok_same)
   keys_inside (key ∷ keys) rows e =
-      went_on (rows_of_key meets xs key) (λ first. then_pick (rows_of_keys meets xs keys) (λ more. Ok (first ++ more))) rows (All (λ row. row < length xs) rows)
+      went_on _ _ _ _
       (λ first is rest. went_on (rows_of_keys meets xs keys) (λ more. Ok (first ++ more)) rows (All (λ row. row < length xs) rows)
-      (λ more are end. subst (All (λ row. row < length xs)) (ok_same (first ++ more) rows end) (All-append (λ row. row < length xs) first more (key_inside key first is) (keys_inside keys more are))) rest)
+      (λ more are end. rw (← ok_same (first ++ more) rows end) (All-append (λ row. row < length xs) first more (key_inside key first is) (keys_inside keys more are))) rest)
       e
-
--- the rows of a slice by labels
-between_inside : (first end count : ℕ) → end ≤ count → All (λ row. row < count) (rows_between first end)
-between_inside = grind (arith, length-range_with_len, get_or-range_with_len)
 
 one_row_is : {X : Type 0} (bound : X) (rows : List ℕ) (row : ℕ) → one_row bound rows ≡ Ok row → rows ≡ row ∷ []
 one_row_is = grind arith
@@ -64,10 +60,10 @@ module _ {X : Type 0} (cmp : X → X → Ordering) where
   end_inside = grind (arith, ok_same, went_on, bound_inside)
 
   pub slice_inside : (lower upper : Option X) (xs : List X) (rows : List ℕ) → label_slice cmp lower upper xs ≡ Ok rows → All (λ row. row < length xs) rows
-  slice_inside = grind (arith, ok_same, rows_inside, went_on, between_inside, end_inside)
+  slice_inside = grind (arith, ok_same, rows_inside, went_on, length-range_with_len, get_or-range_with_len, end_inside)
 
   pub slice_on_inside : (levels : ℕ) (lower upper : Option X) (xs : List X) (rows : List ℕ) → slice_on levels cmp lower upper xs ≡ Ok rows → All (λ row. row < length xs) rows
-  slice_on_inside = grind (arith, slice_inside, ok_same, rows_inside, between_inside)
+  slice_on_inside = grind (arith, slice_inside, ok_same, rows_inside, length-range_with_len, get_or-range_with_len)
 
   -- none where the bounds stand the other way
   none_pass : (p : X → Bool) (row : ℕ) (xs : List X) → ((x : X) → p x ≡ false) → rows_where p row xs ≡ []
@@ -82,10 +78,9 @@ module _ {X : Type 0} (same : X → X → Bool) (labels : List X) (mask : List B
   by_label_from : (row : ℕ) (xs : List X) (rows : List ℕ) → kept_by_label same labels mask row xs ≡ Ok rows → All (IsFrom row (length xs)) rows
   by_label_from _ [] _ e = grind (arith, ok_same)
   by_label_from row (x ∷ xs) rows e =
-      went_on (cell_of_label same labels mask x) (λ kept. then_pick (kept_by_label same labels mask (row + 1) xs) (λ more. Ok (if kept then row ∷ more else more))) rows (All (IsFrom row (suc (length xs))) rows)
+      went_on _ _ _ _
       (λ kept is rest. went_on (kept_by_label same labels mask (row + 1) xs) (λ more. Ok (if kept then row ∷ more else more)) rows (All (IsFrom row (suc (length xs))) rows)
-      (λ more are made. subst (All (IsFrom row (suc (length xs)))) (ok_same (if kept then row ∷ more else more) rows made)
-      (grind (arith, by_label_from (row + 1) xs more are))) rest)
+      (λ more are made. grind (arith, ok_same, by_label_from (row + 1) xs more are)) rest)
       e
 
   pub by_label_inside : (xs : List X) (rows : List ℕ) → kept_by_label same labels mask 0 xs ≡ Ok rows → All (λ row. row < length xs) rows
@@ -94,10 +89,9 @@ module _ {X : Type 0} (same : X → X → Bool) (labels : List X) (mask : List B
   by_label_ascends : (row : ℕ) (xs : List X) (rows : List ℕ) → kept_by_label same labels mask row xs ≡ Ok rows → IsStrictlyIncreasing rows
   by_label_ascends _ [] _ e = grind (arith, ok_same)
   by_label_ascends row (x ∷ xs) rows e =
-      went_on (cell_of_label same labels mask x) (λ kept. then_pick (kept_by_label same labels mask (row + 1) xs) (λ more. Ok (if kept then row ∷ more else more))) rows (IsStrictlyIncreasing rows)
+      went_on _ _ _ _
       (λ kept is rest. went_on (kept_by_label same labels mask (row + 1) xs) (λ more. Ok (if kept then row ∷ more else more)) rows (IsStrictlyIncreasing rows)
-      (λ more are made. subst IsStrictlyIncreasing (ok_same (if kept then row ∷ more else more) rows made)
-      (ascending row (length xs) kept more (by_label_from (row + 1) xs more are) (by_label_ascends (row + 1) xs more are))) rest)
+      (λ more are made. rw (← ok_same (if kept then row ∷ more else more) rows made) (ascending row (length xs) kept more (by_label_from (row + 1) xs more are) (by_label_ascends (row + 1) xs more are))) rest)
       e
 
   -- within the axis, where a mask by position has a cell for each row

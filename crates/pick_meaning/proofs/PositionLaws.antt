@@ -1,9 +1,9 @@
 -- Slices by positions lie within the rows, and `::-1` taken twice is all rows in order.
 use Rattle.{
-  std.{proofs.{Common.{◌≡◌, ◌∙◌, ap, sym, subst, arith, ℕ, zero, suc, ◌+◌, ◌-◌, ◌*◌, ◌<◌, ◌≤◌, ℤ, pos, negsuc, List, [], ◌∷◌, map, length, All, Option, Some, Result, Ok, slice_index_or}, Math.Nat.{mul-le-mul_left}, lemmas.{Bool.{cases_lt, Decides.{nat_tests}}, List.{same_lists, length-map, get_or-map, FromFn.{length-range_with_len, get_or-range_with_len, length-map-range_with_len, get_or-map-range_with_len}}}}, specs.{Int.{div_ceil}, List.{range_with_len}}},
+  std.{proofs.{Common.{◌≡◌, ◌∙◌, ap, sym, arith, ℕ, zero, suc, ◌+◌, ◌-◌, ◌*◌, ◌<◌, ◌≤◌, ℤ, pos, negsuc, List, [], ◌∷◌, map, length, All, Option, Some, Result, Ok, slice_index_or}, Math.Nat.{mul-le-mul_left}, lemmas.{Bool.{cases_lt, Decides.{nat_tests}}, List.{same_lists, length-map, get_or-map, FromFn.{length-range_with_len, get_or-range_with_len, length-map-range_with_len, get_or-map-range_with_len}}}}, specs.{Int.{div_ceil}, List.{range_with_len}}},
   cell_core.specs.{declared.grid.Rows.{Rows}, Grids.{place_from, AreRowsBelow}},
   meaning.specs.Place.{place_of},
-  pick_meaning.{specs.{Faults.{PickFault, then_pick}, Rows.{rows_of}, Positions.{row_or_fault, row_at, rows_at, rows_before, rows_through, bound_or, forward, backward, slice_with_step}}, proofs.InsideLaws.{went_on, ok_same}},
+  pick_meaning.{specs.{Faults.{PickFault}, Rows.{rows_of}, Positions.{row_or_fault, row_at, rows_at, rows_before, rows_through, bound_or, forward, backward, slice_with_step}}, proofs.InsideLaws.{went_on, ok_same}},
 }
 
 -- the rows that a step takes stand before the end
@@ -49,9 +49,9 @@ module _ {K : Type 0} where
   pub rows_at_inside : (count : ℕ) (zs : List ℤ) (rows : List ℕ) → rows_at {K = K} count zs ≡ Ok rows → All (λ row. row < count) rows
   rows_at_inside _ [] _ e = grind arith
   rows_at_inside count (z ∷ zs) rows e =
-      went_on (row_at count z) (λ row. then_pick (rows_at count zs) (λ more. Ok (row ∷ more))) rows (All (λ row. row < count) rows)
+      went_on _ _ _ _
       (λ row is rest. went_on (rows_at count zs) (λ more. Ok (row ∷ more)) rows (All (λ row. row < count) rows)
-      (λ more are made. subst (All (λ row. row < count)) (ok_same (row ∷ more) rows made) (grind (arith, at_inside, rows_at_inside count zs more are))) rest)
+      (λ more are made. grind (arith, ok_same, at_inside, rows_at_inside count zs more are)) rest)
       e
 
 -- `::-1` taken twice is all rows in order
@@ -75,7 +75,7 @@ reversed_twice count =
     let back : count - 1 - k * 1 < count = omega arith in
     let again : count - 1 - (count - 1 - k * 1) * 1 ≡ 0 + k = omega arith in
     get_or-map (λ row. slice_index_or (map f (range_with_len 0 count)) row 0) (map f (range_with_len 0 count)) k 0 d there
-    ∙ ap (λ row. slice_index_or (map f (range_with_len 0 count)) row 0) (get_or-map-range_with_len f 0 count k k 0 inside (omega arith))
-    ∙ get_or-map-range_with_len f 0 count (count - 1 - k * 1) (count - 1 - k * 1) 0 back (omega arith)
+    ∙ ap (λ row. slice_index_or (map f (range_with_len 0 count)) row 0) (get_or-map-range_with_len f 0 _ k k 0 inside (omega arith))
+    ∙ get_or-map-range_with_len f 0 _ _ _ 0 back (omega arith)
     ∙ again
-    ∙ sym (get_or-range_with_len 0 count k d inside))
+    ∙ sym (get_or-range_with_len 0 _ k d inside))

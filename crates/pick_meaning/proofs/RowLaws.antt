@@ -54,15 +54,15 @@ pub rows_in_interval : {X : Type 0} (p : X → Bool) (d : X) (row low high : ℕ
     → ((k : ℕ) → high ≤ k → k < length xs → p (slice_index_or xs k d) ≡ false)
     → rows_where p row xs ≡ range_with_len (row + low) (high - low)
 rows_in_interval p d _ _ _ [] within before inside behind = grind arith
-rows_in_interval p d row zero zero (x ∷ xs) within before inside behind =
-    when_not (p x) (row ∷ rows_where p (row + 1) xs) (rows_where p (row + 1) xs) (behind 0 (omega arith) (omega arith))
-    ∙ rows_in_interval p d (row + 1) 0 0 xs (omega arith) (λ k lt in'. absurd (omega arith)) (λ k le lt. absurd (omega arith)) (λ k le lt. behind (suc k) (omega arith) (omega arith))
+rows_in_interval p d _ zero zero (x ∷ xs) within before inside behind =
+    when_not _ _ _ (behind 0 (omega arith) (omega arith))
+    ∙ rows_in_interval p d _ 0 0 xs (omega arith) (λ k lt in'. absurd (omega arith)) (λ k le lt. absurd (omega arith)) (λ k le lt. behind (suc k) (omega arith) (omega arith))
 rows_in_interval p d row zero (suc high) (x ∷ xs) within before inside behind =
     let first : row + 1 + 0 ≡ row + 1 = omega arith in
     let start : row ≡ row + 0 = omega arith in
-    when_so (p x) (row ∷ rows_where p (row + 1) xs) (rows_where p (row + 1) xs) (inside 0 (omega arith) (omega arith))
+    when_so _ _ _ (inside 0 (omega arith) (omega arith))
     ∙ ap (λ l. row ∷ l)
-    (rows_in_interval p d (row + 1) 0 high xs (omega arith) (λ k lt in'. absurd (omega arith)) (λ k le lt. inside (suc k) (omega arith) (omega arith)) (λ k le lt. behind (suc k) (omega arith) (omega arith))
+    (rows_in_interval p d _ 0 _ xs (omega arith) (λ k lt in'. absurd (omega arith)) (λ k le lt. inside (suc k) (omega arith) (omega arith)) (λ k le lt. behind (suc k) (omega arith) (omega arith))
     ∙ counted first high)
     ∙ counted_on start high
   where

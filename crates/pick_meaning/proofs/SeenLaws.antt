@@ -41,7 +41,7 @@ module _ {X Y : Type 0} (cmp' : Y → Y → Ordering) (cmp : X → X → Orderin
 
   sorted-map : (lower upper : Option X) (xs : List X) → sorted_slice cmp' (option_map f lower) (option_map f upper) (map f xs) ≡ sorted_slice cmp lower upper xs
   sorted-map lower upper xs =
-      rows_where-map (λ x. Unit {0}) (λ y. reaches cmp' (option_map f lower) y && stays_within cmp' (option_map f upper) y) (λ x. reaches cmp lower x && stays_within cmp upper x) f
+      rows_where-map (λ x. Unit {0}) _ _ f
       (λ x t. λ j. reaches-map lower x j && stays-map upper x j) 0 xs (search)
 
   bound-map : (xs : List X) (bound : X) → row_of_bound cmp' (map f xs) (f bound) ≡ pick_seen f (row_of_bound cmp xs bound)
@@ -77,7 +77,7 @@ module _ {X Y : Type 0} (P : X → Type 0) (same' : Y → Y → Bool) (same : X 
   pub kept_by_label-map : (labels : List X) (mask : List Bool) (row : ℕ) (xs : List X) → All P labels → All P xs → kept_by_label same' (map f labels) mask row (map f xs) ≡ pick_seen f (kept_by_label same labels mask row xs)
   kept_by_label-map _ _ _ [] given all = refl
   kept_by_label-map labels mask row (x ∷ xs) given all =
-      let here = cell_of_label-map labels mask x given (all 0 x (omega arith)) in
+      let here = cell_of_label-map _ mask x given (all 0 x (omega arith)) in
       grind (arith, then_seen, kept_by_label-map labels mask (row + 1) xs given (λ k d lt. all (suc k) d (omega arith)))
 
   pub masked_rows-map : (xs labels : List X) (mask : List Bool) → All P xs → All P labels → masked_rows same' (map f xs) (map f labels) mask ≡ pick_seen f (masked_rows same xs labels mask)
@@ -91,10 +91,10 @@ then_equal : (o : Ordering) → ordering_then o Equal ≡ o
 then_equal = grind arith
 
 pub leading_single : {L : Type 0} (cmp : L → L → Ordering) (l b : L) → leading_cmp cmp (l ∷ []) (b ∷ []) ≡ cmp l b
-leading_single cmp l b = then_equal (cmp l b)
+leading_single _ l b = then_equal _
 
 pub single_rows : {L : Type 0} (same : L → L → Bool) (labels : List L) (k : L) → rows_of_key (leads same) (map (λ l. l ∷ []) labels) (k ∷ []) ≡ pick_seen (λ l. l ∷ []) (rows_of_key same labels k)
-single_rows same labels k = rows_of_key-map (λ l. Unit {0}) (leads same) same (λ l. l ∷ []) (λ l. l ∷ []) k (λ l t. leads_single same k l) labels (λ j d lt. tt)
+single_rows same labels k = rows_of_key-map (λ l. Unit {0}) (leads same) same _ _ k (λ l t. leads_single same k l) labels _
 
 pub single_slice : {L : Type 0} (cmp : L → L → Ordering) (lower upper : Option L) (labels : List L)
     → label_slice (leading_cmp cmp) (option_map (λ l. l ∷ []) lower) (option_map (λ l. l ∷ []) upper) (map (λ l. l ∷ []) labels) ≡ pick_seen (λ l. l ∷ []) (label_slice cmp lower upper labels)
@@ -105,4 +105,4 @@ and_true = grind arith
 
 pub single_mask : {L : Type 0} (same : L → L → Bool) (xs labels : List L) (mask : List Bool)
     → masked_rows (pointwise same) (map (λ l. l ∷ []) xs) (map (λ l. l ∷ []) labels) mask ≡ pick_seen (λ l. l ∷ []) (masked_rows same xs labels mask)
-single_mask {L} same xs labels mask = masked_rows-map (λ l. Unit {0}) (pointwise same) same (λ l. l ∷ []) (λ x y t u. and_true (same x y)) xs labels mask (λ k d lt. tt) (λ k d lt. tt)
+single_mask {L} _ xs _ mask = masked_rows-map (λ l. Unit {0}) _ _ _ (λ x y t u. and_true _) xs _ mask _ (λ k d lt. tt)

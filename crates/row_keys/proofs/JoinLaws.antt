@@ -30,7 +30,7 @@ module _ {K : Type 0} (eq : K → K → Bool) (laws : IsEquivalence eq) (left ri
   IsKnown x = list_any (eq x) (distinct eq (left ++ right)) ≡ true
 
   pub rows_coded : (k : K) (xs : List K) (at : ℕ) → All IsKnown xs → rows_where (eq k) at xs ≡ rows_where (λ n. rank k == n) at (map rank xs)
-  rows_coded k [] at known = refl
+  rows_coded k [] _ _ = refl
   rows_coded k (x ∷ xs) at known = cc (place_tells eq laws (distinct eq (left ++ right)) k x (All-head IsKnown x xs known), rows_coded k xs (at + 1) (All-tail IsKnown x xs known))
 
   abbrev pub count : ℕ

@@ -13,3 +13,4 @@ pub mod RunLaws
 pub mod NotedLaws
 pub mod ValueLaws
 pub mod PairLaws
+pub mod Hints

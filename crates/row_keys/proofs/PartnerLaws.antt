@@ -4,7 +4,7 @@ use Rattle.{
   cell_core.specs.{declared.cell.Label.{Label}, contracts.cell.LabelEq.TheImpl.Laws.{laws-law}},
   meaning.specs.Reduce.{distinct},
   multi_index.proofs.LevelLaws.{maps_alike},
-  row_keys.{specs.{Keys.{same_tuple, codes_of, first_rows}, Buckets.{rows_of_code, buckets_of}, Partners.{rows_with, rows_coded, AreCodesBelow}}, proofs.{KeyLaws.{position_in}, JoinLaws.{rank, count, IsKnown, left_codes, right_codes, left_known, right_known, codes_below, bucket_of_key}}},
+  row_keys.{specs.{Keys.{same_tuple, codes_of, first_rows}, Buckets.{buckets_of}, Partners.{rows_with, rows_coded, AreCodesBelow}}, proofs.{KeyLaws.{position_in}, JoinLaws.{rank, count, IsKnown, left_codes, right_codes, left_known, right_known, codes_below, bucket_of_key}}},
 }
 
 pub tuple_laws : IsEquivalence same_tuple
@@ -38,7 +38,7 @@ module _ (a b : List (List Label)) where
   right_below part m are same = subst (λ k. All (λ c. c < k) part) (sym same) (subst (All (λ c. c < how_many)) (sym are) (codes_below _ tuple_laws a b b (right_known _ tuple_laws a b)))
 
   pub buckets_counted : (m : ℕ) (codes : List ℕ) (rows : List (List ℕ)) → rows ≡ buckets_of m codes → length rows ≡ m
-  buckets_counted m codes _ made = ap length made ∙ length-map-range_with_len (λ code. rows_of_code code codes) 0 m
+  buckets_counted m _ _ made = ap length made ∙ length-map-range_with_len _ 0 m
 
   -- the partners of each key of the left
   module _ (m : ℕ) (of_keys of_rows : List ℕ) (rows : List (List ℕ)) (same : m ≡ how_many) (keys : of_keys ≡ map code_of a) (among : of_rows ≡ map code_of b) (made : rows ≡ buckets_of m of_rows) where
@@ -46,7 +46,7 @@ module _ (a b : List (List Label)) where
     partners_are =
         ap (λ codes. rows_coded codes rows) keys
         ∙ map-map (λ c. slice_index_or rows c []) code_of a
-        ∙ maps_alike _ (λ k. slice_index_or rows (code_of k) []) _ each a (left_known _ tuple_laws a b)
+        ∙ maps_alike _ _ _ each a (left_known _ tuple_laws a b)
       where
         each : (k : List Label) → IsKnown same_tuple tuple_laws a b k → slice_index_or rows (code_of k) [] ≡ rows_with b k
         each k known =

@@ -23,7 +23,7 @@ module _ {Z : Type 0} (P : Z → Type 0) where
   pub All-distinct : (eq : Z → Z → Bool) (zs : List Z) → All P zs → All P (distinct eq zs)
   All-distinct _ [] all = all
   All-distinct eq (z ∷ zs) all =
-      All-cons P z (filter (λ q. not (eq q z)) (distinct eq zs)) (All-head P z zs all) (All-filter (λ q. not (eq q z)) P _ (All-distinct eq zs (All-tail P z zs all)))
+      All-cons P z (filter (λ q. not (eq q z)) (distinct eq zs)) (All-head P z zs all) (All-filter _ P _ (All-distinct eq zs (All-tail P z zs all)))
 
   -- two tests that agree there
   module _ (eq same : Z → Z → Bool) (agree : (y z : Z) → P y → P z → eq y z ≡ same y z) where
@@ -82,9 +82,9 @@ pub record AreNumbers {K : Type 0} (eq : K → K → Bool) (keys : List K) (code
 -- the same numbers, for keys that are equal in the same rows
 pub renumbered : {Z A B : Type 0} (f : Z → A) (eq : A → A → Bool) (g : Z → B) (same : B → B → Bool) (P : Z → Type 0) → ((y z : Z) → P y → P z → eq (f y) (f z) ≡ same (g y) (g z)) → (zs : List Z) → All P zs
     → (codes firsts : List ℕ) → AreNumbers eq (map f zs) codes firsts → AreNumbers same (map g zs) codes firsts
-renumbered f eq g same P agree zs all _ _ are = record {
-  coded = are.coded ∙ codes_map f eq zs ∙ codes_on P (λ y z. eq (f y) (f z)) (λ y z. same (g y) (g z)) agree zs all ∙ sym (codes_map g _ zs);
-  first = are.first ∙ firsts_map f eq zs ∙ firsts_on P (λ y z. eq (f y) (f z)) (λ y z. same (g y) (g z)) agree zs all ∙ sym (firsts_map g _ zs);
+renumbered f eq g _ P agree zs all _ _ are = record {
+  coded = are.coded ∙ codes_map f eq zs ∙ codes_on P _ _ agree zs all ∙ sym (codes_map g _ zs);
+  first = are.first ∙ firsts_map f eq zs ∙ firsts_on P _ _ agree zs all ∙ sym (firsts_map g _ zs);
 }
 
 zip_maps : {Z A B C : Type 0} (a : Z → A) (d : Z → B) (b : B → C) (zs : List Z) → zip (map a zs) (map b (map d zs)) ≡ map (λ z. (a z, b (d z))) zs
@@ -118,7 +118,7 @@ module _ {L : Type 0} (eq : L → L → Bool) (laws : IsEquivalence eq) (na : L)
     IsKnown t = (i < length t) × (list_any (pointwise eq (drop (i + 1) t)) (distinct (pointwise eq) below) ≡ true)
 
     pub one_level : (old codes firsts : List ℕ) → All (λ t. i < length t) rows → old ≡ codes_of (pointwise eq) below → AreNumbers (same_pair eq) (zip (map (at i) rows) old) codes firsts → AreNumbers (pointwise eq) (map (drop i) rows) codes firsts
-    one_level old codes firsts all was are =
+    one_level _ codes firsts all was are =
         renumbered (λ t. (at i t, rank (drop (i + 1) t))) (same_pair eq) _ _ IsKnown
         (λ y z h k. ap (λ b. eq (at i y) (at i z) && b) (sym (place_tells _ (lists_equiv laws) _ (drop (i + 1) y) _ k.1))
         ∙ sym (λ j. pointwise eq (split_at i y h.0 j) (split_at i z k.0 j))) rows
@@ -143,8 +143,8 @@ module _ {K : Type 0} (eq : K → K → Bool) (decides : (a b : K) → Decides (
 
   pub first_keys : (d : K) → map (λ r. slice_index_or rows r d) (first_rows eq rows) ≡ distinct eq rows
   first_keys d =
-      map_map _ nat_eq (λ r. slice_index_or rows r d) (λ k. slice_index_or rows (place_among eq rows k) d) (λ k. refl) (distinct eq rows)
-      ∙ map_on IsThere (λ k. slice_index_or rows (place_among eq rows k) d) (λ k. k) (λ k h. sym (grind (arith, passes_at_first, position_in))) (distinct eq rows) all_there
+      map_map _ nat_eq (λ r. slice_index_or rows r d) _ (λ k. refl) (distinct eq rows)
+      ∙ map_on IsThere (λ k. slice_index_or rows (place_among eq rows k) d) _ (λ k h. sym (grind (arith, passes_at_first, position_in))) (distinct eq rows) all_there
       ∙ map-id (distinct eq rows)
 
 -- no distinct key stands before one that equals it

@@ -1,6 +1,6 @@
 -- Numbers that stand for keys are numbered as the keys are.
 use Rattle.{
-  std.{proofs.{Common.{◌≡◌, ◌+◌, ◌<◌, Bool, ℕ, List, [], ◌∷◌, ◌++◌, map, refl, sym, length, slice_index_or, nat_eq, arith}, lemmas.List.FromFn.{fill_by_all, get_or-range_with_len, length-range_with_len, map-range_with_len_more}}, specs.{Prelude.{slice_index}, List.{range_with_len, All}}},
+  std.{proofs.{Common.{◌≡◌, ◌+◌, ◌<◌, Bool, ℕ, List, [], ◌∷◌, ◌++◌, map, refl, sym, length, slice_index_or, nat_eq, arith}, lemmas.List.FromFn.{fill_by_all, get_or-range_with_len, length-range_with_len, map-range_with_len_more}}, specs.List.{range_with_len, All}},
   row_keys.{specs.{Keys.{codes_of, first_rows}, Numbers.{StandFor}}, proofs.RecodeLaws.{AreNumbers, renumbered}},
 }
 
@@ -13,10 +13,10 @@ row_more = grind (arith, map-range_with_len_more)
 
 -- a list is its elements row by row
 read : {X : Type 0} (none : X) (xs : List X) (n : ℕ) → length xs ≡ n → xs ≡ map (λ (i : ℕ). slice_index_or xs i none) (range_with_len 0 n)
-read none xs n long = fill_by_all (λ (i : ℕ). slice_index_or xs i none) xs n _ long (λ k lt. refl)
+read _ xs n long = fill_by_all _ xs n _ long (λ k lt. refl)
 
 pub stand_codes : {K : Type 0} (eq : K → K → Bool) (none : K) (keys : List K) (numbers codes firsts : List ℕ) → StandFor eq none keys numbers → AreNumbers nat_eq numbers codes firsts → AreNumbers eq keys codes firsts
-stand_codes {K} eq none keys numbers codes firsts stand are = rw (read none keys (length keys) refl) (renumbered (λ (i : ℕ). slice_index numbers i) nat_eq (λ (i : ℕ). slice_index_or keys i none) eq (λ (i : ℕ). i < length keys) (λ i j hi hj. sym (stand.tells i j hi hj))
+stand_codes {K} eq none keys numbers codes firsts stand are = rw (read none keys (length keys) refl) (renumbered _ nat_eq _ eq _ (λ i j hi hj. sym (stand.tells i j hi hj))
     (range_with_len 0 (length keys)) (rows_within _) codes firsts
     (rw (← read 0 numbers (length keys) stand.count) are))
 

@@ -92,7 +92,7 @@ module _ (class : Class) (low high : ℤ) (keys : List Label) (numbers : List �
       record {
         count = search (made_all, length-map);
         tells = λ i j hi hj.
-            labels_tell class low high _ _ (within i label.Na hi) (within j label.Na hj)
+            labels_tell class low _ _ _ (within i label.Na hi) (within j label.Na hj)
             ∙ sym (λ q. here i hi q == here j hj q);
       }
     where

@@ -106,6 +106,7 @@ fn codes_by_leader(alloc: Global, leaders: &[usize]) -> Result<Numbers, NoMemory
 }
 
 // Numbers of rows by first sight, where none exceeds the greatest.
+#[tactic(auto, using(crate::proofs::LeaderLaws::leaders_back))]
 pub(crate) fn codes_by_number(
     alloc: Global,
     numbers: &[u64],

@@ -41,6 +41,7 @@ impl Partners {
 
 /// Finds for each row of one side the rows of another with the same tuple: the tuples of both are numbered together,
 /// so that this takes a step a level for each row. `NoMemory` is the only refusal.
+#[tactic(auto, using(crate::proofs::Hints::find_partners))]
 pub fn find_partners<A: LevelRows, B: LevelRows>(
     alloc: Global,
     keys: &A,

@@ -78,6 +78,7 @@ fn widened(span: Span, class: Class, label: Label) -> Option<Span>
 }
 
 // The span of labels of a class, with NA among them or not. `None` where one is of another class.
+#[tactic(auto, using(std::proofs::lemmas::List::take_all))]
 fn span_of<R: KeyRows<Label>>(rows: &R, class: Class) -> Option<Span>
     ensures { IfSome result (λ span.
         All (valued.IsSpanned class span.low span.high) (R.keys rows.now)) }

@@ -2,4 +2,3 @@ pub mod Parts
 pub mod Trees
 pub mod Evaluations
 pub mod Gathering
-pub mod Seconds

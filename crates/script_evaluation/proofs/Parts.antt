@@ -1,13 +1,27 @@
 -- Lists of parts, pairs and arguments that grow by one.
 use mathlib.Core.Former.{Count}
 use Rattle.{
-  std.proofs.Common.{arith, ◌≡◌, List, [], ◌∷◌, ◌++◌, refl, sym, ◌∙◌, append_assoc, subst},
+  std.proofs.Common.{arith, ◌≡◌, List, [], ◌∷◌, ◌++◌, refl, append_assoc},
+  language_meaning.specs.Tree.{arg_list, named_args, arg_pairs},
+  script_meaning.specs.Expression.{cell_of, parts_of, part_of, pairs_of, given_of},
+  script_evaluation.proofs.Gathering.{ReadsParts},
   cell_core.specs.declared.cell.Label.{Label},
-  meaning.specs.{Text.{Text}, Cell.{label_datum}},
+  meaning.specs.{Text.{Text}, Operator.{cell_label}, Cell.{label_datum}},
   table_meaning.specs.{Settled.{IsSettled}, Value.{GivenList, GivenPairs, NamedGiven, no_given, more_given, no_entries, more_entries}},
   frame_store.{specs.{Objects.{Tables}, Arguments.{item_of, items_of, argument_of, entries_of, named_of, arguments_of, IsLiveItem, IsLiveRow, AreLiveItems, IsLiveArgument, AreLiveEntries, AreLivePairs, AreLive}, declared.arguments.{Argument.{Argument, Table, Table', Row_of-Entries-pairs-2, end_of-Entries-pairs-2, more_of-Entries-pairs-2, items-the_row-Entries-pairs-2, items_hidden-the_row-Entries-pairs-2-0}, Item.{Item, Row, Row', Row_of-Item, end_of-Item, more_of-Item, items-the_row-Item, items_hidden-the_row-Item-0}, Items.{Items}, Entries.{Entries}, Named.{Named}}, World.{World, IsKnownItem, AreKnownItems, IsKnownArgument, AreKnownPairs, AreKnownArguments, IsKnownSubscript}}, proofs.RowLaws.{item_of-Row, argument_of-Table}},
 }
 use Rattle.frame_store.specs.declared.arguments.Subscript.TheVariants as subscript
+use Rattle.script_meaning.specs.Expression as expression
+
+-- lists of parts, pairs and arguments as they are read
+pub reads_items : ReadsParts (λ fs s xs. parts_of fs s (arg_list xs)) part_of (λ x. more_given) no_given
+reads_items = record { none = λ fs s. refl; more = λ fs s x xs. refl }
+
+pub reads_pairs : ReadsParts (λ fs s xs. pairs_of fs s (arg_pairs xs)) (λ fs s x. given_of fs s x.1) (λ x. more_entries (cell_label (cell_of x.0))) no_entries
+reads_pairs = record { none = λ fs s. refl; more = λ fs s x xs. refl }
+
+pub reads_arguments : ReadsParts (λ fs s xs. expression.named_of fs s (named_args xs)) (λ fs s x. given_of fs s x.1) (λ x g l. record { name = x.0; value = g } ∷ l) []
+reads_arguments = record { none = λ fs s. refl; more = λ fs s x xs. refl }
 
 -- parts behind parts
 abbrev pub join_parts : GivenList → GivenList → GivenList
@@ -26,23 +40,31 @@ pub pairs_end : (l : GivenPairs) → join_pairs l no_entries ≡ l
 pairs_end no_entries = refl
 pairs_end (more_entries k g gs) = cc (pairs_end gs)
 
+parts_joined : (a b l : GivenList) → join_parts (join_parts a b) l ≡ join_parts a (join_parts b l)
+parts_joined no_given _ _ = refl
+parts_joined (more_given g gs) b l = cc (parts_joined gs b l)
+
+pairs_joined : (a b l : GivenPairs) → join_pairs (join_pairs a b) l ≡ join_pairs a (join_pairs b l)
+pairs_joined no_entries _ _ = refl
+pairs_joined (more_entries k g gs) b l = cc (pairs_joined gs b l)
+
 module _ (tables : Tables) (texts : List Text) where
-  items_join : (items : List Item) (item : Item) (l : GivenList) → join_parts (items_of tables texts (items ++ item ∷ [])) l ≡ join_parts (items_of tables texts items) (more_given (item_of tables texts item) l)
-  items_join [] _ l = refl
-  items_join (i ∷ items) item l = cc (items_join items item l)
+  items_join : (items : List Item) (item : Item) → items_of tables texts (items ++ item ∷ []) ≡ join_parts (items_of tables texts items) (more_given (item_of tables texts item) no_given)
+  items_join [] _ = refl
+  items_join (i ∷ items) item = cc (items_join items item)
 
   pub items_push : (items items' : List Item) (item : Item) → items' ≡ items ++ item ∷ [] → (l : GivenList)
       → join_parts (items_of tables texts items) (more_given (item_of tables texts item) l) ≡ join_parts (items_of tables texts items') l
-  items_push = grind (arith, items_join)
+  items_push = grind (arith, items_join, parts_joined)
 
-  pairs_join : (pairs : List (Label × Argument)) (pair : Label × Argument) (l : GivenPairs)
-      → join_pairs (entries_of tables texts (pairs ++ pair ∷ [])) l ≡ join_pairs (entries_of tables texts pairs) (more_entries (label_datum texts pair.0) (argument_of tables texts pair.1) l)
-  pairs_join [] _ l = refl
-  pairs_join (p ∷ pairs) pair l = cc (pairs_join pairs pair l)
+  pairs_join : (pairs : List (Label × Argument)) (pair : Label × Argument)
+      → entries_of tables texts (pairs ++ pair ∷ []) ≡ join_pairs (entries_of tables texts pairs) (more_entries (label_datum texts pair.0) (argument_of tables texts pair.1) no_entries)
+  pairs_join [] _ = refl
+  pairs_join (p ∷ pairs) pair = cc (pairs_join pairs pair)
 
   pub pairs_push : (pairs pairs' : List (Label × Argument)) (label : Label) (a : Argument) → pairs' ≡ pairs ++ (label, a) ∷ [] → (l : GivenPairs)
       → join_pairs (entries_of tables texts pairs) (more_entries (label_datum texts label) (argument_of tables texts a) l) ≡ join_pairs (entries_of tables texts pairs') l
-  pairs_push = grind (arith, pairs_join)
+  pairs_push = grind (arith, pairs_join, pairs_joined)
 
   arguments_join : (args : List Named) (g : Named) → arguments_of tables texts (args ++ g ∷ []) ≡ arguments_of tables texts args ++ named_of tables texts g ∷ []
   arguments_join [] g = refl
@@ -66,24 +88,10 @@ live_arguments_push _ (a ∷ args) g all one = (all.0, live_arguments_push _ arg
 
 module _ (w : World) where
   pub items_known : (items items' : List Item) (item : Item) → items' ≡ items ++ item ∷ [] → AreKnownItems w items → IsKnownItem w item → AreKnownItems w items'
-  items_known items _ item is all one =
-      subst (λ xs. AreKnownItems w xs) (sym is)
-      record {
-        live = search live_items_push;
-        given = λ more. sym (parts_end _) ∙ items_join w.tables (w.texts ++ more) items item no_given
-            ∙ (λ j. join_parts (all.given more j) (more_given (one.given more j) no_given))
-            ∙ sym (items_join w.tables w.texts items item no_given) ∙ parts_end _;
-      }
+  items_known = grind (arith, live_items_push, items_join)
 
   pub pairs_known : (pairs pairs' : List (Label × Argument)) (label : Label) (a : Argument) → pairs' ≡ pairs ++ (label, a) ∷ [] → AreKnownPairs w pairs → IsSettled label_datum w.texts label → IsKnownArgument w a → AreKnownPairs w pairs'
-  pairs_known pairs _ label a is all here one =
-      subst (λ xs. AreKnownPairs w xs) (sym is)
-      record {
-        live = search live_pairs_push;
-        given = λ more. sym (pairs_end _) ∙ pairs_join w.tables (w.texts ++ more) pairs (label, a) no_entries
-            ∙ (λ j. join_pairs (all.given more j) (more_entries (here more j) (one.given more j) no_entries))
-            ∙ sym (pairs_join w.tables w.texts pairs (label, a) no_entries) ∙ pairs_end _;
-      }
+  pairs_known = grind (arith, live_pairs_push, pairs_join)
 
   pub arguments_known : (args args' : List Named) (g : Named) → args' ≡ args ++ g ∷ [] → AreKnownArguments w args → IsKnownArgument w g.value → AreKnownArguments w args'
   arguments_known = grind (arith, live_arguments_push, arguments_join)

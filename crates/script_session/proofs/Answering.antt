@@ -1,16 +1,19 @@
 -- What statements answer.
 use Rattle.{
-  std.{proofs.Common.{arith, ◌≡◌, ℕ, Bool, true, false, nat_eq, List, [], ◌∷◌, Option, Some, None, refl, sym, ◌∙◌, ap, IsSome}, specs.Prelude.{if◌then◌else◌, Result, Ok, Err, OnErr}},
-  meaning.specs.{Text.{Text, same_text}, Fault.{FaultValue}},
-  table_meaning.specs.{Table.{Table}, Value.{Entry}},
-  frame_store.{specs.{Shown.{table_in}, declared.{object.ObjId.{ObjId}, arguments.Value.{Value, TheVariants.{Object, Scalar}}, fault.OpFault.{OpFault}}, World.{World, objects_of, entry_in, Keeps, Sets}}, proofs.Settling.{seen_later}},
-  script_meaning.specs.{State.{State}, Reading.{Files, Reading, at_once}, Statement.{Answer, done, refused, set_answer, is_chained}},
-  script_session.specs.{declared.fault.{Outcome.{Outcome}, StepFault.{StepFault}}, Faults.{IsStepFault, Performs, PerformsOnce, step_fault, marked_fault}},
-  script_work.{specs.{declared.{fault.EvalFault.{EvalFault}, work.Work.{Work}}, Reads.{Goes, Halts}, Work.{names_in, world_of, state_in}, Bindings.{Bindings, value_at, is_named, state_over, IsOf, KeepNamed, AreGiven, AreNamed}}, proofs.{Numbers.{nat_same, nat_eq_self, true_false, same_congr}, Bindings.{named_object}, States.{same_state, state_kept}, Worlds.{entry_seen, some_shown}, Rides.{goes_same, goes_to, uncaused, fault_uncaused, goes_spends, spends_none}}},
+  std.{proofs.Common.{arith, ◌≡◌, ℕ, Bool, true, false, nat_eq, List, [], ◌∷◌, Option, Some, None, refl, sym, ◌∙◌, ap, IsSome}, specs.Prelude.{if◌then◌else◌, Result, Ok, Err, OnErr, IsErrAnd, ⊤}},
+  meaning.specs.{Text.{Text, Contents, same_text}, Fault.{FaultValue}},
+  table_meaning.specs.Table.{Table},
+  frame_store.{specs.{Shown.{table_in}, declared.{object.ObjId.{ObjId}, arguments.{Value.{Value, TheVariants.{Object, Scalar}}, Argument.{Argument, TheVariants.{Nothing}}}, fault.OpFault.{OpFault}}, World.{World, objects_of, entry_in, Keeps, Sets}}, proofs.Settling.{seen_later}},
+  script_meaning.specs.{State.{State}, Reading.{Files, Reading, Reads, at_once}, Statement.{Answer, with_value, done, refused, then_answer, set_answer, is_chained, statement_result}},
+  script_evaluation.{specs.Evaluates.{Moment, Evaluates}, proofs.Evaluations.{moment_of}},
+  settings.specs.Assigned.{without},
+  script_session.specs.{declared.fault.{Outcome.{Outcome}, StepFault.{StepFault, TheVariants.{Refused, NoMemory}}}, Faults.{IsStepFault, Performs, PerformsOnce, step_fault, marked_fault}},
+  script_work.{specs.{declared.{file_names.FileName.{FileName}, fault.EvalFault.{EvalFault}, work.Work.{Work}}, Reads.{Goes, Halts, files_in}, Work.{names_in, world_of, state_in, SetsFrom}, Bindings.{Bindings, bound, value_at, is_named, state_over, IsOf, KeepNamed, AreGiven, AreNamed}}, proofs.{Numbers.{nat_same, nat_eq_self, true_false, same_congr}, Bindings.{named_object}, States.{same_state, state_kept, bind_state}, Worlds.{entry_seen, some_shown, set_failed}, Spending.{spent_state}, Rides.{caused_later, goes_both, stuck_both, spends_both, goes_value, halts_first, goes_same, uncaused, fault_uncaused, spends_none}}},
   fault_laws.specs.FormFault.{HasFormFault},
-  outside_io.specs.Files.{FilesValue},
+  outside_io.specs.Files.{FilesValue, Serves},
 }
 use Rattle.table_meaning.specs.Value as value
+use Rattle.language_meaning.specs.Tree as tree
 
 -- a fault of an expression is the statement's
 abbrev pub refusal : FaultValue → Answer
@@ -19,9 +22,6 @@ refusal fault = refused fault false
 pub step_halts : (texts : List Text) (files : Files) (old new : FilesValue) (whole : Reading Answer) (f : EvalFault) → Halts refusal texts files old new whole f → IsStepFault texts files old new whole (step_fault f)
 step_halts = grind arith
 
-pub done_same : (a : Answer) (s t : State) (p q : Text) (w v : Bool) → a ≡ done s p w → s ≡ t → q ≡ p → v ≡ w → a ≡ done t q v
-done_same a s t p q w v is same printed warned = cc
-
 -- the names that are the same text have the same value
 value_at-same : (bs : Bindings) (n m : Text) → same_text n m ≡ true → value_at bs m ≡ value_at bs n
 value_at-same [] n m e = refl
@@ -29,9 +29,6 @@ value_at-same (b ∷ bs) n m e = grind (arith, same_congr, value_at-same bs n m 
 
 -- a setting on the object of a name, or on one that no name stands for
 module _ (bs : Bindings) (meant : Result Table FaultValue) (old new : World) (given : AreGiven bs old.texts) (id : ObjId) (sets : Sets (Ok tt) (Object id) meant old new) where
-  abbrev table_now : Entry
-  table_now = value.table (table_in (objects_of new id.0))
-
   other_same : (k : ObjId) → nat_eq id.0 k.0 ≡ false → entry_in old (Object k) ≡ entry_in new (Object k)
   other_same k other =
       sym (entry_seen old (Object k))
@@ -51,17 +48,74 @@ pub set_state : (bs : Bindings) (o : Option Text) (on : Value) (meant : Result T
     → set_answer (state_over bs old) o meant ≡ done (state_over bs new) [] (is_chained o)
 set_state = grind (arith, named_set, unnamed_set)
 
--- a setting that was refused, with its mark
-pub set_refused : {texts : List Text} (files : Files) {first last : FilesValue} {whole : Reading Answer} (s : State) (o : Option Text) (on : Value) (meant : Result Table FaultValue) (form : HasFormFault meant) (f : OpFault) (warned : Bool) (e : StepFault) (old new : World)
-    → Goes files.held first last whole (at_once (set_answer s o meant)) → texts ≡ new.texts → e ≡ marked_fault warned f → warned ≡ is_chained o → Sets (Err f) on meant old new → IsStepFault texts files first last whole e
-set_refused {texts} _ {first} {last} {whole} = grind (arith, goes_to, fault_uncaused, goes_spends)
+-- readings one after the other
+performs_both : (s : State) (texts : List Text) (files : Files) (third : FilesValue) {first second : FilesValue} {a b : Reading Answer} (r : Result Outcome StepFault) → Serves first second → Goes files.held first second a b → Performs s texts files second third b r
+    → Performs s texts files first third a r
+performs_both _ _ _ _ (Err (Refused code warned)) serves p h = search (goes_both, caused_later)
+performs_both _ _ _ _ _ serves p h = search (goes_both, stuck_both, spends_both)
+
+-- a statement answers what is meant
+pub record Answers (paths : List FileName) (meant : Files → State → Reading Answer) (old new : Moment) (r : Result Outcome StepFault) : Type 0 where
+  pub told : (held : Contents) → Performs (state_in new.work) (world_of new.work).texts (files_in paths held) old.files new.files (meant (files_in paths held) (state_in old.work)) r
+
+pub answers : (form : tree.Form) {paths : List FileName} {old new : Moment} {r : Result Outcome StepFault} → Answers paths (λ files s. statement_result files s form) old new r
+    → (held : Contents) → Performs (state_in new.work) (world_of new.work).texts (files_in paths held) old.files new.files (statement_result (files_in paths held) (state_in old.work) form) r
+answers _ x = x.told
+
+module _ {paths : List FileName} where
+  module _ {V A : Type 0} {known : Work → V → Type 0} {view : World → V → A} {first : Files → State → Reads A} (go : Files → State → A → Reading Answer) where
+    -- the first fault refuses the statement
+    pub fails : {old new : Moment} {f : EvalFault} {r : Result Outcome StepFault} → Evaluates paths known view first old new (Err f) → IsErrAnd r (λ e. e ≡ step_fault f) → Answers paths (λ files s. then_answer (first files s) (go files s)) old new r
+    fails {r = Ok o} x is = absurd is
+    fails {old} {new} {f} {r = Err e} x is = record { told = grind (arith, step_halts, halts_first) }
+
+    -- a value goes on
+    pub follows : {old mid new : Moment} {v : V} {r : Result Outcome StepFault} → Evaluates paths known view first old mid (Ok v) → Answers paths (λ files s. go files s (view (world_of mid.work) v)) mid new r → Answers paths (λ files s. then_answer (first files s) (go files s)) old new r
+    follows {old} {mid} {new} {v} {r} x y = record { told = λ held. performs_both _ _ _ new.files r x.serves (grind (arith, goes_value, state_kept)) (y.told held) }
+
+  -- memory was refused
+  pub runs_out : {w : Work} (u : Work) {s : FilesValue} {meant : Files → State → Reading Answer} {r : Result Outcome StepFault} → IsErrAnd r (λ e. e ≡ NoMemory) → Answers paths meant (moment_of w s) (moment_of u s) r
+  runs_out _ {r = Ok o} is = absurd is
+  runs_out _ {r = Err e} is = record { told = λ held. rw is spends_none }
+
+  -- a statement is done
+  pub does : (u : Work) {w : Work} {s : FilesValue} (a : State → Answer) {printed : Text} {warned : Bool} {o : Outcome} → a (state_in w) ≡ done (state_in u) printed warned → o.printed ≡ printed → o.warned ≡ warned
+      → Answers paths (λ files t. at_once (a t)) (moment_of w s) (moment_of u s) (Ok o)
+  does u {w} a {printed} {warned} {o} is first second = record { told = λ held. goes_same (cc (is, first, second)) }
+
+-- a setting, after which an object may end that no name stands for
+module _ (w u : Work) {value : Argument} {r : Result ⊤ OpFault} {on : Value} {meant : Result Table FaultValue} (e : SetsFrom (names_in w) value r on meant (world_of w) (world_of u)) where
+  pub set_done : (o : Option Text) → IsOf (names_in w) o on → names_in u ≡ names_in w → r ≡ Ok tt → set_answer (state_in w) o meant ≡ done (state_in u) [] (is_chained o)
+  set_done o of names is =
+      let sets = rw is at e.sets in
+      cc (names, spent_state (names_in w) value (Ok tt) e.spare (world_of w) e.unnamed, set_state (names_in w) o on meant (without (Ok tt) e.spare (world_of w)) (world_of u) w.given of sets)
+
+  -- one that was refused, with its mark
+  pub set_keeps : (f : OpFault) → r ≡ Err f → Keeps (world_of w) (world_of u)
+  set_keeps f is = set_failed _ _ f on meant (rw is at e.sets)
+
+  pub set_refused : {paths : List FileName} {s : FilesValue} (a : State → Answer) (o : Option Text) (f : OpFault) {fault : StepFault} → HasFormFault meant → r ≡ Err f → fault ≡ marked_fault (is_chained o) f → a (state_in w) ≡ set_answer (state_in w) o meant
+      → Answers paths (λ files t. at_once (a t)) (moment_of w s) (moment_of u s) (Err fault)
+  set_refused {s = s} a o f form is marked same =
+      let sets = rw is at e.sets in
+      record { told = λ held. grind (arith, goes_same, fault_uncaused, spends_none) }
+
+-- one after which none ends
+pub alone : {bs : Bindings} (r : Result ⊤ OpFault) (on : Value) (meant : Result Table FaultValue) (old new : World) → Sets r on meant old new → SetsFrom bs Nothing r on meant old new
+alone (Ok _) _ _ _ _ sets = record { spare = None; unnamed = tt; sets = sets }
+alone (Err f) _ _ _ _ sets = record { spare = None; unnamed = tt; sets = sets }
+
+-- a name that gets a value
+pub set_name : (w u : Work) (n : Text) (o : Option Text) (v : Value) → IsOf (names_in w) o v → names_in u ≡ bound (names_in w) n v → world_of u ≡ world_of w → done (with_value (state_in w) n o (entry_in (world_of w) v)) [] false ≡ done (state_in u) [] false
+set_name w u n o v of names world = cc (bind_state (names_in w) n o v (world_of w) of, names, world)
+
+-- an evaluation leaves the state
+pub state_after : {paths : List FileName} {V A : Type 0} {known : Work → V → Type 0} {view : World → V → A} {meant : Files → State → Reads A} {old new : Moment} {r : Result V EvalFault} → Evaluates paths known view meant old new r → state_in new.work ≡ state_in old.work
+state_after {old = old} {new} x = state_kept old.work new.work x.names x.kept
 
 -- what a statement that reads no file answers
 pub performs_once : (texts : List Text) (files : Files) (seen : FilesValue) (whole : Reading Answer) (s : State) (r : Result Outcome StepFault) → PerformsOnce s texts whole r → Performs s texts files seen seen whole r
 performs_once = grind (arith, goes_same, uncaused, spends_none)
-
-pub performs_by : (s : State) (texts : List Text) (files : Files) (old new : FilesValue) {whole other : Reading Answer} (r : Result Outcome StepFault) → whole ≡ other → Performs s texts files old new other r → Performs s texts files old new whole r
-performs_by s _ _ _ _ r is h = rw is h
 
 -- after a sweep, which keeps the state and the texts
 pub performs_after : {texts texts' : List Text} (files : Files) (old new : FilesValue) (whole : Reading Answer) (s t : State) (r : Result Outcome StepFault) → Performs s texts files old new whole r → s ≡ t → texts ≡ texts'

@@ -54,6 +54,7 @@ pub(crate) fn perform<F: Files>(
 }
 
 // `name = expr`
+#[tactic(auto, using(crate::proofs::Hints::bind))]
 fn bind<F: Files>(
     work: &mut Work,
     files: &mut F,
@@ -78,6 +79,7 @@ fn bind<F: Files>(
 }
 
 // `target.step = arg`
+#[tactic(auto, using(script_work::proofs::Rides::serves_both))]
 fn put<F: Files>(
     work: &mut Work,
     files: &mut F,
@@ -110,6 +112,7 @@ fn put<F: Files>(
 }
 
 // `del name`
+#[tactic(auto, using(script_work::proofs::Rides::then_gives))]
 fn drop_name(work: &mut Work, name: &Words) -> Result<Outcome, StepFault>
     ensures answers { (files : SomeFiles) →
         PerformsOnce (state_in work.new) (world_of work.new).texts
@@ -124,6 +127,7 @@ fn drop_name(work: &mut Work, name: &Words) -> Result<Outcome, StepFault>
 }
 
 // `del name[key]`
+#[tactic(auto, using(crate::proofs::Hints::drop_column))]
 fn drop_column<F: Files>(
     work: &mut Work,
     files: &mut F,
@@ -153,6 +157,7 @@ fn drop_column<F: Files>(
 }
 
 // `print(expr, end=end)`
+#[tactic(auto, using(crate::proofs::Hints::print))]
 fn print<F: Files>(
     work: &mut Work,
     files: &mut F,

@@ -2,3 +2,4 @@ pub mod Options
 pub mod StepLaws
 pub mod RunLaws
 pub mod ErrorLaws
+pub mod Hints

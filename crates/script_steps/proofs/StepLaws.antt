@@ -1,11 +1,15 @@
 -- What steps print and fetch, one after another.
 use Rattle.{
-  std.proofs.{Common.{◌≡◌, ℕ, ◌+◌, ◌<◌, ◌≤◌, List, [], ◌∷◌, ◌++◌, length, Option, arith, zero-add, add-zero, add_assoc, length-append}, lemmas.{Bool.{lt-ltb, le-ltb}, List.{append-nil, Concat.{flat_map-append}}}},
-  outside_io.{specs.Sink.{appended}, proofs.Appended.{appended-appended, appended-nil}},
-  script_meaning.specs.Run.{RunStep, output_of, errors_of, fetches_of, before_fetch, before_byte},
+  std.proofs.{Common.{◌≡◌, ℕ, ◌+◌, ◌<◌, ◌≤◌, List, [], ◌∷◌, ◌++◌, length, Option, arith, zero-add, add-zero, add_assoc, flat_map, length-append}, lemmas.{Bool.{lt-ltb, le-ltb}, List.{append-nil, Concat.{flat_map-append}}}},
+  outside_io.{specs.Sink.{appended}, proofs.Appended.{appended-appended}},
+  script_meaning.specs.Run.{RunStep, errors_of, fetches_of, before_fetch, before_byte},
   script_work.specs.Reads.{count_after},
   script_steps.specs.{Ends.{Outside}, Steps.{Does}},
 }
+
+-- the bytes of a sink, where they are told
+abbrev pub Written : Type 0
+Written = Option (List ℕ)
 
 pub fetches_of-append : (a b : List RunStep) → fetches_of (a ++ b) ≡ fetches_of a + fetches_of b
 fetches_of-append [] b = search zero-add
@@ -25,28 +29,14 @@ before_byte-append (x ∷ a) b place = grind (arith, length-append, le-ltb, befo
 pub count_after-add : (count a b : ℕ) → count_after (count_after count a) b ≡ count_after count (a + b)
 count_after-add = grind (arith, zero-add, add-zero)
 
--- nothing was done yet
-pub does_none : (o : Outside) → Does [] o o
-does_none = grind (arith, appended-nil)
-
 -- one step was done
 pub does_one : (step : RunStep) (old new : Outside) → new.out ≡ appended old.out step.output → new.err ≡ appended old.err step.errors → new.fetches ≡ count_after old.fetches step.fetches
     → old.out_faults ≤ new.out_faults → old.err_faults ≤ new.err_faults → Does (step ∷ []) old new
 does_one = search (append-nil, add-zero)
 
--- the text of the first steps, and then that of the others
-text_more : (a b both : List ℕ) (w0 w1 w2 : Option (List ℕ)) → both ≡ a ++ b → w1 ≡ appended w0 a → w2 ≡ appended w1 b → w2 ≡ appended w0 both
-text_more a b _ w0 _ _ whole first second = cc (appended-appended w0 a b)
-
--- what some steps and then others print and fetch is what all of them do
-pub out_more : (a b : List RunStep) (w0 w1 w2 : Option (List ℕ)) → w1 ≡ appended w0 (output_of a) → w2 ≡ appended w1 (output_of b) → w2 ≡ appended w0 (output_of (a ++ b))
-out_more = search (text_more, flat_map-append)
-
-pub err_more : (a b : List RunStep) (w0 w1 w2 : Option (List ℕ)) → w1 ≡ appended w0 (errors_of a) → w2 ≡ appended w1 (errors_of b) → w2 ≡ appended w0 (errors_of (a ++ b))
-err_more = search (text_more, flat_map-append)
-
-pub fetches_more : (a b : List RunStep) (n0 n1 n2 : ℕ) → n1 ≡ count_after n0 (fetches_of a) → n2 ≡ count_after n1 (fetches_of b) → n2 ≡ count_after n0 (fetches_of (a ++ b))
-fetches_more = grind (arith, count_after-add, fetches_of-append)
+-- what some steps and then others print is what all of them do
+pub text_more : (text : RunStep → List ℕ) (a b : List RunStep) (w0 w1 w2 : Written) → w1 ≡ appended w0 (flat_map text a) → w2 ≡ appended w1 (flat_map text b) → w2 ≡ appended w0 (flat_map text (a ++ b))
+text_more = grind (arith, flat_map-append, appended-appended)
 
 pub does_more : (a b : List RunStep) (old mid new : Outside) → Does a old mid → Does b mid new → Does (a ++ b) old new
-does_more = grind (arith, out_more, err_more, fetches_more)
+does_more = grind (arith, text_more, count_after-add, fetches_of-append)

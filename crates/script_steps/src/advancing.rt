@@ -26,6 +26,7 @@ use std::alloc::Global;
 /// Does the statement and writes its warning and what it prints. `Err` says how the run ends: by `Fault` once the
 /// line of the first fault is written after the warning, by `Input` where a file can't be read, by `Output` where a
 /// sink failed, or by `Memory`.
+#[tactic(auto, using(crate::proofs::Hints::advance))]
 pub fn advance<F: Files, O: Sink, E: Sink>(
     alloc: Global,
     session: &mut Session,

@@ -14,3 +14,4 @@ pub mod ScriptLaws
 pub mod Cutting
 pub mod Decided
 pub mod OneReading
+pub mod Hints

@@ -61,6 +61,7 @@ pub fn parse(alloc: Global, bytes: &[u8]) -> Result<Script, ParseFault>
 }
 
 // The script that the bytes are, piece by piece.
+#[tactic(auto, using(crate::proofs::Hints::parse_pieces))]
 fn parse_pieces(alloc: Global, bytes: &[u8]) -> Result<Script, ParseFault>
     requires { length bytes.now ≤ most_bytes }
     ensures { IsParsed bytes.now result }

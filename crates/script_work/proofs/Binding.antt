@@ -1,16 +1,11 @@
 -- What stands after a name got a value or left it.
 use Rattle.{
   std.{proofs.Common.{arith, ◌≡◌, ℕ, Bool, true, false, not, nat_eq, List, [], ◌∷◌, ◌++◌, map, filter, Option, Some, None, IsSome, refl, sym, ◌∙◌, ap, string_bytes}, specs.{Prelude.{if◌then◌else◌, option_map}, declared.string.String.{String}, String.{string_eq}, List.{IsDistinct, AllByRecursion}, Map.{keys_of}}},
-  meaning.specs.{Text.{Text, same_text}, Cell.{CellValue, na_cell, datum}},
-  table_meaning.specs.{Settled.{IsSettled}, Table.{NumberedTable, table_value}, Value.{Entry}},
+  meaning.specs.{Text.{Text, same_text}, Cell.{datum}},
+  table_meaning.specs.{Settled.{IsSettled}, Table.{NumberedTable, table_value}},
   frame_store.specs.{Objects.{Tables, with_object}, Shown.{shown}, declared.{object.ObjId.{ObjId}, arguments.Value.{Value, TheVariants.{Object, Scalar}}}, World.{World, IsKnownValue}},
   script_work.{specs.Bindings.{Bindings, bindings_of, bound, unbound, value_at, is_named, is_object, contains, released, noted_old, AreLive, AreGiven, AreNoted, AreNamed, KeepNamed}, proofs.{Numbers.{nat_same, true_false, some_none, same_congr, same_sym}, Bindings.{value_at-bound, named_object}, LiveObjects.{or_right, or_map, contains_last, contains_more, named_when_none_noted}}},
 }
-use Rattle.table_meaning.specs.Value as value
-
-abbrev cell_in : Entry → CellValue
-cell_in (value.cell c) = c
-cell_in (value.table t) = na_cell
 
 pub bound_given : (bs : Bindings) (x : Text) (v : Value) (w : World) → IsKnownValue w v → AreGiven bs w.texts → AreGiven (bound bs x v) w.texts
 bound_given bs x v w known given n c is = go _ (sym (value_at-bound bs x v n) ∙ is)
@@ -113,13 +108,12 @@ settled_without texts tables id settled = λ more j other. at more other (nat_eq
     at more other false = λ j. settled more j other
 
 pub released_settled : (texts : List Text) (bs : Bindings) (tables : Tables) (left : Option Value) → IsSettled shown texts tables → IsSettled shown texts (released bs tables left)
-released_settled _ _ _ None settled = settled
-released_settled _ _ _ (Some (Scalar c)) settled = settled
 released_settled texts _ tables (Some (Object o)) settled = go _
   where
     go : (b : Bool) → IsSettled shown texts (if b then tables else with_object tables o.0 None)
     go true = settled
     go false = search settled_without
+released_settled _ _ _ _ settled = settled
 
 pub swept_settled : (texts : List Text) (bs : Bindings) (old new : Tables) → KeepNamed bs old new → AreNamed bs new → IsSettled shown texts old → IsSettled shown texts new
 swept_settled texts _ old new kept named settled = λ more j id. at more id (new id) refl j

@@ -1,25 +1,20 @@
 -- The file of a name, as it is fetched.
 use Rattle.{
-  std.{proofs.{Common.{◌≡◌, ◌<◌, ◌^◌, ◌+◌, ℕ, Bool, true, false, List, [], ◌∷◌, length, Option, Some, None, ◌∙◌, ap, arith}, lemmas.Bool.Decides.{nat_tests}}, specs.{Prelude.{Result, Ok, Err, nat_lt, if◌then◌else◌}, FinMap.{get}, Str.Lossy.{utf8_valid_len}}},
-  csv.specs.Reading.{records, default_config, strip_bom},
-  outside_io.specs.{Count.{HasRisen, raised}, Whole.{IsWholeFile, IsLonger, IsAbsent}, Files.{FilesValue}},
+  std.{proofs.{Common.{◌≡◌, ◌<◌, ◌^◌, ◌+◌, ℕ, Bool, true, List, [], ◌∷◌, length, Some, None, ◌∙◌, ap, arith}, lemmas.Bool.Decides.{nat_tests}}, specs.{Prelude.{Result, Ok, Err, nat_lt, if◌then◌else◌}, FinMap.{get}}},
+  outside_io.specs.{Count.{HasRisen, raised}, Whole.{IsAbsent}, Files.{FilesValue}},
   meaning.specs.{Text.{Text, Contents}, Fault.{FaultValue, limit}},
   table_meaning.specs.Value.{Given, NamedGiven},
   form_meaning.specs.{declared.{Function.TheVariants.{ReadCsv}, Parameter.{Parameter}}, Signature.{function_parameters}, Binding.{Bound, not_taken, not_listed, bound, fit, argument_at, arguments_from, on_bound}},
   cell_core.specs.declared.cell.Kind.{Kind},
-  csv_meaning.specs.CsvRead.{beyond_limits, not_utf8, columns_of_file, columns_of_records},
+  csv_meaning.specs.CsvRead.{beyond_limits, columns_of_file},
   method_meaning.specs.Readers.{name_of_bound, file_name_of, csv_result, read_result},
   script_meaning.specs.Reading.{Reads, at_once, after, path_of_name, of_bytes, of_path, of_file},
-  script_work.{specs.{declared.{file_names.FileName.{FileName}, fault.EvalFault.{EvalFault}}, Faults.{IsNoFile}, Reads.{Holds, Goes, Stuck, Spends, Halts, RefusesLong, paths_of, files_in}}, proofs.Rides.{goes_same}},
+  script_work.specs.{declared.{file_names.FileName.{FileName}, fault.EvalFault.{EvalFault}}, Faults.{IsNoFile}, Reads.{Holds, Goes, Spends, Halts, RefusesLong, paths_of, files_in}},
 }
 
 module _ {A : Type 0} (texts : List Text) (names : List FileName) (held : Contents) (name : Text) (go : List ℕ → Result A FaultValue) where
   abbrev whole : Reads A
   whole = of_file (files_in names held) name go
-
-  -- a name that stands for no path
-  pub unnamed_file : (s : FilesValue) (f : EvalFault) → path_of_name (paths_of names) name ≡ None → IsNoFile f name → Halts Err texts (files_in names held) s s whole f
-  unnamed_file = grind (arith, goes_same)
 
   module _ (path : Text) (found : path_of_name (paths_of names) name ≡ Some path) (old new : FilesValue) (once : new.fetches ≡ raised old.fetches 1) where
     -- something was fetched, so the files tell their contents
@@ -32,25 +27,8 @@ module _ {A : Type 0} (texts : List Text) (names : List FileName) (held : Conten
     pub spent_file : Spends held old new whole
     spent_file = record { fetched = 1; counted = once; within = λ h. grind arith }
 
-    pub whole_file : (bytes : List ℕ) → IsWholeFile old.contents path bytes → Goes held old new whole (at_once (go bytes))
-    whole_file bytes is = fetched _ (at old.contents is)
-      where
-        at : (contents : Option Contents) → IsWholeFile contents path bytes → Holds contents 1 whole.fetches held → of_bytes name (get held path) go ≡ go bytes
-        at None _ h = absurd (never h)
-        at (Some told) is h = ap (λ c. of_bytes name (get c path) go) h ∙ ap (λ o. of_bytes name o go) is
-
     pub absent_file : (f : EvalFault) → IsNoFile f name → IsAbsent old.contents path → HasRisen old.absences new.absences → Halts Err texts (files_in names held) old new whole f
     absent_file = grind (arith, fetched, never, spent_file)
-
-    pub long_file : RefusesLong go → IsLonger old.contents path (2 ^ 28) → Goes held old new whole (at_once (Err limit))
-    long_file refuses is = fetched _ (at old.contents is)
-      where
-        at : (contents : Option Contents) → IsLonger contents path (2 ^ 28) → Holds contents 1 whole.fetches held → of_bytes name (get held path) go ≡ Err limit
-        at None _ h = absurd (never h)
-        at (Some told) is h = ap (λ c. of_bytes name (get c path) go) h ∙ ap (λ o. of_bytes name o go) is.1 ∙ refuses is.0 is.2
-
-    pub failed_file : HasRisen old.faults new.faults → Stuck held old new whole
-    failed_file risen = record { fetched = 1; counted = once; some = omega (arith); within = λ h. grind arith; risen = risen }
 
 -- bytes beyond the limits are refused, where the arguments name a file
 module _ (gs : List NamedGiven) where
@@ -63,7 +41,7 @@ module _ (gs : List NamedGiven) where
   long_columns : (bytes : List ℕ) → 2 ^ 28 < length bytes → (kinds : List (Text × Kind)) → columns_of_file bytes kinds ≡ Err beyond_limits
   long_columns bytes long kinds =
       let beyond : nat_lt (2 ^ 28) (length bytes) ≡ true = grind (arith, nat_tests) in
-      ap (λ b. if b then Err beyond_limits else if nat_lt (utf8_valid_len bytes) (length bytes) then Err (not_utf8 (utf8_valid_len bytes)) else columns_of_records kinds (records default_config (strip_bom bytes))) beyond
+      rw beyond
 
   long_result : (bytes : List ℕ) → 2 ^ 28 < length bytes → (name backend dtype : Given) → csv_result bytes (name ∷ backend ∷ dtype ∷ []) ≡ Err limit
   long_result = search long_columns
@@ -73,6 +51,4 @@ module _ (gs : List NamedGiven) where
     where
       go : (a b c : Bool) → name_of_bound (bound_by a b c) ≡ Ok name → on_bound (bound_by a b c) (csv_result bytes) ≡ Err limit
       go true true true e = long_result bytes long (argument_at ps gs 0) (argument_at ps gs (0 + 1)) (argument_at ps gs (0 + 1 + 1))
-      go true true false e = Prim.cc
-      go true false c e = Prim.cc
-      go false b c e = Prim.cc
+      go _ _ _ e = Prim.cc

@@ -13,3 +13,4 @@ pub mod Printed
 pub mod Validity
 pub mod Spending
 pub mod UseLaws
+pub mod Hints

@@ -1,9 +1,9 @@
 -- A name stands for each object that is named.
 use Rattle.{
-  std.{proofs.{Common.{arith, ◌≡◌, ◌↔◌, ℕ, zero, suc, Bool, true, false, List, [], ◌∷◌, Some, None, IsSome, refl, sym, ◌∙◌, subst, string_bytes}, lemmas.Map.Entries.{lookup_from_place}}, specs.{Prelude.{slice_get, if◌then◌else◌, Result, Ok, Err, IfOk}, declared.string.String.{String}, String.{string_eq, string_eq_equiv}, List.{IsDistinct}, Map.{keys_of}}},
+  std.{proofs.{Common.{arith, ◌≡◌, ◌↔◌, ℕ, zero, suc, Bool, true, false, List, [], ◌∷◌, Some, None, IsSome, refl, sym, ◌∙◌, subst, string_bytes}, lemmas.Map.Entries.{lookup_from_place}}, specs.{Prelude.{slice_get, if◌then◌else◌, Result, Ok, IfOk}, declared.string.String.{String}, String.{string_eq, string_eq_equiv}, List.{IsDistinct}, Map.{keys_of}}},
   meaning.specs.{Text.{Text}, Fault.{FaultValue}},
   table_meaning.specs.Value.{Entry},
-  frame_store.specs.{Objects.{Tables}, declared.{object.ObjId.{ObjId}, arguments.Value.{Value, TheVariants.{Object, Scalar}}, fault.OpFault.{OpFault}}, World.{World, objects_of, Forms}},
+  frame_store.specs.{Objects.{Tables}, declared.{object.ObjId.{ObjId}, arguments.Value.{Value, TheVariants.{Object}}, fault.OpFault.{OpFault}}, World.{World, objects_of, Forms}},
   script_work.{specs.Bindings.{Bindings, bindings_of, value_at, is_named, is_object, AreLive, AreNamed, IsOf}, proofs.{Numbers.{nat_same, some_none}, Bindings.{value_at-bindings_of}, Worlds.{some_shown, none_shown}}},
 }
 
@@ -12,13 +12,10 @@ place_of_named : {Y : Type 0} (es : List (String Y × Value)) (id : ObjId) → i
 place_of_named [] _ e = Prim.cc
 place_of_named {Y} (e ∷ es) id named = go (place_of_named es id) _ refl named
   where
-    later : (i : ℕ) × (k : String Y) × (slice_get es i ≡ Some (k, Object id)) → (i : ℕ) × (k : String Y) × (slice_get (e ∷ es) i ≡ Some (k, Object id))
-    later p = (suc p.0, p.1, p.2)
-
     go : (is_named (bindings_of es) id.0 ≡ true → (i : ℕ) × (k : String Y) × (slice_get es i ≡ Some (k, Object id))) → (c : Bool) → is_object e.1 id.0 ≡ c → (if c then true else is_named (bindings_of es) id.0) ≡ true
         → (i : ℕ) × (k : String Y) × (slice_get (e ∷ es) i ≡ Some (k, Object id))
     go among true is named = (zero, e.0, grind (arith, nat_same))
-    go among false _ named = later (among named)
+    go among false _ named = let p = among named in (suc p.0, p.1, p.2)
 
 module _ {Y : Type 0} (es : List (String Y × Value)) (unique : IsDistinct string_eq (keys_of es)) where
   pub name_of_named : (id : ObjId) → is_named (bindings_of es) id.0 ≡ true → (n : Text) × (value_at (bindings_of es) n ≡ Some (Object id))
@@ -46,5 +43,4 @@ module _ {Y : Type 0} (es : List (String Y × Value)) (unique : IsDistinct strin
     where
       go : (r : Result Value OpFault) → Forms r meant old new → IfOk r (λ v. IsOf (bindings_of es) None v)
       go (Ok (Object id)) answers = search (unnamed, none_shown)
-      go (Ok (Scalar c)) _ = tt
-      go (Err f) _ = tt
+      go _ _ = tt

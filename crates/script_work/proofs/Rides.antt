@@ -56,7 +56,7 @@ pub serves_both : {first second third : FilesValue} → Serves first second → 
 serves_both = grind arith
 
 -- the cause of a file that isn't there
-caused_later : {first second : FilesValue} (third : FilesValue) → Serves first second → (paths : List (Text × Text)) (name : Option Text) → IsCaused paths second third name → IsCaused paths first third name
+pub caused_later : {first second : FilesValue} (third : FilesValue) → Serves first second → (paths : List (Text × Text)) (name : Option Text) → IsCaused paths second third name → IsCaused paths first third name
 caused_later = grind arith
 
 -- a fault that isn't that of a file
@@ -136,11 +136,6 @@ pub halts_first : {A X : Type 0} (texts : List Text) (files : Files) (old new : 
     → Halts Err texts files old new whole f → Halts stop texts files old new (then_or stop whole go) f
 halts_first = grind (arith, goes_to, goes_then, ended, none_more, within_then, spends_then)
 
--- a fault after the first value
-pub halts_later : {A X : Type 0} (texts : List Text) (files : Files) (third : FilesValue) {first second : FilesValue} {whole : Reads A} (stop : FaultValue → X) (go : A → Reading X) (a : A) (f : EvalFault)
-    → Serves first second → Goes files.held first second whole (gives a) → Halts stop texts files second third (go a) f → Halts stop texts files first third (then_or stop whole go) f
-halts_later = search (halts_both, goes_value)
-
 -- what an evaluation reaches
 module _ {V A : Type 0} (view : V → A) (texts : List Text) (files : Files) where
   pub reaches_both : (third : FilesValue) {first second : FilesValue} {whole rest : Reads A} (r : Result V EvalFault) → Serves first second → Goes files.held first second whole rest
@@ -203,8 +198,3 @@ module _ {G L : Type 0} (cons : G → L → L) (join : L → L → L) where
 pub loop_fault : {G L : Type 0} (texts : List Text) (files : Files) (new : FilesValue) (cons : G → L → L) (join : L → L → L) {whole : Reads L} {old mid : FilesValue} (serves : Serves old mid) (first : Reads G) (rest : Reads L) (so_far : L)
     → Goes files.held old mid whole (joined join so_far (ahead cons first rest)) → (f : EvalFault) → Halts Err texts files mid new first f → Halts Err texts files old new whole f
 loop_fault _ _ _ _ _ {whole} {old} {mid} = search (halts_both, halts_first)
-
--- memory was refused after one part more
-pub loop_spends : {G L : Type 0} {held : Contents} (cons : G → L → L) (join : L → L → L) {whole : Reads L} {old mid new : FilesValue} (serves : Serves old mid) (first : Reads G) (rest : Reads L) (so_far : L)
-    → Goes held old mid whole (joined join so_far (ahead cons first rest)) → (g : G) → Goes held mid new first (gives g) → Spends held old new whole
-loop_spends = search (spends_both, spends_then, goes_spends)

@@ -57,6 +57,3 @@ module _ (bs : Bindings) (x : Text) (old : ObjId → ℕ) (counted : (id : ObjId
 -- what a count that is put makes of the others
 pub same_after : (b : Bool) (n : ℕ) (o : Option ℕ) → (b ≡ true → n ≡ or_none o) → or_none (cond b (Some n) o) ≡ or_none o
 same_after = grind arith
-
-pub take_at : (b : Bool) (new m old : ℕ) → new ≡ (if b then m else old) → (b ≡ true → suc m ≡ old) → (if b then suc new else new) ≡ old
-take_at = grind arith

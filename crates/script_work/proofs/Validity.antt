@@ -4,10 +4,14 @@ use Rattle.{
   meaning.specs.{Cell.{IsLonger}, Text.{Text}, Fault.{FaultValue}},
   table_meaning.specs.{Settled.{IsSettled}, Table.{NumberedTable, Table, table_value}, Valid.{IsValid}, Value.{Entry, scalar_in}},
   table_laws.{specs.Validity.{IsHeldCell, IsValidObject, IsValidEntry, IsValidGiven, AreValid, IsValidArgument, AreValidArguments}, proofs.ArgumentLaws.{more_valid}},
-  frame_store.{specs.{Objects.{Tables, table_or, with_object}, Arguments.{argument_of, IsLive, IsLiveArgument, item_of, items_of, IsLiveItem, AreLiveItems, AreLive}, declared.{arguments.{Argument.{Argument, Nothing, One, Row, Many, Table'}, Value.{Value, TheVariants.{Object, Scalar}}, Item.{Item, One as OneItem, Row' as RowItem'}, Named.{Named}}, fault.OpFault.{OpFault, TheVariants.{Refused, NoMemory}}}, Shown.{Shown, shown, with_shown, table_in, FormAnswers, Changes}, World.{World, objects_of, entry_in, Forms, Sets, arguments_in, AreKnownArguments}}, proofs.Settling.{seen_later}},
-  script_work.specs.Bindings.{Bindings, released, AreNamed, KeepNamed},
+  frame_store.{specs.{Objects.{Tables, table_or, with_object}, Arguments.{argument_of, IsLive, IsLiveArgument, item_of, items_of, IsLiveItem, AreLiveItems, AreLive as AreLiveArguments}, declared.{object.ObjId.{ObjId}, arguments.{Argument.{Argument, One, Many}, Value.{Value, TheVariants.{Object, Scalar}}, Item.{Item, One as OneItem, Row' as RowItem'}, Named.{Named}}, fault.OpFault.{OpFault, TheVariants.{Refused, NoMemory}}}, Shown.{Shown, shown, with_shown, table_in, FormAnswers, Changes}, World.{World, IsSettledWorld, objects_of, entry_in, Forms, Sets, arguments_in, AreKnownArguments}}, proofs.Settling.{seen_later}},
+  script_work.{specs.{Bindings.{Bindings, released, noted, AreNamed, KeepNamed, AreLive, AreGiven, AreNoted}, Work.{names_in, world_of}, declared.work.Work.{Work}}, proofs.Worlds.{made_noted, form_keeps, live_after, given_after, noted_after}},
   method_meaning.specs.Concat.{tables_of},
 }
+
+-- what holds in the midst of a statement
+abbrev pub Stands : Bindings → List ObjId → World → Type 0
+Stands bs ts w = record { settled : IsSettledWorld w; valid : AreValid (objects_of w); live : AreLive bs w.tables; given : AreGiven bs w.texts; noted : AreNoted bs ts w.tables }
 
 -- the same by cases
 abbrev Each : Shown → Type 0
@@ -29,12 +33,9 @@ object_valid w (Scalar c) _ _ = tt
 
 -- a live argument whose scalar a column can hold
 pub argument_valid : (w : World) (a : Argument) → AreValid (objects_of w) → IsLiveArgument w.tables a → IfSome (scalar_in (argument_of w.tables w.texts a)) IsHeldCell → IsValidGiven (argument_of w.tables w.texts a)
-argument_valid w Nothing _ _ _ = tt
 argument_valid w (One (Object id)) valid live held = search object_valid
 argument_valid w (One (Scalar c)) _ _ held = held
-argument_valid w (Row l) _ _ _ = tt
-argument_valid w (Many l) _ _ _ = tt
-argument_valid w (Table' shape row) _ _ _ = tt
+argument_valid w _ _ _ _ = tt
 
 -- the tables in live arguments are valid
 item_valid : (w : World) (item : Item) → AreValid (objects_of w) → IsLiveItem w.tables item → IsValidArgument (item_of w.tables w.texts item)
@@ -46,13 +47,11 @@ items_valid w [] _ _ = All-nil IsValid
 items_valid w (item ∷ rest) valid live = search (more_valid, item_valid, items_valid w rest valid live.1)
 
 tables_valid : (w : World) (a : Argument) → AreValid (objects_of w) → IsLiveArgument w.tables a → IsValidArgument (argument_of w.tables w.texts a)
-tables_valid w Nothing _ _ = tt
 tables_valid w (One v) valid live = object_valid w v valid live
-tables_valid w (Row l) _ _ = tt
 tables_valid w (Many l) valid live = search items_valid
-tables_valid w (Table' shape row) _ _ = tt
+tables_valid w _ _ _ = tt
 
-live_valid : (w : World) (args : List Named) → AreValid (objects_of w) → AreLive w.tables args → AreValidArguments (arguments_in w args)
+live_valid : (w : World) (args : List Named) → AreValid (objects_of w) → AreLiveArguments w.tables args → AreValidArguments (arguments_in w args)
 live_valid w [] valid live = grind arith
 live_valid w (g ∷ rest) valid live = grind (arith, tables_valid, live_valid w rest valid live.1)
 
@@ -80,6 +79,24 @@ answered_valid _ (Err NoMemory) _ _ _ h _ valid = rw h valid
 pub form_valid : (r : Result Value OpFault) (meant : Result Entry FaultValue) (old new : World) → Forms r meant old new → IfOk meant IsValidEntry → AreValid (objects_of old) → AreValid (objects_of new)
 form_valid r _ _ _ h made valid = answered_valid _ r _ _ _ h.0 made valid
 
+-- a form leaves the work of a statement as it has to be, and what it makes is noted
+module _ (s : Work) (new : World) (r : Result Value OpFault) (meant : Result Entry FaultValue) (answers : Forms r meant (world_of s) new) (valid : IfOk meant IsValidEntry) where
+  stands : {ts : List ObjId} → ts ≡ made_noted s.temps.items r → Stands (names_in s) ts new
+  stands is =
+      record {
+        settled = answers.2;
+        valid = form_valid _ _ _ _ answers valid s.valid;
+        live = live_after _ _ _ (form_keeps _ _ _ _ answers) s.live;
+        given = given_after _ _ _ answers.1 s.given;
+        noted = rw is (noted_after (names_in s) s.temps.items r meant (world_of s) new answers s.noted);
+      }
+
+  pub stands_made : {ts ts' : List ObjId} {v : Value} → r ≡ Ok v → ts' ≡ s.temps.items → ts ≡ noted ts' v → Stands (names_in s) ts new
+  stands_made is same notes = stands (cc (is, same, notes))
+
+  pub stands_refused : {ts : List ObjId} {f : OpFault} → r ≡ Err f → ts ≡ s.temps.items → Stands (names_in s) ts new
+  stands_refused is same = stands (cc (is, same))
+
 changed_valid : (texts : List Text) (r : Result ⊤ OpFault) (on : Value) (meant : Result Table FaultValue) (old new : Shown) → Changes texts r on meant old new → IfOk meant IsValid → AreValid old → AreValid new
 changed_valid _ (Ok done) (Object id) _ _ _ h made valid = put_valid _ _ _ (subst (λ m. IfOk m IsValid) h.0 made) h.2 valid
 changed_valid _ (Ok done) (Scalar c) _ _ _ h _ _ = absurd h
@@ -102,13 +119,12 @@ without_valid texts tables _ valid = are_valid _ (λ k. by k _)
     by k false = each _ valid k
 
 pub released_valid : (texts : List Text) (bs : Bindings) (tables : Tables) (left : Option Value) → AreValid (shown texts tables) → AreValid (shown texts (released bs tables left))
-released_valid _ _ _ None valid = valid
-released_valid _ _ _ (Some (Scalar c)) valid = valid
 released_valid texts _ tables (Some (Object o)) valid = by _
   where
     by : (b : Bool) → AreValid (shown texts (if b then tables else with_object tables o.0 None))
     by true = valid
     by false = search without_valid
+released_valid _ _ _ _ valid = valid
 
 pub swept_valid : (texts : List Text) (bs : Bindings) (old new : Tables) → KeepNamed bs old new → AreNamed bs new → AreValid (shown texts old) → AreValid (shown texts new)
 swept_valid texts _ _ new kept named valid = are_valid _ (λ id. at id (new id) refl)

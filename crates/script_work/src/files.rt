@@ -84,6 +84,7 @@ impl Work {
 }
 
 // The bytes of the file of a name.
+#[tactic(auto, using(crate::proofs::Fetching::absent_file))]
 fn file_named<F: Files>(
     alloc: Global,
     files: &mut F,

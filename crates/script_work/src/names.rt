@@ -35,6 +35,7 @@ impl Names {
     }
 
     // Whether a name stands for the object.
+    #[tactic(auto, using(crate::proofs::UseLaws::named_uses))]
     pub(crate) fn has(&self, id: ObjId) -> bool
         ensures { result ≡ is_named (bindings_of self.now.values.entries) id.0 }
     {
@@ -62,6 +63,7 @@ impl Names {
     }
 
     // The name is taken out. Answers the value that it had. Takes no memory.
+    #[tactic(auto, using(crate::proofs::UseLaws::takes_unbound))]
     pub(crate) fn unbind(&mut self, name: &str) -> Option<Value>
         ensures unbound { bindings_of self.new.values.entries
             ≡ unbound (bindings_of self.old.values.entries) name.now }
@@ -74,6 +76,7 @@ impl Names {
 }
 
 // The value of a name.
+#[tactic(auto, using(crate::proofs::Hints::find))]
 pub(crate) fn find(names: &IndexMap<String, Value>, name: &str) -> Option<Value>
     ensures { result ≡ value_at (bindings_of names.now.entries) name.now }
 {
@@ -81,6 +84,7 @@ pub(crate) fn find(names: &IndexMap<String, Value>, name: &str) -> Option<Value>
 }
 
 // The name gets the value, in its own place or last. Answers the value that it had.
+#[tactic(auto, using(crate::proofs::Bindings::bound_entries, crate::proofs::Bindings::left_entry))]
 fn bind(
     alloc: Global,
     names: &mut IndexMap<String, Value>,

@@ -20,7 +20,7 @@ pub column_seen : (texts : List Text) (cs : List (ColumnOf Cell)) (place : ℕ) 
 column_seen texts cs place = get_or-map (column_value texts) cs place _
 
 pub table_is_settled : (texts : List Text) (tables : Tables) (id : ℕ) → IsSome (tables id) → IsSettled shown texts tables → IsSettled table_value texts (table_or (tables id))
-table_is_settled texts tables id live settled = search (object_settled, live_is)
+table_is_settled _ _ _ live settled = search (object_settled, live_is)
 
 -- what is answered with a new object
 pub new_answers : (texts : List Text) (tables tables' : Tables) (id : ObjId) (t : NumberedTable) (meant : Result Entry FaultValue)
@@ -30,7 +30,7 @@ new_answers = grind arith
 
 -- a table's own headings
 pub own_name : (texts : List Text) (t : NumberedTable) (headings : HeadingList) → headings ≡ record { columns_name = t.columns_name; labels = t.headings } → IsSettled table_value texts t → IsSettled heading_value texts headings.columns_name
-own_name texts t headings is settled = rw is (columns_name_part _ t settled)
+own_name _ t _ is settled = rw is (columns_name_part _ t settled)
 
 pub own_labels : (texts : List Text) (t : NumberedTable) (headings : HeadingList) → headings ≡ record { columns_name = t.columns_name; labels = t.headings } → IsSettled table_value texts t → IsSettled headings_value texts headings.labels
 own_labels = grind arith

@@ -18,7 +18,7 @@ cells_or (Some cells) = cells
 
 pub scalars_settled : (texts : List Text) (live : Tables) (items : List Item) (cells : List Cell) → ((ts : List Text) → Some (cells_value ts cells) ≡ scalars_in (items_of live ts items)) → IsSettled (items_of live) texts items
     → IsSettled cells_value texts cells
-scalars_settled texts live items cells is settled = λ more. ap cells_or (is (texts ++ more) ∙ ap scalars_in (settled more) ∙ sym (is texts))
+scalars_settled texts _ _ _ is settled = λ more. ap cells_or (is (texts ++ more) ∙ ap scalars_in (settled more) ∙ sym (is texts))
 
 -- a scalar that is a settled value
 abbrev cell_in : Entry → CellValue

@@ -21,20 +21,20 @@ row_inside (Under places count) t row below is = subst (λ (l : List ℕ). All (
 -- the name of a single column
 pub single_heading : (s t : NumberedTable) (columns : List ℕ) (place : ℕ) (heading : Option Label) (headings : HeadingList) → s ≡ t → columns ≡ place ∷ [] → heading ≡ slice_index_or s.headings place None
     → headings ≡ record { columns_name = None; labels = heading ∷ [] } → headings ≡ headings_with None t columns
-single_heading s t columns place heading headings at one is made = search headings_with
+single_heading s t _ _ _ _ at one is made = search headings_with
 
 -- the headings that were gathered from the table that was read
 pub gathered : (s t : NumberedTable) (columns : List ℕ) (labels items : List (Option Label)) → s ≡ t → labels ≡ items → items ≡ headings_at s columns → labels ≡ headings_at t columns
-gathered s t columns labels items at same is = cc
+gathered s t _ _ _ at same is = cc
 
 pub gathered_with : (s t : NumberedTable) (columns : List ℕ) (name : Option Label) (labels : List (Option Label)) (headings : HeadingList) → s ≡ t → name ≡ s.columns_name → labels ≡ headings_at t columns
     → headings ≡ record { columns_name = name; labels = labels } → headings ≡ headings_with t.columns_name t columns
-gathered_with s t columns name labels headings at named is made = search
+gathered_with s t _ _ _ _ at named is made = search
 
 -- what is picked by a plan, by its form
 pub plan_meant : (texts : List Text) (live : Tables) (on : ObjId) (source : NumberedTable) (plan : Plan) (form : Form) (rows columns : List ℕ) → live on.0 ≡ Some source → plan.form ≡ form → rows_in plan.rows ≡ rows → levels_lost plan.rows ≡ 0
     → plan.columns ≡ columns → shown_as (has_single_row form) (has_single_column form) (cut (table_value texts source) rows columns) ≡ picked_result (object_value live texts on) (reach_of_plan plan)
-plan_meant texts live on source plan form rows columns live_is form_is rows_are whole columns_are =
+plan_meant texts _ _ _ _ form _ _ live_is form_is rows_are whole columns_are =
     ap (shown_as (has_single_row form) (has_single_column form)) (sym (without_none _))
     ∙ (λ j. shown_as (has_single_row (sym form_is j)) (has_single_column (sym form_is j)) (without_leading (sym whole j) (cut (table_value texts (read_is _ _ live_is j)) (sym rows_are j) (sym columns_are j))))
 
@@ -48,10 +48,8 @@ cell_seen texts t row place c is = cc (column_seen texts t.columns place, get_or
 pub cell_made : (texts : List Text) (store : Store) (on : ObjId) (source : NumberedTable) (plan : Plan) (row place : ℕ) (c : Cell) → tables store on.0 ≡ Some source → IsSettledWorld (world store texts) → plan.form ≡ answer.Cell
     → rows_in plan.rows ≡ row ∷ [] → levels_lost plan.rows ≡ 0 → plan.columns ≡ place ∷ [] → c ≡ slice_index_or (column_at source.columns place).cells row Na
     → Forms (Ok (Scalar c)) (picked_result (object_value (tables store) texts on) (reach_of_plan plan)) (world store texts) (world store texts)
-cell_made texts store on source plan row place c live_is settled form rows whole columns is =
-    let meant = sym (plan_meant _ (tables store) on _ plan _ _ _ live_is form rows whole columns) ∙ ap (λ v. Ok (value.cell v)) (cell_seen _ source row _ c is) in
-    let given = settled_by table_value datum (taken_cell row place) _ _ c (λ ts. cell_seen ts source row _ c is) (object_settled _ _ _ _ live_is settled) in
-    ((meant, (refl, given)), longer_self _, settled)
+cell_made _ store on source plan row place c live_is settled form rows whole columns is =
+    (((sym (plan_meant _ (tables store) on _ plan _ _ _ live_is form rows whole columns) ∙ ap (λ v. Ok (value.cell v)) (cell_seen _ source row _ c is)), (refl, (settled_by table_value datum (taken_cell row place) _ _ c (λ ts. cell_seen ts source row _ c is) (object_settled _ _ _ _ live_is settled)))), longer_self _, settled)
 
 -- what is selected from an object
 module _ (texts : List Text) (store : Store) (on : Value) (id : ObjId) (source : NumberedTable) (way : Way) (first : GivenSub) (second : Option GivenSub) (is : on ≡ Object id) (live_is : tables store id.0 ≡ Some source) where
@@ -64,6 +62,6 @@ module _ (texts : List Text) (store : Store) (on : Value) (id : ObjId) (source :
 
   pub select_made : (plan : Plan) (result : Result Value OpFault) (new : World) → PlansBy texts source (Ok plan) (way_reach way (table_value texts source) first second)
       → Forms result (picked_result (object_value (tables store) texts id) (reach_of_plan plan)) (world store texts) new → Forms result (select_result (entry_in (world store texts) on) way first second) (world store texts) new
-  select_made plan result new planned made =
+  select_made _ result new planned made =
       subst (λ (m : Result Entry FaultValue). Forms result m (world store texts) new)
       (cc (read_is (tables store id.0) source live_is, selected)) made

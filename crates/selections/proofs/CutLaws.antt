@@ -12,15 +12,15 @@ use Rattle.{
 
 -- the headings of columns
 headings_seen : (texts : List Text) (t : NumberedTable) (places : List ℕ) → headings_value texts (headings_at t places) ≡ map (heading_at (table_value texts t)) places
-headings_seen texts t [] = refl
+headings_seen _ t [] = refl
 headings_seen texts t (p ∷ ps) = search (heading_seen, headings_seen texts t ps)
 
 headings_settled : (texts : List Text) (t : NumberedTable) (places : List ℕ) → IsSettled headings_value texts t.headings → IsSettled headings_value texts (headings_at t places)
-headings_settled texts t [] settled = λ more. refl
-headings_settled texts t (p ∷ ps) settled = λ more j. heading_settled _ _ p _ refl settled more j ∷ headings_settled texts t ps settled more j
+headings_settled _ t [] _ = λ more. refl
+headings_settled _ t (p ∷ ps) settled = λ more j. heading_settled _ _ p _ refl settled more j ∷ headings_settled _ t ps settled more j
 
 all_labelled : (t : NumberedTable) (places : List ℕ) → All IsSome t.headings → All (λ p. p < length t.headings) places → All IsSome (headings_at t places)
-all_labelled t [] some below = All-nil IsSome
+all_labelled t [] _ _ = All-nil IsSome
 all_labelled t (p ∷ ps) some below =
     All-cons IsSome (heading_of t p) (headings_at t ps) (some p None (below 0 p (omega arith))) (all_labelled t ps some (λ k d lt. below (suc k) d (omega arith)))
 
@@ -34,10 +34,10 @@ module _ (texts : List Text) (rows columns : List ℕ) (t : NumberedTable) where
   cut_seen = grind (arith, labels_seen, headings_seen, columns_seen)
 
   pub series_seen : (headings : HeadingList) → headings ≡ headings_with None t columns → table_value texts (chosen Series headings rows columns t) ≡ as_series (cut (table_value texts t) rows columns)
-  series_seen headings is = cc (cut_seen Series None)
+  series_seen _ is = cc (cut_seen Series None)
 
   pub frame_seen : (headings : HeadingList) → headings ≡ headings_with t.columns_name t columns → t.shape ≡ Frame → table_value texts (chosen Frame headings rows columns t) ≡ cut (table_value texts t) rows columns
-  frame_seen headings is frame =
+  frame_seen _ is frame =
       ap (λ (h : HeadingList). table_value texts (chosen Frame h rows columns t)) is
       ∙ cut_seen _ _
       ∙ ap (λ (s : Shape). record (cut (table_value texts t) rows columns) { shape = s }) (sym frame)
@@ -58,12 +58,12 @@ rows_all {C} d n c is =
     (cc (list_is cell c.cells 0 d (λ k lt. let e : 0 + k ≡ k = omega arith in ap cell e)))
 
 each_all : (n : ℕ) (cs : List (ColumnOf CellValue)) → All (λ c. length c.cells ≡ n) cs → map (column_rows (range_with_len 0 n)) cs ≡ cs
-each_all n [] filled = refl
+each_all n [] _ = refl
 each_all n (c ∷ cs) filled = λ j. rows_all na_cell n c (filled 0 c (omega arith)) j ∷ each_all n cs (λ k d lt. filled (suc k) d (omega arith)) j
 
 columns_filled : (texts : List Text) (t : NumberedTable) (columns : List ℕ) → IsWhole t → All (λ place. place < length t.columns) columns
     → All (λ c. length c.cells ≡ length t.labels) (map (column_at (table_value texts t).columns) columns)
-columns_filled texts t [] whole below = grind arith
+columns_filled _ t [] whole below = grind arith
 columns_filled texts t (p ∷ ps) whole below =
     All-cons (λ (c : ColumnOf CellValue). length c.cells ≡ length t.labels) (column_at (table_value texts t).columns p) (map (column_at (table_value texts t).columns) ps)
     (grind (arith, column_seen texts t.columns p, length-map (column_at t.columns p).cells (datum texts), whole.filled p no_column (below 0 p (omega arith))))
@@ -71,7 +71,7 @@ columns_filled texts t (p ∷ ps) whole below =
 
 pub all_rows_cut : (texts : List Text) (t : NumberedTable) (rows columns : List ℕ) → IsWhole t → All (λ place. place < length t.columns) columns → rows ≡ range_with_len 0 (length t.labels)
     → cut (table_value texts t) rows columns ≡ columns_frame (table_value texts t) columns
-all_rows_cut texts t rows columns whole below all =
+all_rows_cut texts t _ columns whole below all =
     let T = table_value texts t in
     let count : length t.labels ≡ length T.labels = search length-map in
     let label : ℕ → List LabelValue = λ row. slice_index_or T.labels row [] in
@@ -82,12 +82,12 @@ all_rows_cut texts t rows columns whole below all =
 -- all rows and columns under other headings
 pub whole_chosen : (shape : Shape) (headings : HeadingList) (rows columns : List ℕ) (t : NumberedTable) → IsWhole t → rows ≡ range_with_len 0 (length t.labels) → columns ≡ range_with_len 0 (length t.columns)
     → chosen shape headings rows columns t ≡ headed_by shape headings t
-whole_chosen shape headings rows columns t whole all each =
+whole_chosen _ _ _ _ t whole all each =
     let label : ℕ → List Label = λ row. slice_index_or t.labels row [] in
     let labels : map label (range_with_len 0 (length t.labels)) ≡ t.labels = list_is _ _ 0 [] (λ k lt. let e : 0 + k ≡ k = omega arith in ap label e) in
     let column : ℕ → ColumnOf Cell = λ place. cells_at (range_with_len 0 (length t.labels)) (column_at t.columns place) in
     let columns_are : map column (range_with_len 0 (length t.columns)) ≡ t.columns =
-    list_is _ _ 0 _ (λ k lt. let e : 0 + k ≡ k = omega arith in ap column e ∙ rows_all Na _ _ (whole.filled k no_column lt)) in
+    list_is _ _ 0 _ (λ k lt. let e : 0 + k ≡ k = omega arith in ap column e ∙ rows_all Na _ _ (whole.filled k _ lt)) in
     grind arith
 
 -- a table's own headings
@@ -107,7 +107,7 @@ pub series_given : (texts : List Text) (t : NumberedTable) (columns : List ℕ) 
 series_given = grind (arith, headings_settled)
 
 pub frame_given : (texts : List Text) (t : NumberedTable) (columns : List ℕ) (headings : HeadingList) → headings ≡ headings_with t.columns_name t columns → IsSettled table_value texts t → AreSettledHeadings texts headings
-frame_given texts t columns headings is settled = subst (AreSettledHeadings texts) (sym is) (search (columns_name_part, headings_settled, headings_part))
+frame_given texts t _ _ is settled = subst (AreSettledHeadings texts) (sym is) (search (columns_name_part, headings_settled, headings_part))
 
 pub own_given : (texts : List Text) (t : NumberedTable) (headings : HeadingList) → headings ≡ own_headings t → IsSettled table_value texts t → AreSettledHeadings texts headings
 own_given = search (own_name, own_labels)
@@ -118,16 +118,16 @@ unless_again t o = unless_repeated o (limited t)
 
 finished_is : (texts : List Text) (t : NumberedTable) (lost : ℕ) (rows columns : List ℕ) (found : Option Label) → AreDistinct texts → IsSettled headings_value texts t.headings → repeated_heading (headings_at t columns) ≡ found
     → finished (without_leading lost (cut (table_value texts t) rows columns)) ≡ unless_again (without_leading lost (cut (table_value texts t) rows columns)) (heading_value texts found)
-finished_is texts t lost rows columns found distinct settled is = cc (headings_seen texts t columns, repeated_seen texts (headings_at t columns) distinct (headings_settled texts t columns settled))
+finished_is texts t _ _ columns _ distinct settled is = cc (headings_seen texts t columns, repeated_seen texts (headings_at t columns) distinct (headings_settled texts t columns settled))
 
 pub frame_meant : (texts : List Text) (t : NumberedTable) (taken : Taken) (columns : List ℕ) (headings : HeadingList) → AreDistinct texts → IsSettled headings_value texts t.headings → t.shape ≡ Frame → headings ≡ headings_with t.columns_name t columns
     → repeated_heading (headings_at t columns) ≡ None
     → limited (table_value texts (taken_table Frame headings taken columns t)) ≡ finished (without_leading (levels_lost taken) (cut (table_value texts t) (rows_in taken) columns))
-frame_meant texts t taken columns headings distinct settled frame is none = grind (arith, taken_seen, frame_seen, finished_is texts t (levels_lost taken) (rows_in taken) columns None distinct settled none)
+frame_meant texts t taken columns _ distinct settled frame is none = grind (arith, taken_seen, frame_seen, finished_is texts t (levels_lost taken) (rows_in taken) columns None distinct settled none)
 
 pub frame_refused : (texts : List Text) (store : Store) (t : NumberedTable) (lost : ℕ) (rows columns : List ℕ) (why : OpFault) → AreDistinct texts → IsSettled headings_value texts t.headings → NamesRepeated why (repeated_heading (headings_at t columns))
     → IsSettledWorld (world store texts) → Forms (Err why) (finished (without_leading lost (cut (table_value texts t) rows columns))) (world store texts) (world store texts)
-frame_refused texts store t lost rows columns (Refused code) distinct settled named left =
+frame_refused texts _ t lost rows _ (Refused code) distinct settled named left =
     let meant = finished_is _ t lost rows _ _ distinct settled named.1 ∙ ap (λ c. Err (fault_of texts c)) (sym named.2) in
     search (repeated_settled, headings_settled, longer_self)
-frame_refused texts store t lost rows columns NoMemory distinct settled named left = search longer_self
+frame_refused _ _ t _ _ _ NoMemory distinct settled named left = search longer_self

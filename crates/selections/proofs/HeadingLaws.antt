@@ -38,26 +38,26 @@ rest_settled = grind arith
 
 -- a heading that stands again
 pub same_seen : (texts : List Text) (a b : Option Label) → AreDistinct texts → IsSettled heading_value texts a → IsSettled heading_value texts b → same_heading a b ≡ finish.same_heading (heading_value texts a) (heading_value texts b)
-same_seen texts None None distinct f g = refl
-same_seen texts None (Some b) distinct f g = refl
-same_seen texts (Some a) None distinct f g = refl
-same_seen texts (Some a) (Some b) distinct f g = search (same_by_number, heading_label, label_decides)
+same_seen _ None None _ f g = refl
+same_seen _ None (Some b) _ f g = refl
+same_seen _ (Some a) None _ f g = refl
+same_seen _ (Some a) (Some b) distinct f g = search (same_by_number, heading_label, label_decides)
 
 any_seen : (texts : List Text) (h : Option Label) (hs : List (Option Label)) → AreDistinct texts → IsSettled heading_value texts h → IsSettled headings_value texts hs
     → list_any (same_heading h) hs ≡ list_any (finish.same_heading (heading_value texts h)) (headings_value texts hs)
-any_seen texts h [] distinct here settled = refl
-any_seen texts h (g ∷ gs) distinct here settled =
+any_seen _ h [] _ _ _ = refl
+any_seen _ h (g ∷ gs) distinct here settled =
     λ j. same_seen _ h g distinct here (search head_settled) j || any_seen _ h gs distinct here (grind arith) j
 
 pub repeated_seen : (texts : List Text) (hs : List (Option Label)) → AreDistinct texts → IsSettled headings_value texts hs → heading_value texts (repeated_heading hs) ≡ first_repeated (headings_value texts hs)
-repeated_seen texts [] distinct settled = refl
+repeated_seen _ [] _ _ = refl
 repeated_seen texts (h ∷ hs) distinct settled =
     go (repeated_seen _ hs distinct (grind arith)) _
     ∙ ap (λ b. if b then heading_value texts h else first_repeated (headings_value texts hs)) (any_seen _ h hs distinct (search head_settled) (grind arith))
   where
     go : heading_value texts (repeated_heading hs) ≡ first_repeated (headings_value texts hs) → (b : Bool)
         → heading_value texts (if b then h else repeated_heading hs) ≡ (if b then heading_value texts h else first_repeated (headings_value texts hs))
-    go later true = refl
+    go _ true = refl
     go later false = later
 
 -- headings of which none stands again are different
@@ -122,11 +122,11 @@ repeated_from = grind (arith, drop_at)
 -- a heading that stands again, and one that doesn't
 pub repeated_here : (hs keys : List (Option Label)) (p : ℕ) (d found : Option Label) → p < length hs → ((q : Option Label) → list_any (same_heading q) keys ≡ list_any (same_heading q) (drop (p + 1) hs))
     → found ≡ repeated_heading (drop (p + 1) hs) → false ≡ not (list_any (same_heading (slice_index_or hs p d)) keys) → slice_index_or hs p d ≡ repeated_heading (drop p hs)
-repeated_here hs keys p d found lt so_far was new = repeated_from hs _ p d _ true lt so_far was (search not_not)
+repeated_here hs _ p d _ lt so_far was new = repeated_from hs _ p d _ true lt so_far was (search not_not)
 
 pub repeated_later : (hs keys : List (Option Label)) (p : ℕ) (d found : Option Label) → p < length hs → ((q : Option Label) → list_any (same_heading q) keys ≡ list_any (same_heading q) (drop (p + 1) hs))
     → found ≡ repeated_heading (drop (p + 1) hs) → true ≡ not (list_any (same_heading (slice_index_or hs p d)) keys) → found ≡ repeated_heading (drop p hs)
-repeated_later hs keys p d found lt so_far was new = repeated_from hs _ p d _ false lt so_far was (search not_true)
+repeated_later hs _ p d _ lt so_far was new = repeated_from hs _ p d _ false lt so_far was (search not_true)
 
 -- the first place of each heading, with one heading more before the others
 same_swapped : (a b : Option Label) → same_heading a b ≡ same_heading b a
@@ -138,5 +138,5 @@ first_places_more = grind (arith, drop_at)
 
 -- a place at which a test passes is one of the list's
 pub position_inside : (test : Option Label → Bool) (from : ℕ) (hs : List (Option Label)) (k : ℕ) → position_from test from hs ≡ Some k → k < from + length hs
-position_inside test from [] k found = cc
+position_inside _ _ [] k found = cc
 position_inside test from (h ∷ hs) k found = grind (arith, position_inside test (from + 1) hs k)

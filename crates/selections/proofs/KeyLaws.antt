@@ -22,8 +22,7 @@ labels_after texts made rest = option_map (λ cs. tuple_value texts made ++ map 
 
 pub label_refused : (live : Tables) (texts : List Text) (items : List Item) (k : ℕ) (item : Item) (made : List Label) (whole : Option (List LabelValue)) → k < length items → item ≡ get_or items k item
     → None ≡ scalar_in (item_of live texts item) → labels_after texts made (scalars_in (items_of live texts (drop k items))) ≡ whole → None ≡ whole
-label_refused live texts items k item made whole lt is none before =
-    let rest = scalars_in (items_of live texts (drop (suc k) items)) in
+label_refused live texts items k item _ _ lt is none before =
     cc (scalars_from live texts items k item lt is)
 
 pub labels_done : (live : Tables) (texts : List Text) (items : List Item) (k : ℕ) (made : List Label) (whole : Option (List LabelValue)) → k ≡ length items
@@ -36,7 +35,7 @@ or_wrong None = Err wrong_kind
 or_wrong (Some labels) = Ok labels
 
 pub count_items : (live : Tables) (texts : List Text) (items : List Item) → count_of (items_of live texts items) ≡ length items
-count_items live texts [] = refl
+count_items _ _ [] = refl
 count_items live texts (x ∷ items) = grind (arith, count_items live texts items)
 
 -- a tuple of labels for at most so many levels
@@ -52,7 +51,7 @@ from_cell = grind (arith, drop-cons, length-map, cell_seen)
 pub whole_more : (texts : List Text) (cells : List Cell) (k : ℕ) (c : Cell) (z : ℤ) (numbers numbers' : List ℤ) (whole : Result (List ℤ) FaultValue)
     → k < length cells → slice_get cells k ≡ Some c → whole_cell (datum texts c) ≡ Ok z → numbers' ≡ numbers ++ z ∷ []
     → made_after whole_cell numbers (drop k (cells_value texts cells)) ≡ whole → made_after whole_cell numbers' (drop (k + 1) (cells_value texts cells)) ≡ whole
-whole_more texts cells k c z numbers numbers' whole lt at is pushed before =
+whole_more texts cells k c z numbers _ _ lt at is pushed before =
     let next : k + 1 ≡ suc k = omega arith in
     (λ j. made_after whole_cell (pushed j) (drop (next j) (cells_value texts cells)))
     ∙ sym (search one_more)

@@ -16,3 +16,4 @@ pub mod SeriesLaws
 pub mod TakenLaws
 pub mod CutLaws
 pub mod CarryLaws
+pub mod Hints

@@ -24,18 +24,18 @@ range_suc a zero = grind arith
 range_suc a (suc n) = grind (arith, range_suc (a + 1) n)
 
 pub one_more_place : (places places' : List ℕ) (place : ℕ) → places ≡ range_with_len 0 place → places' ≡ places ++ place ∷ [] → places' ≡ range_with_len 0 (place + 1)
-one_more_place places places' place before pushed =
+one_more_place _ _ place before pushed =
     pushed ∙ (λ j. before j ++ (let e : place ≡ 0 + place = omega arith in e) j ∷ []) ∙ sym (range_suc 0 _) ∙ ap (range_with_len 0) (let e : suc place ≡ place + 1 = omega arith in e)
 
 pub places_inside : (places : List ℕ) (count limit : ℕ) → places ≡ range_with_len 0 count → count ≡ limit → All (λ place. place < limit) places
 places_inside = grind (arith, get_or-range_with_len, length-range_with_len)
 
 pub places_count : (places : List ℕ) (count : ℕ) → places ≡ range_with_len 0 count → length places ≡ count
-places_count places count is = cc (length-range_with_len 0 count)
+places_count _ count is = cc (length-range_with_len 0 count)
 
 -- the table of an object that is read
 pub read_is : (object : Option NumberedTable) (source : NumberedTable) → object ≡ Some source → source ≡ table_or object
-read_is object source is = cc
+read_is _ _ is = cc
 
 pub all_columns : (object : Option NumberedTable) (source : NumberedTable) (count : ℕ) → object ≡ Some source → count ≡ length source.columns → count ≡ length (table_or object).columns
-all_columns object source count is same = search
+all_columns _ _ _ is same = search

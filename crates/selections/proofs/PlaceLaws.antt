@@ -16,9 +16,9 @@ pub heading_seen : (texts : List Text) (headings : List (Option Label)) (place :
 heading_seen texts headings place = get_or-map (heading_value texts) headings place None
 
 pub heading_settled : (texts : List Text) (headings : List (Option Label)) (place : ℕ) (heading : Option Label) → heading ≡ slice_index_or headings place None → IsSettled headings_value texts headings → IsSettled heading_value texts heading
-heading_settled texts headings place heading is settled =
+heading_settled texts _ place _ is settled =
     subst (IsSettled heading_value texts) (sym is)
-    (λ more. sym (search heading_seen) ∙ ap (λ l. slice_index_or l place None) (settled more) ∙ heading_seen texts _ place)
+    (λ more. sym (search heading_seen) ∙ ap (λ l. slice_index_or l place None) (settled more) ∙ heading_seen _ _ place)
 
 -- a place after so many others
 abbrev pub moved : ℕ → Option ℕ → Option ℕ
@@ -46,7 +46,7 @@ seen_as = grind (arith, heading_seen)
 -- the first column with the label is met, or passed
 pub place_met : (texts : List Text) (headings : List (Option Label)) (label : Label) (place : ℕ) (heading : Option Label) (b : Bool) (whole : Option ℕ) → place < length headings → heading ≡ slice_index_or headings place None
     → b ≡ same_heading (heading_value texts (Some label)) (heading_value texts heading) → b ≡ true → moved place (place_of_label (drop place (headings_value texts headings)) (label_datum texts label)) ≡ whole → Some place ≡ whole
-place_met texts headings label place heading b whole lt is same is_so before =
+place_met _ _ _ place _ b _ lt is same is_so before =
     ap Some (let e : place ≡ place + 0 = omega arith in e)
     ∙ sym (from_place _ _ _ true (there _ _ _ lt) (grind (arith, seen_as)))
     ∙ before
@@ -54,7 +54,7 @@ place_met texts headings label place heading b whole lt is same is_so before =
 pub place_passed : (texts : List Text) (headings : List (Option Label)) (label : Label) (place : ℕ) (heading : Option Label) (b : Bool) (whole : Option ℕ) → place < length headings → heading ≡ slice_index_or headings place None
     → b ≡ same_heading (heading_value texts (Some label)) (heading_value texts heading) → b ≡ false → moved place (place_of_label (drop place (headings_value texts headings)) (label_datum texts label)) ≡ whole
     → moved (place + 1) (place_of_label (drop (place + 1) (headings_value texts headings)) (label_datum texts label)) ≡ whole
-place_passed texts headings label place heading b whole lt is same other before =
+place_passed texts headings label place heading b _ lt is same other before =
     let next : place + 1 ≡ suc place = omega arith in
     let l = label_datum texts label in
     let hs = headings_value texts headings in
@@ -72,7 +72,7 @@ label_settled = grind arith
 
 pub listed_settled : (texts : List Text) (cells : List Cell) (k : ℕ) (cell : Cell) (label : Label) → slice_get cells k ≡ Some cell → ((texts : List Text) → label_datum texts label ≡ cell_label (datum texts cell))
     → IsSettled cells_value texts cells → IsSettled label_datum texts label
-listed_settled texts cells k cell label at seen settled =
+listed_settled _ _ k _ _ at seen settled =
     label_settled _ _ _ seen (λ more. sym (search cell_seen) ∙ ap (λ l. slice_index_or l k na_cell) (settled more) ∙ cell_seen _ _ k _ at)
 
 -- what f makes of each, after what was made so far
@@ -90,10 +90,10 @@ module _ {A B : Type 0} where
   one_more = grind (arith, more_made)
 
   pub one_refused : (f : A → Result B FaultValue) (made : List B) (x : A) (xs : List A) (fault : FaultValue) → f x ≡ Err fault → made_after f made (x ∷ xs) ≡ Err fault
-  one_refused f made x xs fault is = cc
+  one_refused f _ x _ _ is = cc
 
   pub all_made : (f : A → Result B FaultValue) (made : List B) (xs : List A) (k : ℕ) (whole : Result (List B) FaultValue) → k ≡ length xs → made_after f made (drop k xs) ≡ whole → whole ≡ Ok made
-  all_made f made xs k whole end before = cc (drop-length xs, append-nil made)
+  all_made f made xs k _ end before = cc (drop-length xs, append-nil made)
 
 -- the labels that cells are
 abbrev pub labels_seen : List Text → List Cell → List LabelValue
@@ -103,7 +103,7 @@ labels_count : (texts : List Text) (cells : List Cell) → length (labels_seen t
 labels_count = search length-map
 
 label_at : (texts : List Text) (cells : List Cell) (k : ℕ) (cell : Cell) (label : Label) → slice_get cells k ≡ Some cell → label_datum texts label ≡ cell_label (datum texts cell) → slice_index_or (labels_seen texts cells) k na ≡ label_datum texts label
-label_at texts cells k cell label at seen = cc (get_or-map cell_label (cells_value texts cells) k na_cell, cell_seen texts cells k cell at)
+label_at texts cells k cell _ at seen = cc (get_or-map cell_label (cells_value texts cells) k na_cell, cell_seen texts cells k cell at)
 
 from_label : (texts : List Text) (cells : List Cell) (k : ℕ) (cell : Cell) (label : Label) → k < length cells → slice_get cells k ≡ Some cell → label_datum texts label ≡ cell_label (datum texts cell)
     → drop k (labels_seen texts cells) ≡ label_datum texts label ∷ drop (suc k) (labels_seen texts cells)
@@ -113,7 +113,7 @@ from_label texts cells k cell label lt at seen = cc (drop-cons (labels_seen text
 pub places_more : (texts : List Text) (t : Table) (cells : List Cell) (k : ℕ) (cell : Cell) (label : Label) (place : ℕ) (places places' : List ℕ) (whole : Result (List ℕ) FaultValue)
     → k < length cells → slice_get cells k ≡ Some cell → label_datum texts label ≡ cell_label (datum texts cell) → column_place t (label_datum texts label) ≡ Ok place → places' ≡ places ++ place ∷ []
     → made_after (column_place t) places (drop k (labels_seen texts cells)) ≡ whole → made_after (column_place t) places' (drop (k + 1) (labels_seen texts cells)) ≡ whole
-places_more texts t cells k cell label place places places' whole lt at seen found pushed before =
+places_more texts t cells k _ _ _ places _ _ lt at seen found pushed before =
     let next : k + 1 ≡ suc k = omega arith in
     (λ j. made_after (column_place t) (pushed j) (drop (next j) (labels_seen texts cells)))
     ∙ sym (search one_more)
@@ -129,7 +129,7 @@ place_refused = grind (arith, from_label)
 -- one more heading
 pub headings_more : (t : NumberedTable) (places : List ℕ) (k place : ℕ) (heading : Option Label) (before after : List (Option Label)) → k < length places → slice_get places k ≡ Some place → heading ≡ slice_index_or t.headings place None
     → before ≡ headings_at t (take k places) → after ≡ before ++ heading ∷ [] → after ≡ headings_at t (take (k + 1) places)
-headings_more t places k place heading before after lt at is was pushed =
+headings_more t places k _ heading _ _ lt at is was pushed =
     let here : heading ≡ heading_of t (slice_index_or places k 0) = grind (arith, get_or_from_slice_get) in
     pushed
     ∙ (λ j. was j ++ here j ∷ [])
@@ -138,7 +138,7 @@ headings_more t places k place heading before after lt at is was pushed =
 -- the column that is met has the label itself
 pub met_is : (texts : List Text) (label : Label) (heading : Option Label) (b : Bool) → AreDistinct texts → IsSettled label_datum texts label → IsSettled heading_value texts heading
     → b ≡ same_heading (heading_value texts (Some label)) (heading_value texts heading) → b ≡ true → heading ≡ Some label
-met_is texts label None b distinct settled there same is_so = search
+met_is _ _ None b distinct settled there same is_so = search
 met_is texts label (Some x) b distinct settled there same is_so =
     let one : label ≡ x =
     label_one texts label x distinct (label_given _ _ settled) (search (label_given, heading_label)) (grind (arith, value_decides)) in
@@ -152,10 +152,9 @@ none_later : (b : Bool) (o : Option ℕ) → some_place b o ≡ None → (b ≡ 
 none_later = grind arith
 
 pub absent_is : (texts : List Text) (headings : List (Option Label)) (label : Label) → place_of_label (headings_value texts headings) (label_datum texts label) ≡ None → All (λ heading. heading ≢ Some label) headings
-absent_is texts [] label none = grind arith
+absent_is _ [] _ none = grind arith
 absent_is texts (h ∷ hs) label none =
-    let both = none_later _ _ none in
-    grind (arith, value_decides, absent_is texts hs label both.1)
+    grind (arith, value_decides, absent_is texts hs label (none_later _ _ none).1)
 
 -- the first place of a label by numbers is the one that is meant
 abbrev place_or : Bool → ℕ → Option ℕ → Option ℕ
@@ -163,7 +162,7 @@ place_or b n o = moved n (if b then Some 0 else option_map suc o)
 
 position_seen : (texts : List Text) (n : ℕ) (hs : List (Option Label)) (label : Label) → AreDistinct texts → IsSettled headings_value texts hs → IsSettled label_datum texts label
     → position_from (numbered.same_heading (Some label)) n hs ≡ moved n (place_of_label (headings_value texts hs) (label_datum texts label))
-position_seen texts n [] label distinct settled here = refl
+position_seen _ n [] _ _ _ _ = refl
 position_seen texts n (h ∷ hs) label distinct settled here =
     go (position_seen _ (n + 1) hs _ distinct (grind arith) here) _
     ∙ ap (λ b. place_or b n (place_of_label (headings_value texts hs) (label_datum texts label))) (same_seen _ (Some label) h distinct (λ more. ap Some (here more)) (search head_settled))
@@ -176,7 +175,7 @@ position_seen texts n (h ∷ hs) label distinct settled here =
 -- what the entries have for a label
 pub looked_up : (texts : List Text) (es : List (Option Label × ℕ)) (t : NumberedTable) (label : Label) (place : Option ℕ) → AreDistinct texts → IsSettled headings_value texts t.headings → IsSettled label_datum texts label
     → HaveFirstPlaces es 0 t.headings → place ≡ lookup (numbered.same_heading (Some label)) es → column_place (table_value texts t) (label_datum texts label) ≡ found (label_datum texts label) place
-looked_up texts es t label place distinct settled here first is =
+looked_up texts _ t label place distinct settled here first is =
     let there : place ≡ place_of_label (headings_value texts t.headings) (label_datum texts label) =
     is ∙ first (Some label) ∙ position_seen _ 0 _ _ distinct settled here ∙ moved_none _ in
     cc

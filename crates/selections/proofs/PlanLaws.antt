@@ -24,7 +24,7 @@ pub taken_span : (t : NumberedTable) (picked : Picked) (span : Rows) → picked.
 taken_span = grind arith
 
 pub taken_under : (t : NumberedTable) (picked : Picked) → PicksBelow (length t.labels) picked → picked.dropped < length t.level_names → TakesPicked t picked (Under picked.places picked.dropped)
-taken_under t picked picks left = search
+taken_under t _ picks left = search
 
 pub taken_list : (t : NumberedTable) (picked : Picked) → picked.dropped ≤ 0 → PicksBelow (length t.labels) picked → TakesPicked t picked (Listed picked.places)
 taken_list = grind arith
@@ -34,7 +34,7 @@ pub whole_axis : (axis : AxisValue) (rows : Rows) → rows.start ≡ 0 → rows.
 whole_axis axis rows start step count =
     let listed : rows_of rows ≡ range_with_len 0 (length axis.tuples) = grind (arith, all_listed) in
     ap (taken_axis axis) listed
-    ∙ ap (λ (l : List (List Label)). record axis { tuples = l }) (list_is (λ place. slice_index_or axis.tuples place []) _ 0 [] (λ k lt. let e : 0 + k ≡ k = omega arith in ap (λ (p : ℕ). slice_index_or axis.tuples p []) e))
+    ∙ ap (λ (l : List (List Label)). record axis { tuples = l }) (list_is _ _ 0 [] (λ k lt. let e : 0 + k ≡ k = omega arith in ap (λ (p : ℕ). slice_index_or axis.tuples p []) e))
 
 -- the only row of a slice, and of a list
 first_place : (start : ℕ) (step : ℤ) → place_from start step 0 ≡ start
@@ -44,9 +44,9 @@ pub only_row : (rows : Rows) → length (rows_of rows) ≡ 1 → rows_of rows �
 only_row = grind (arith, length-map, length-range_with_len)
 
 pub only_place : (places : List ℕ) (place : ℕ) → length places ≡ 1 → slice_get places 0 ≡ Some place → places ≡ place ∷ []
-only_place [] place one at = cc
-only_place (p ∷ []) place one at = search
-only_place (p ∷ (q ∷ ps)) place one at = cc
+only_place [] _ one at = cc
+only_place (p ∷ []) _ one at = search
+only_place (p ∷ (q ∷ ps)) _ one at = cc
 
 pub first_of : (places : List ℕ) → length places ≡ 1 → 0 < length places
 first_of = omega arith
@@ -61,4 +61,4 @@ module _ (reach : CodeReach) (taken : Taken) (form : Form) (row : has_single_row
 pub reached_plan : (texts : List Text) (t : NumberedTable) (meant_reach : Result Reach FaultValue) (reach : CodeReach) (plan : Plan) → meant_reach ≡ Ok (reach_value texts reach)
     → picked_result (table_value texts t) (reach_of_plan plan) ≡ picked_result (table_value texts t) (reach_value texts reach)
     → then_value meant_reach (picked_result (table_value texts t)) ≡ picked_result (table_value texts t) (reach_of_plan plan)
-reached_plan texts t meant_reach reach plan is same = cc
+reached_plan _ t _ _ _ is same = cc

@@ -35,7 +35,7 @@ key_settled = grind arith
 
 pub whole_settled : (texts : List Text) (levels : ℕ) (sub : List Text → GivenSub) (label : List Label) → ((ts : List Text) → meant.whole_key levels (sub ts) ≡ Ok (tuple_value ts label)) → ((more : List Text) → sub (texts ++ more) ≡ sub texts)
     → IsGivenTuple texts label
-whole_settled texts levels sub label is settled = λ more. ap (ok_or (tuple_value texts label)) (sym (is (texts ++ more)) ∙ ap (meant.whole_key levels) (settled more) ∙ is texts)
+whole_settled texts levels _ label is settled = λ more. ap (ok_or (tuple_value texts label)) (sym (is (texts ++ more)) ∙ ap (meant.whole_key levels) (settled more) ∙ is texts)
 
 -- two keys that are settled are one that is
 pub joined_settled : (texts : List Text) (by : Accessor) (levels : ℕ) (first second key : List Text → GivenSub) → ((ts : List Text) → meant.joined_key by levels (first ts) (second ts) ≡ Ok (key ts)) → ((more : List Text) → first (texts ++ more) ≡ first texts)
@@ -61,7 +61,7 @@ module _ (texts : List Text) (t : NumberedTable) (axis : AxisValue) (levels : �
   once_of picked b = if b then Ok (pick_of picked) else Err (bad_value (repeated (tuple_value texts label)))
 
   pub at_found : (picked : Picked) → picked.single ≡ true → (IsSettled label_key_value texts (key.One copy) → found_at copy axis ≡ Ok (pick_of picked)) → meant.at_rows (table_value texts t) (sub texts) ≡ Ok (pick_of picked)
-  at_found picked single found = cc (at_is, found given_copy)
+  at_found _ single found = cc (at_is, found given_copy)
 
   pub at_repeated : (picked : Picked) → picked.single ≡ false → (IsSettled label_key_value texts (key.One copy) → found_at copy axis ≡ Ok (pick_of picked))
       → (meant.at_rows (table_value texts t) (sub texts) ≡ Err (bad_value (repeated (tuple_value texts label)))) × ((more : List Text) → bad_value (repeated (tuple_value (texts ++ more) label)) ≡ bad_value (repeated (tuple_value texts label)))
@@ -120,7 +120,7 @@ module _ (texts : List Text) (t m : NumberedTable) (axis mask_axis : AxisValue) 
 
   seen : MakesBy (λ (ts : List Text). as_it_is) texts (found_result r) (mask_rows texts t m marks)
   seen =
-      let all = tuples_given texts t.labels given in
+      let all = tuples_given _ _ given in
       found_seen _ _ r _ _ by_number
       (search (masked_rows-map, tuples_same, tuples_given))
       (search mask_in)
@@ -139,7 +139,7 @@ one_label : (h : Option Label) → IsSome h → length (heading_tuple h) ≡ 1
 one_label = grind arith
 
 pub axis_levels : (headings : List (Option Label)) (places : List ℕ) → All IsSome headings → All (λ place. place < length headings) places → HaveLevels 1 (map (λ place. heading_tuple (slice_index_or headings place None)) places)
-axis_levels headings [] some below = grind arith
+axis_levels _ [] some below = grind arith
 axis_levels headings (p ∷ ps) some below =
     All-cons (λ (tuple : List Label). length tuple ≡ 1) (heading_tuple (slice_index_or headings p None)) (map (λ place. heading_tuple (slice_index_or headings place None)) ps)
     (one_label _ (some p None (below 0 p (omega arith)))) (axis_levels _ ps some (λ k d lt. below (suc k) d (omega arith)))
@@ -147,7 +147,7 @@ axis_levels headings (p ∷ ps) some below =
 pub heading_more : (headings : List (Option Label)) (places : List ℕ) (k place : ℕ) (made made' : List (List Label)) (label : Label) (tuple : List Label) → k < length places → slice_get places k ≡ Some place
     → slice_index_or headings place None ≡ Some label → tuple ≡ label ∷ [] → made ≡ map (λ place. heading_tuple (slice_index_or headings place None)) (take k places) → made' ≡ made ++ tuple ∷ []
     → made' ≡ map (λ place. heading_tuple (slice_index_or headings place None)) (take (k + 1) places)
-heading_more headings places k place made made' label tuple lt at here is before pushed =
+heading_more headings places k place _ _ _ _ lt at here is before pushed =
     let tuple_at : ℕ → List Label = λ place. heading_tuple (slice_index_or headings place None) in
     pushed
     ∙ (λ j. before j ++ (is ∙ ap heading_tuple (sym here)) j ∷ [])
@@ -164,7 +164,7 @@ tuple_seen = grind arith
 
 axis_seen : (texts : List Text) (headings : List (Option Label)) (places : List ℕ)
     → tuples_value texts (map (λ place. heading_tuple (slice_index_or headings place None)) places) ≡ map (λ place. label_tuple (slice_index_or (headings_value texts headings) place None)) places
-axis_seen texts headings [] = refl
+axis_seen _ _ [] = refl
 axis_seen texts headings (p ∷ ps) =
     λ j. (tuple_seen _ _ ∙ ap label_tuple (sym (get_or-map (heading_value texts) headings p None))) j ∷ axis_seen texts headings ps j
 
@@ -172,22 +172,22 @@ pub axis_given : (texts : List Text) (headings : List (Option Label)) (places : 
 axis_given = grind (arith, axis_seen)
 
 labels_are : (texts : List Text) (headings : List (Option Label)) → All IsSome headings → map label_tuple (headings_value texts headings) ≡ map (λ h. unwrap_or h (int (pos 0)) ∷ []) (headings_value texts headings)
-labels_are texts [] some = refl
+labels_are _ [] _ = refl
 labels_are texts (h ∷ hs) some = λ j. here h (some 0 h (omega arith)) j ∷ labels_are texts hs (λ k d lt. some (suc k) d (omega arith)) j
   where
     here : (h : Option Label) → IsSome h → label_tuple (heading_value texts h) ≡ unwrap_or (heading_value texts h) (int (pos 0)) ∷ []
     here None some = cc
-    here (Some l) some = refl
+    here (Some l) _ = refl
 
 pub all_labels : (texts : List Text) (t : NumberedTable) (places : List ℕ) → All IsSome t.headings → places ≡ range_with_len 0 (length t.headings)
     → tuples_value texts (map (λ place. heading_tuple (slice_index_or t.headings place None)) places) ≡ column_labels (table_value texts t)
-all_labels texts t places some all =
+all_labels texts t _ some all =
     let seen = headings_value texts t.headings in
     let count : length t.headings ≡ length seen = search length-map in
     axis_seen _ _ _
     ∙ ap (map (λ place. label_tuple (slice_index_or seen place None))) (all ∙ ap (range_with_len 0) count)
     ∙ sym (search (map-map, seen))
-    ∙ ap (map label_tuple) (list_is (λ place. slice_index_or seen place None) _ 0 _ (λ k lt. let e : 0 + k ≡ k = omega arith in ap (λ (p : ℕ). slice_index_or seen p None) e))
+    ∙ ap (map _) (list_is (λ place. slice_index_or seen place None) _ 0 _ (λ k lt. let e : 0 + k ≡ k = omega arith in ap (λ (p : ℕ). slice_index_or seen p None) e))
     ∙ labels_are _ _ some
 
 -- the columns of a key that isn't a tuple

@@ -15,7 +15,7 @@ no_key_settled = search
 
 -- a heading that stands again
 heading_repeated : (texts : List Text) (hs : List (Option Label)) → IsSettled headings_value texts hs → IsSettled heading_value texts (repeated_heading hs)
-heading_repeated texts [] settled = λ more. refl
+heading_repeated _ [] _ = λ more. refl
 heading_repeated texts (h ∷ hs) settled = go (heading_repeated _ hs (grind arith)) _
   where
     go : IsSettled heading_value texts (repeated_heading hs) → (b : Bool) → IsSettled heading_value texts (if b then h else repeated_heading hs)
@@ -24,6 +24,6 @@ heading_repeated texts (h ∷ hs) settled = go (heading_repeated _ hs (grind ari
 
 pub repeated_settled : (texts : List Text) (code : Code) (hs : List (Option Label)) (label : Label) → repeated_heading hs ≡ Some label → code ≡ BadValue (Repeated (label ∷ [])) → IsSettled headings_value texts hs
     → IsSettled fault_of texts code
-repeated_settled texts code hs label found is settled =
+repeated_settled texts _ _ label found is settled =
     let here : IsSettled label_datum texts label = search (heading_label, heading_repeated) in
     grind arith

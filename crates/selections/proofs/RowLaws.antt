@@ -30,30 +30,30 @@ abbrev kind_if : Kind → Bool → Result Kind FaultValue
 kind_if kind b = if b then Ok kind else Err wrong_kind
 
 all_seen : (texts : List Text) (t : NumberedTable) (kind : Kind) (places : List ℕ) → list_all (λ c. same_kind c.kind kind) (map (column_at (table_value texts t).columns) places) ≡ all_of kind t places
-all_seen texts t kind [] = refl
+all_seen _ t _ [] = refl
 all_seen texts t kind (p ∷ ps) = search (column_seen, all_seen texts t kind ps)
 
 first_seen : (texts : List Text) (t : NumberedTable) (places : List ℕ) → kind_across (map (column_at (table_value texts t).columns) places) ≡ first_kind t places
-first_seen texts t [] = refl
-first_seen texts t (p ∷ ps) = search column_seen
+first_seen _ t [] = refl
+first_seen _ t (p ∷ ps) = search column_seen
 
 pub one_kind_is : (texts : List Text) (t : NumberedTable) (places : List ℕ) → one_kind (map (column_at (table_value texts t).columns) places) ≡ kind_if (first_kind t places) (all_of (first_kind t places) t places)
 one_kind_is texts t places = grind (arith, first_seen texts t places, all_seen texts t (first_kind t places) places)
 
 -- the kinds from one on
 from_kind : (kind : Kind) (t : NumberedTable) (places : List ℕ) (k place : ℕ) → k < length places → slice_get places k ≡ Some place → all_of kind t (drop k places) ≡ (same_kind (kind_at t place) kind && all_of kind t (drop (suc k) places))
-from_kind kind t places k place lt at = cc (drop-cons places k 0 lt, get_or_from_slice_get places k place 0 at)
+from_kind _ t places k place lt at = cc (drop-cons places k 0 lt, get_or_from_slice_get places k place 0 at)
 
 pub kinds_refused : (texts : List Text) (t : NumberedTable) (places : List ℕ) (k place : ℕ) (next : Kind) → k < length places → slice_get places k ≡ Some place → next ≡ kind_at t place → same_kind next (first_kind t places) ≡ false
     → all_of (first_kind t places) t (drop k places) ≡ all_of (first_kind t places) t places → one_kind (map (column_at (table_value texts t).columns) places) ≡ Err wrong_kind
-kinds_refused texts t places k place next lt at is other before =
+kinds_refused texts t places k place _ lt at is other before =
     let kind = first_kind t places in
     let none : all_of kind t places ≡ false = cc (from_kind kind t places k place lt at) in
     cc (one_kind_is texts t places)
 
 pub kinds_more : (t : NumberedTable) (places : List ℕ) (k place : ℕ) (next : Kind) → k < length places → slice_get places k ≡ Some place → next ≡ kind_at t place → same_kind next (first_kind t places) ≡ true
     → all_of (first_kind t places) t (drop k places) ≡ all_of (first_kind t places) t places → all_of (first_kind t places) t (drop (k + 1) places) ≡ all_of (first_kind t places) t places
-kinds_more t places k place next lt at is same before =
+kinds_more t places k place _ lt at is same before =
     let kind = first_kind t places in
     let step : k + 1 ≡ suc k = omega arith in
     cc (from_kind kind t places k place lt at)
@@ -69,7 +69,7 @@ both : (a b : Bool) → (a && b) ≡ true → (a ≡ true) × (b ≡ true)
 both = grind arith
 
 each_kind : (kind : Kind) (t : NumberedTable) (places : List ℕ) → all_of kind t places ≡ true → HaveKind kind t places
-each_kind kind t [] e = grind arith
+each_kind _ t [] e = grind arith
 each_kind kind t (p ∷ ps) e =
     let here = both _ _ e in
     grind (arith, each_kind kind t ps here.1)
@@ -84,7 +84,7 @@ kind_there = grind (arith, get_or_from_slice_get)
 pub cell_more : (kind : Kind) (row : ℕ) (t : NumberedTable) (places : List ℕ) (k place : ℕ) (cell : Cell) (column made made' : CellColumn) → k < length places → slice_get places k ≡ Some place
     → column_at t.columns place ≡ record { kind = column.kind; cells = column.cells } → slice_get column.cells row ≡ Some cell → made ≡ cells_across kind row t (take k places)
     → made' ≡ record { kind = made.kind; cells = made.cells ++ cell ∷ [] } → made' ≡ cells_across kind row t (take (k + 1) places)
-cell_more kind row t places k place cell column made made' lt at is here before pushed =
+cell_more kind row t places k _ cell _ _ _ lt at is here before pushed =
     let this : cell ≡ cell_across t row (slice_index_or places k 0) = grind (arith, get_or_from_slice_get) in
     pushed
     ∙ (λ j. record { kind = (before j).kind; cells = (before j).cells ++ this j ∷ [] })
@@ -95,7 +95,7 @@ pub kind_later : (t : NumberedTable) (places : List ℕ) (k : ℕ) (kind : Kind)
 kind_later = grind arith
 
 pub same_next : (next kind : Kind) → next ≡ kind → same_kind next kind ≡ true
-same_next next kind is = cc (kind_itself kind)
+same_next _ kind is = cc (kind_itself kind)
 
 pub other_kind : (next kind first : Kind) → kind ≡ first → next ≢ kind → same_kind next first ≡ false
 other_kind = grind arith

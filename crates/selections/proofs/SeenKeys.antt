@@ -36,10 +36,10 @@ module _ {K : Type 0} (P : K → Type 0) where
   unless_in = grind arith
 
   keys_in : {X : Type 0} (meets : K → X → Bool) (xs : List X) (keys : List K) → All P keys → FaultIn P (rows_of_keys meets xs keys)
-  keys_in meets xs [] given = tt
-  keys_in meets xs (key ∷ keys) given =
-      then_in _ (λ rows. then_pick (rows_of_keys meets xs keys) (λ more. Ok (rows ++ more))) (unless_in _ _ (given 0 key (omega arith)))
-      (λ rows. then_in _ (λ more. Ok (rows ++ more)) (keys_in _ xs keys (λ k d lt. given (suc k) d (omega arith))) (λ more. tt))
+  keys_in _ _ [] _ = tt
+  keys_in _ xs (key ∷ keys) given =
+      then_in _ _ (unless_in _ _ (given 0 key (omega arith)))
+      (λ rows. then_in _ _ (keys_in _ xs keys (λ k d lt. given (suc k) d (omega arith))) (λ more. tt))
 
   first_in : (cmp : K → K → Ordering) (xs : List K) (bound : Option K) → IfSome bound P → FaultIn P (first_row cmp xs bound)
   first_in = grind arith
@@ -51,11 +51,11 @@ module _ {K : Type 0} (P : K → Type 0) where
   cell_in = grind arith
 
   kept_in : (same : K → K → Bool) (labels : List K) (mask : List Bool) (row : ℕ) (xs : List K) → All P xs → FaultIn P (kept_by_label same labels mask row xs)
-  kept_in same labels mask row [] given = tt
+  kept_in _ _ _ _ [] _ = tt
   kept_in same labels mask row (x ∷ xs) given =
-      then_in _ (λ kept. then_pick (kept_by_label same labels mask (row + 1) xs) (λ rows. Ok (if kept then row ∷ rows else rows)))
+      then_in _ _
       (cell_in x _ _ (given 0 x (omega arith)))
-      (λ kept. then_in _ (λ rows. Ok (if kept then row ∷ rows else rows)) (kept_in same labels mask (row + 1) xs (λ k d lt. given (suc k) d (omega arith))) (λ rows. tt))
+      (λ kept. then_in _ _ (kept_in same labels mask (row + 1) xs (λ k d lt. given (suc k) d (omega arith))) (λ rows. tt))
 
   pub mask_in : (same : K → K → Bool) (xs labels : List K) (mask : List Bool) → All P xs → FaultIn P (masked_rows same xs labels mask)
   mask_in = grind (arith, kept_in)
@@ -65,7 +65,7 @@ abbrev pub IsGivenTuple : List Text → List Label → Type 0
 IsGivenTuple texts tuple = IsSettled tuple_value texts tuple
 
 pub tuples_given : (texts : List Text) (tuples : List (List Label)) → IsSettled (λ ts. map (tuple_value ts)) texts tuples → All (IsGivenTuple texts) tuples
-tuples_given texts [] settled = grind arith
+tuples_given _ [] settled = grind arith
 tuples_given texts (t ∷ ts) settled = All-cons (IsGivenTuple texts) t ts (search head_settled) (tuples_given _ ts (grind arith))
 
 -- the parts of a key
@@ -90,22 +90,22 @@ tuple_or None = []
 tuple_or (Some t) = t
 
 bound_given : (texts : List Text) (bound : Option (List Label)) → ((more : List Text) → option_map (tuple_value (texts ++ more)) bound ≡ option_map (tuple_value texts) bound) → IfSome bound (IsGivenTuple texts)
-bound_given texts None settled = tt
-bound_given texts (Some t) settled = λ more. ap tuple_or (settled more)
+bound_given _ None _ = tt
+bound_given _ (Some t) settled = λ more. ap tuple_or (settled more)
 
 key_given : (texts : List Text) (k : List Label) → IsSettled label_key_value texts (key.One k) → IsGivenTuple texts k
-key_given texts k settled = λ more. ap one_of (settled more)
+key_given _ k settled = λ more. ap one_of (settled more)
 
 keys_given : (texts : List Text) (ks : List (List Label)) → IsSettled label_key_value texts (key.Many ks) → All (IsGivenTuple texts) ks
-keys_given texts ks settled = tuples_given _ ks (λ more. ap each_of (settled more))
+keys_given _ ks settled = tuples_given _ ks (λ more. ap each_of (settled more))
 
 -- the fault of a key names a label of the key
 pub key_in : (texts : List Text) (levels : ℕ) (tuples : List (List Label)) (k : LocKey) → IsSettled label_key_value texts k → FaultIn (IsGivenTuple texts) (picked_by_label same_number (order_in texts) levels tuples (label_key k))
-key_in texts levels tuples key.All settled = tt
-key_in texts levels tuples (key.One k) settled = search (then_in, unless_in, key_given)
-key_in texts levels tuples (key.Many ks) settled = search (then_in, keys_in, keys_given)
+key_in _ _ _ key.All _ = tt
+key_in _ _ _ (key.One k) settled = search (then_in, unless_in, key_given)
+key_in _ _ _ (key.Many ks) settled = search (then_in, keys_in, keys_given)
 key_in texts levels tuples (key.Span lower upper) settled =
-    then_in _ (slice_on levels (leading_cmp (order_in texts)) lower upper tuples) (λ rows. Ok (sliced_pick rows))
+    then_in _ (slice_on levels (leading_cmp (order_in texts)) lower upper tuples) _
     (slice_on_in _ levels _ _ _ tuples (grind (arith, bound_given)) (grind (arith, bound_given))) (λ rows. tt)
 
 module _ (texts : List Text) (distinct : AreDistinct texts) where
@@ -113,7 +113,7 @@ module _ (texts : List Text) (distinct : AreDistinct texts) where
   same_is a b f g = sym (search (same_by_number, label_decides))
 
   leads_is : (key tuple : List Label) → IsGivenTuple texts key → IsGivenTuple texts tuple → leads same_label (tuple_value texts key) (tuple_value texts tuple) ≡ leads same_number key tuple
-  leads_is [] tuple f g = refl
+  leads_is [] _ f g = refl
   leads_is (k ∷ ks) [] f g = refl
   leads_is (k ∷ ks) (l ∷ ls) f g = search (same_is, head_settled, leads_is ks ls (rest_settled label_datum texts k ks f) (rest_settled label_datum texts l ls g))
 
@@ -124,7 +124,7 @@ module _ (texts : List Text) (distinct : AreDistinct texts) where
   tuples_same (k ∷ ks) (l ∷ ls) f g = search (same_is, head_settled, tuples_same ks ls (rest_settled label_datum texts k ks f) (rest_settled label_datum texts l ls g))
 
   order_is : (tuple bound : List Label) → leading_cmp label_cmp (tuple_value texts tuple) (tuple_value texts bound) ≡ leading_cmp (order_in texts) tuple bound
-  order_is tuple [] = refl
+  order_is _ [] = refl
   order_is [] (b ∷ bs) = refl
   order_is (l ∷ ls) (b ∷ bs) = cc (order_is ls bs)
 
@@ -134,30 +134,30 @@ module _ (texts : List Text) (distinct : AreDistinct texts) where
 
   pub picked_is : (levels : ℕ) (tuples : List (List Label)) (k : LocKey) → All (IsGivenTuple texts) tuples → IsSettled label_key_value texts k
       → picked_by_label same_label label_cmp levels (map (tuple_value texts) tuples) (label_key_value texts k) ≡ pick_seen (tuple_value texts) (picked_by_label same_number (order_in texts) levels tuples (label_key k))
-  picked_is levels tuples key.All all settled = search length-map
+  picked_is _ _ key.All all settled = search length-map
   picked_is levels tuples (key.One k) all settled =
       let given : IsGivenTuple texts k = key_given _ k settled in
       cc (rows_of_key-map (IsGivenTuple texts) (leads same_label) (leads same_number) (tuple_value texts) (tuple_value texts) k (λ x there. leads_is k x given there) tuples all, then_seen (tuple_value texts) (rows_of_key (leads same_number) tuples k) (λ rows. Ok (key_pick levels k rows)) (λ rows. Ok (key_pick levels (tuple_value texts k) rows)) (λ rows. ap (λ (p : Pick). Ok p) (key_pick_seen levels k rows)))
-  picked_is levels tuples (key.Many ks) all settled =
+  picked_is _ tuples (key.Many ks) all settled =
       let given : All (IsGivenTuple texts) ks = keys_given _ ks settled in
       ap (λ r. then_pick r (λ rows. Ok (listed_pick rows))) (search (rows_of_keys-map, leads_is))
-      ∙ then_seen _ (rows_of_keys (leads same_number) tuples ks) (λ rows. Ok (listed_pick rows)) (λ rows. Ok (listed_pick rows)) (λ rows. refl)
+      ∙ then_seen _ (rows_of_keys (leads same_number) tuples ks) _ _ (λ rows. refl)
   picked_is levels tuples (key.Span lower upper) all settled =
       ap (λ r. then_pick r (λ rows. Ok (sliced_pick rows))) (search (slice_on-map, order_is))
-      ∙ then_seen _ (slice_on levels (leading_cmp (order_in texts)) lower upper tuples) (λ rows. Ok (sliced_pick rows)) (λ rows. Ok (sliced_pick rows)) (λ rows. refl)
+      ∙ then_seen _ (slice_on levels (leading_cmp (order_in texts)) lower upper tuples) _ _ (λ rows. refl)
 
 -- the same places, whatever the keys are
 place_seen : {K J : Type 0} (f : K → J) (count : ℕ) (z : ℤ) (row : Option ℕ) → row_or_fault count z row ≡ pick_seen f (row_or_fault count z row)
 place_seen = grind arith
 
 places_seen : {K J : Type 0} (f : K → J) (count : ℕ) (zs : List ℤ) → rows_at count zs ≡ pick_seen f (rows_at count zs)
-places_seen f count [] = refl
+places_seen f _ [] = refl
 places_seen {K} {J} f count (z ∷ zs) = grind (arith, places_seen f count zs)
 
 pub by_place_seen : {K J : Type 0} (f : K → J) (count : ℕ) (k : PlaceKey) → picked_by_place count k ≡ pick_seen f (picked_by_place count k)
-by_place_seen {K} {J} f count (one_place z) = grind arith
+by_place_seen {K} {J} f _ (one_place z) = grind arith
 by_place_seen {K} {J} f count (each_place zs) = cc (places_seen f count zs, then_seen f (rows_at count zs) (λ rows. Ok (listed_pick rows)) (λ rows. Ok (listed_pick rows)) (λ rows. refl))
-by_place_seen {K} {J} f count (place_slice from to step) = grind arith
+by_place_seen {K} {J} f _ (place_slice from to step) = grind arith
 
 -- and their faults have no key
 module _ {K : Type 0} (P : K → Type 0) (count : ℕ) where
@@ -174,30 +174,30 @@ module _ {K : Type 0} (P : K → Type 0) (count : ℕ) where
 -- what is found is what is meant, seen through the texts
 pub found_seen : {A B : Type 0} (texts : List Text) (view : A → B) (r : Result A KeyFault) (by_number : Result B (PickFault (List Label))) (seen : Result B (PickFault (List LabelValue)))
     → PicksBy view r by_number → seen ≡ pick_seen (tuple_value texts) by_number → FaultIn (IsGivenTuple texts) by_number → MakesBy (λ (ts : List Text). view) texts (found_result r) (found_pick seen)
-found_seen texts view (Ok made) by_number seen is same given = cc
-found_seen texts view (Err (fault.NotThere k)) by_number seen is same given =
+found_seen _ _ (Ok made) _ _ is same given = cc
+found_seen texts _ (Err (fault.NotThere k)) _ _ is same given =
     let settled : IsGivenTuple texts k = grind arith in
     (cc, search)
-found_seen texts view (Err (fault.BoundNotUnique k)) by_number seen is same given =
+found_seen texts _ (Err (fault.BoundNotUnique k)) _ _ is same given =
     let settled : IsGivenTuple texts k = grind arith in
     (cc, search)
-found_seen texts view (Err (fault.OutOfRange z count)) by_number seen is same given = grind arith
-found_seen texts view (Err (fault.NoMaskLabel k)) by_number seen is same given =
+found_seen _ _ (Err (fault.OutOfRange z count)) _ _ is same given = grind arith
+found_seen texts _ (Err (fault.NoMaskLabel k)) _ _ is same given =
     let settled : IsGivenTuple texts k = grind arith in
     (cc, search)
-found_seen texts view (Err fault.StepZero) by_number seen is same given = grind arith
-found_seen texts view (Err fault.NoMemory) by_number seen is same given = tt
+found_seen _ _ (Err fault.StepZero) _ _ is same given = grind arith
+found_seen _ _ (Err fault.NoMemory) _ _ is same given = tt
 
 pub places_found : (texts : List Text) (count : ℕ) (k : PosKey) (r : Result Picked KeyFault) (out : Result Picked OpFault) (m : Result PlaceKey FaultValue)
     → out ≡ found_result r → PicksBy pick_of r (picked_by_place count (place_key k)) → m ≡ Ok (place_key k) → MakesBy pick_value texts out (then_value m (λ key. found_pick (picked_by_place count key)))
-places_found texts count k r out m is picks here =
+places_found texts count k r _ m is picks here =
     let seen = found_seen texts _ r _ (picked_by_place count (place_key k)) picks (search by_place_seen) (search by_place_in) in
     grind arith
 
 pub labels_found : (texts : List Text) (levels : ℕ) (tuples : List (List Label)) (k : LocKey) (r : Result Picked KeyFault) (out : Result Picked OpFault)
     → AreDistinct texts → IsSettled tuples_value texts tuples → IsSettled label_key_value texts k → out ≡ found_result r → PicksBy pick_of r (picked_by_label same_number (order_in texts) levels tuples (label_key k))
     → MakesBy pick_value texts out (found_labels levels (tuples_value texts tuples) (label_key_value texts k))
-labels_found texts levels tuples k r out distinct given settled is picks =
+labels_found _ _ _ k r _ distinct given settled is picks =
     let seen = found_seen _ _ r _ _ picks
     (search (picked_is, tuples_given)) (key_in _ _ _ k settled) in
     rw is seen

@@ -14,7 +14,7 @@ use Rattle.table_meaning.specs.Value as value
 
 -- rows have the kinds of their columns
 kinds_all : (rows : List ℕ) (kind : Kind) (cs : List (ColumnOf CellValue)) → list_all (λ c. same_kind c.kind kind) (map (column_rows rows) cs) ≡ list_all (λ c. same_kind c.kind kind) cs
-kinds_all rows kind [] = refl
+kinds_all _ _ [] = refl
 kinds_all rows kind (c ∷ cs) = cc (kinds_all rows kind cs)
 
 kind_first : (rows : List ℕ) (cs : List (ColumnOf CellValue)) → kind_across (map (column_rows rows) cs) ≡ kind_across cs
@@ -29,30 +29,30 @@ label_seen = grind arith
 
 labels_seen : (texts : List Text) (t : NumberedTable) (places : List ℕ) → All IsSome t.headings → All (λ place. place < length t.headings) places
     → map (λ h. unwrap_or h (int (pos 0)) ∷ []) (map (heading_at (table_value texts t)) places) ≡ tuples_value texts (columns_axis t places).tuples
-labels_seen texts t [] some below = refl
+labels_seen _ t [] _ _ = refl
 labels_seen texts t (p ∷ ps) some below =
-    λ j. (ap (λ h. unwrap_or h (int (pos 0)) ∷ []) (heading_seen texts t.headings p) ∙ label_seen _ _ (some p None (below 0 p (omega arith)))) j
+    λ j. (ap (λ h. unwrap_or h (int (pos 0)) ∷ []) (heading_seen texts _ p) ∙ label_seen _ _ (some p None (below 0 p (omega arith)))) j
     ∷ labels_seen texts t ps some (λ k d lt. below (suc k) d (omega arith)) j
 
 cells_seen : (texts : List Text) (t : NumberedTable) (row : ℕ) (places : List ℕ)
     → map first_cell (map (column_rows (row ∷ [])) (map (column_at (table_value texts t).columns) places)) ≡ map (datum texts) (map (cell_across t row) places)
-cells_seen texts t row [] = refl
+cells_seen _ t _ [] = refl
 cells_seen texts t row (p ∷ ps) =
     λ j. (ap (λ (c : ColumnOf CellValue). slice_index_or c.cells row na_cell) (column_seen _ _ p) ∙ get_or-map (datum texts) (column_at t.columns p).cells row Na) j ∷ cells_seen texts t row ps j
 
 -- the name of a row: its label, or none where it has several
 pub name_of_one : (texts : List Text) (tuple : List Label) (l : Label) → length tuple ≡ 1 → slice_get tuple 0 ≡ Some l → Some (label_datum texts l) ≡ row_name (tuple_value texts tuple)
-name_of_one texts [] l one at = cc
-name_of_one texts (m ∷ []) l one at = search
-name_of_one texts (m ∷ (n ∷ ls)) l one at = cc
+name_of_one _ [] l one at = cc
+name_of_one _ (m ∷ []) l one at = search
+name_of_one _ (m ∷ (n ∷ ls)) l one at = cc
 
 pub label_first : (tuples : List (List Label)) (row : ℕ) (l : Label) → option_and_then (λ tuple. slice_get tuple 0) (slice_get tuples row) ≡ Some l → slice_get (slice_index_or tuples row []) 0 ≡ Some l
 label_first = grind (arith, get_or_from_slice_get)
 
 pub name_of_several : (texts : List Text) (tuple : List Label) → length tuple ≢ 1 → None ≡ row_name (tuple_value texts tuple)
-name_of_several texts [] several = refl
-name_of_several texts (l ∷ []) several = search
-name_of_several texts (l ∷ (m ∷ ls)) several = refl
+name_of_several _ [] _ = refl
+name_of_several _ (l ∷ []) several = search
+name_of_several _ (l ∷ (m ∷ ls)) _ = refl
 
 -- the Series of a row
 abbrev pub row_heading : Option Label → HeadingList
@@ -65,13 +65,12 @@ module _ (t : NumberedTable) (row : ℕ) (label_name : Option Label) (kind : Kin
     (named : (ts : List Text) → heading_value ts label_name ≡ row_name (tuple_value ts (slice_index_or t.labels row []))) where
   series_seen : (texts : List Text) → row_series (cut (table_value texts t) (row ∷ []) places) kind ≡ table_value texts (row_table t row label_name kind places)
   series_seen texts =
-      let name = ap row_name (get_or-map (tuple_value texts) t.labels row []) ∙ sym (named texts) in
       λ j. record {
         shape = Series;
         columns_name = None;
         level_names = heading_value texts t.columns_name ∷ [];
-        labels = labels_seen texts t places some below j;
-        headings = name j ∷ [];
+        labels = labels_seen texts t _ some below j;
+        headings = (ap row_name (get_or-map (tuple_value texts) t.labels row []) ∙ sym (named texts)) j ∷ [];
         columns = record { kind = kind; cells = cells_seen texts t row places j } ∷ [];
       }
 
@@ -83,13 +82,13 @@ module _ (t : NumberedTable) (row : ℕ) (label_name : Option Label) (kind : Kin
 
   pub row_made : (texts : List Text) (made : NumberedTable) → one_kind (map (column_at (table_value texts t).columns) places) ≡ Ok kind → within_limits (length places) 1 ≡ true → made ≡ row_table t row label_name kind places → IsSettled table_value texts t
       → (row_result (cut (table_value texts t) (row ∷ []) places) ≡ Ok (value.table (table_value texts made))) × IsSettled table_value texts made
-  row_made texts made one within is settled = (
+  row_made texts _ one within is settled = (
     cc (row_is texts one, row_limited texts true within),
     settled_by table_value table_value (λ T. row_series (cut T (row ∷ []) places) kind) _ t _ (λ ts. series_seen ts ∙ ap (table_value ts) (sym is)) settled,
   )
 
   pub row_beyond : (texts : List Text) → one_kind (map (column_at (table_value texts t).columns) places) ≡ Ok kind → within_limits (length places) 1 ≡ false → row_result (cut (table_value texts t) (row ∷ []) places) ≡ Err limit
-  row_beyond texts one beyond = row_is _ one ∙ row_limited _ _ beyond
+  row_beyond _ one beyond = row_is _ one ∙ row_limited _ _ beyond
 
 pub row_refused : (texts : List Text) (t : NumberedTable) (row : ℕ) (places : List ℕ) (why : OpFault) → MakesBy as_it_is texts (Err why) (one_kind (map (column_at (table_value texts t).columns) places))
     → Makes texts (Err why) (row_result (cut (table_value texts t) (row ∷ []) places))

@@ -16,7 +16,7 @@ after xs = take (length xs - 1) (drop 1 xs)
 
 first_of : {X : Type 0} (xs : List X) (x : X) → x ≡ get_or xs 0 x → 1 ≤ length xs → xs ≡ x ∷ after xs
 first_of [] x is some = grind arith
-first_of (y ∷ ys) x is some = λ i. sym is i ∷ sym (take_rest (y ∷ ys) 1) i
+first_of (y ∷ ys) x is _ = λ i. sym is i ∷ sym (take_rest (y ∷ ys) 1) i
 
 -- a scalar before others
 abbrev pub with_scalar : Option CellValue → Option (List CellValue) → Option (List CellValue)
@@ -41,19 +41,19 @@ abbrev pub all_from : (CellValue → Bool) → List Text → List Cell → ℕ �
 all_from test texts cells k = list_all test (cells_value texts (drop k cells))
 
 from_cell : (test : CellValue → Bool) (texts : List Text) (cells : List Cell) (k : ℕ) (c : Cell) → k < length cells → slice_get cells k ≡ Some c → all_from test texts cells k ≡ (test (datum texts c) && all_from test texts cells (suc k))
-from_cell test texts cells k c lt at = cc (drop-cons cells k Na lt, get_or_from_slice_get cells k c Na at)
+from_cell _ _ cells k c lt at = cc (drop-cons cells k Na lt, get_or_from_slice_get cells k c Na at)
 
 pub test_passed : (test : CellValue → Bool) (texts : List Text) (cells : List Cell) (k : ℕ) (c : Cell) (b whole : Bool) → k < length cells → slice_get cells k ≡ Some c → b ≡ test (datum texts c) → b ≡ true → all_from test texts cells k ≡ whole
     → all_from test texts cells (k + 1) ≡ whole
-test_passed test texts cells k c b whole lt at same is_so before =
+test_passed test texts cells k c b _ lt at same is_so before =
     let next : k + 1 ≡ suc k = omega arith in
     cc (from_cell test texts cells k c lt at)
 
 pub test_failed : (test : CellValue → Bool) (texts : List Text) (cells : List Cell) (k : ℕ) (c : Cell) (b whole : Bool) → k < length cells → slice_get cells k ≡ Some c → b ≡ test (datum texts c) → b ≡ false → all_from test texts cells k ≡ whole → false ≡ whole
-test_failed test texts cells k c b whole lt at same other before = cc (from_cell test texts cells k c lt at)
+test_failed test texts cells k c b _ lt at same other before = cc (from_cell test texts cells k c lt at)
 
 pub tests_done : (test : CellValue → Bool) (texts : List Text) (cells : List Cell) (k : ℕ) (whole : Bool) → k ≡ length cells → all_from test texts cells k ≡ whole → true ≡ whole
-tests_done test texts cells k whole end before = cc (drop-length cells)
+tests_done _ _ cells k _ end before = cc (drop-length cells)
 
 positive : (n : ℕ) → 0 < n → nat_lt 0 n ≡ true
 positive = grind arith

@@ -15,9 +15,9 @@ pub chosen_seen : {T : Type 0} (kind : Kind) (cell : Option T → Cell) (n : ℕ
 chosen_seen kind cell n row places below =
     let at : ℕ → Cell = λ place. slice_index_or (tabulate n (λ k. cell (row k))) place Na in
     ap (λ (cells : List Cell). record { kind = kind; cells = cells })
-    (range-same (λ k. cell (row (slice_index places k))) (λ k. at (slice_index places k)) 0 _
+    (range-same _ _ 0 _
     (λ k le lt. sym (grind (arith, get_or-tabulate)))
-    ∙ sym (fill_by_all (λ k. at (slice_index places k)) (map at places) _ Na (length-map places at) (λ k lt. get_or-map at places k 0 Na lt)))
+    ∙ sym (fill_by_all _ (map at places) _ Na (length-map places at) (λ k lt. get_or-map at places k 0 Na lt)))
 
 -- a place that stands in a list
 pub place_inside : (places : List ℕ) (count k place : ℕ) → All (λ p. p < count) places → k < length places → slice_get places k ≡ Some place → place < count
@@ -27,7 +27,7 @@ place_inside = grind (arith, get_or_from_slice_get)
 pub one_more_chosen : (t : NumberedTable) (rows columns : List ℕ) (k place : ℕ) (source made : CellColumn) (block : CellBlock) (blocks blocks' : List CellBlock) → k < length columns → slice_get columns k ≡ Some place
     → column_at t.columns place ≡ record { kind = source.kind; cells = source.cells } → made ≡ cells_by_place rows source → block ≡ record { kind = made.kind; rows = length made.cells; columns = made.cells ∷ [] }
     → blocks' ≡ blocks ++ block ∷ [] → map block_column blocks ≡ columns_at rows (take k columns) t → map block_column blocks' ≡ columns_at rows (take (k + 1) columns) t
-one_more_chosen t rows columns k place source made block blocks blocks' lt at here is boxed pushed before =
+one_more_chosen t rows columns k _ _ _ block blocks _ lt at here is boxed pushed before =
     let this : block_column block ≡ cells_at rows (column_at t.columns (slice_index_or columns k 0)) = grind (arith, get_or_from_slice_get) in
     ap (map _) pushed ∙ map-append _ blocks (block ∷ [])
     ∙ (λ j. before j ++ this j ∷ [])
@@ -35,11 +35,11 @@ one_more_chosen t rows columns k place source made block blocks blocks' lt at he
 
 pub one_more_single : (made : CellColumn) (block : CellBlock) (blocks blocks' : List CellBlock) → block ≡ record { kind = made.kind; rows = length made.cells; columns = made.cells ∷ [] } → blocks' ≡ blocks ++ block ∷ []
     → All IsSingle blocks → All IsSingle blocks'
-one_more_single made block blocks blocks' boxed pushed before = rw pushed (All-push IsSingle blocks _ before (subst IsSingle (sym boxed) refl))
+one_more_single _ _ blocks _ boxed pushed before = rw pushed (All-push IsSingle blocks _ before (subst IsSingle (sym boxed) refl))
 
 -- a heading for each column, and a cell for each row
 pub chosen_whole : (shape : Shape) (headings : HeadingList) (rows columns : List ℕ) (t : NumberedTable) → length headings.labels ≡ length columns → AreHeadings shape headings.columns_name headings.labels → IsWhole (chosen shape headings rows columns t)
-chosen_whole shape headings rows columns t headed fit =
+chosen_whole _ headings rows columns t headed fit =
     let count : length (map (λ place. slice_index_or t.labels place []) rows) ≡ length rows = search length-map in
     record {
       headed = search length-map;

@@ -19,17 +19,17 @@ cut_is_chosen = grind (arith, map-map)
 
 -- what is chosen, as it is seen
 cells_seen : (texts : List Text) (rows : List ℕ) (cells : List Cell) → map (datum texts) (map (λ row. slice_index_or cells row Na) rows) ≡ map (λ row. slice_index_or (map (datum texts) cells) row na_cell) rows
-cells_seen texts [] cells = refl
+cells_seen _ [] _ = refl
 cells_seen texts (r ∷ rs) cells = λ j. sym (get_or-map (datum texts) cells r Na) j ∷ cells_seen texts rs cells j
 
 pub labels_seen : (texts : List Text) (rows : List ℕ) (labels : List (List Label)) → map (tuple_value texts) (map (λ row. slice_index_or labels row []) rows) ≡ map (λ row. slice_index_or (map (tuple_value texts) labels) row []) rows
-labels_seen texts [] labels = refl
+labels_seen _ [] _ = refl
 labels_seen texts (r ∷ rs) labels = λ j. sym (get_or-map (tuple_value texts) labels r []) j ∷ labels_seen texts rs labels j
 
 pub columns_seen : (texts : List Text) (rows columns : List ℕ) (t : NumberedTable) → map (column_value texts) (columns_at rows columns t) ≡ map (column_rows rows) (map (column_at (table_value texts t).columns) columns)
-columns_seen texts rows [] t = refl
+columns_seen _ _ [] t = refl
 columns_seen texts rows (p ∷ ps) t =
-    λ j. (ap (λ (l : List CellValue). record { kind = (column_at t.columns p).kind; cells = l }) (cells_seen _ _ _) ∙ ap (column_rows rows) (sym (column_seen texts t.columns p))) j ∷ columns_seen texts rows ps t j
+    λ j. (ap (λ (l : List CellValue). record { kind = (column_at t.columns p).kind; cells = l }) (cells_seen _ _ _) ∙ ap (column_rows rows) (sym (column_seen texts _ p))) j ∷ columns_seen texts rows ps t j
 
 -- all columns of some rows
 all_columns : (columns : List (ColumnOf CellValue)) → map (column_at columns) (range_with_len 0 (length columns)) ≡ columns
@@ -40,7 +40,7 @@ pub chosen_rows : (texts : List Text) (headings : HeadingList) (rows columns : L
 chosen_rows = grind (arith, length-map, all_columns, labels_seen, columns_seen)
 
 pub chosen_settled : (texts : List Text) (shape : Shape) (headings : HeadingList) (rows columns : List ℕ) (t : NumberedTable) → IsSettled table_value texts t → AreSettledHeadings texts headings → IsSettled table_value texts (chosen shape headings rows columns t)
-chosen_settled texts shape headings rows columns t settled given =
+chosen_settled _ _ _ rows columns t settled given =
     table_settled _ _ given.0 (level_names_part _ t settled)
     (λ more. labels_seen _ _ _ ∙ ap (λ ls. map (λ row. slice_index_or ls row []) rows) (labels_part _ t settled more) ∙ sym (labels_seen _ _ _))
     given.1
@@ -48,7 +48,7 @@ chosen_settled texts shape headings rows columns t settled given =
 
 -- without leading levels
 tuples_under : (texts : List Text) (count : ℕ) (tuples : List (List Label)) → map (tuple_value texts) (map (λ tuple. drop count tuple) tuples) ≡ map (drop count) (map (tuple_value texts) tuples)
-tuples_under texts count [] = refl
+tuples_under _ _ [] = refl
 tuples_under texts count (tuple ∷ tuples) = search (drop-map, tuples_under texts count tuples)
 
 under_seen : (texts : List Text) (count : ℕ) (shape : Shape) (headings : HeadingList) (rows columns : List ℕ) (t : NumberedTable)
@@ -58,13 +58,13 @@ under_seen = grind (arith, drop-map, tuples_under)
 -- a table that is taken is the rows and columns that are chosen, without the levels that are lost
 pub taken_seen : (texts : List Text) (shape : Shape) (headings : HeadingList) (taken : Taken) (columns : List ℕ) (t : NumberedTable)
     → table_value texts (taken_table shape headings taken columns t) ≡ without_leading (levels_lost taken) (table_value texts (chosen shape headings (rows_in taken) columns t))
-taken_seen texts shape headings (Slice rows) = search without_none
-taken_seen texts shape headings (Listed places) = search without_none
-taken_seen texts shape headings (Under places count) = search under_seen
+taken_seen _ _ _ (Slice rows) = search without_none
+taken_seen _ _ _ (Listed places) = search without_none
+taken_seen _ _ _ (Under places count) = search under_seen
 
 taken_settled : (texts : List Text) (shape : Shape) (headings : HeadingList) (taken : Taken) (columns : List ℕ) (t : NumberedTable) → IsSettled table_value texts t → AreSettledHeadings texts headings
     → IsSettled table_value texts (taken_table shape headings taken columns t)
-taken_settled texts shape headings taken columns t settled given =
+taken_settled _ _ _ taken _ t settled given =
     λ more. taken_seen _ _ _ _ _ t
     ∙ ap (without_leading (levels_lost taken)) (search chosen_settled)
     ∙ sym (taken_seen _ _ _ taken _ t)
@@ -73,10 +73,8 @@ pub taken_answers : (texts : List Text) (store store' : Store) (on : ℕ) (id : 
     → tables store' ≡ with_object (tables store) id.0 (Some (taken_table shape headings taken columns (table_at (tables store) on))) → within_limits (length (rows_in taken)) (length columns) ≡ true
     → IsSettledWorld (world store texts) → AreSettledHeadings texts headings
     → Forms (Ok (Object id)) (limited (table_value texts (taken_table shape headings taken columns (table_at (tables store) on)))) (world store texts) (world store' texts)
-taken_answers texts store store' on id shape headings taken columns live fresh put within settled given =
-    let t = table_at (tables store) on in
-    let made = taken_table shape headings taken columns t in (
-      new_answers _ _ _ id _ _ fresh put settled (grind (arith, taken_seen, length-map)),
-      longer_self texts,
-      settled_with _ _ _ _ _ settled (taken_settled texts shape headings taken columns t (table_is_settled texts (tables store) on live settled) given) put,
-    )
+taken_answers texts store _ on id shape _ taken _ live fresh put within settled given = (
+  new_answers _ _ _ id _ _ fresh put settled (grind (arith, taken_seen, length-map)),
+  longer_self texts,
+  settled_with _ _ _ _ _ settled (taken_settled texts shape _ taken _ (table_at (tables store) on) (table_is_settled _ _ on live settled) given) put,
+)

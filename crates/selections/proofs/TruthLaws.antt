@@ -37,9 +37,9 @@ positive : (n : ℕ) → 0 < n → nat_lt 0 n ≡ true
 positive = grind arith
 
 some_cell : (live : Tables) (texts : List Text) (items : List Item) (b : Bool) → 0 < length items → each is_scalar (items_of live texts items) ≡ b → (b && are_truths (cells_of (items_of live texts items))) ≡ (b && list_all is_truth (cells_of (items_of live texts items)))
-some_cell live texts items false some is = refl
-some_cell live texts [] true some is = grind arith
-some_cell live texts (x ∷ xs) true some is = grind arith
+some_cell _ _ _ false _ _ = refl
+some_cell _ _ [] true some is = grind arith
+some_cell _ _ (x ∷ xs) true some is = grind arith
 
 pub truth_list_is : (live : Tables) (texts : List Text) (items : List Item) → 0 < length items → (each is_scalar (items_of live texts items) && are_truths (cells_of (items_of live texts items))) ≡ each_truth (items_of live texts items)
 truth_list_is = search (some_cell, truths_are)

@@ -71,6 +71,7 @@ fn tuple_of(alloc: Global, items: &[Item]) -> Result<Tuple, OpFault>
 }
 
 // The leading labels that a tuple names: of at least one level, and at most so many.
+#[tactic(auto, using(crate::proofs::KeyLaws::count_items))]
 fn leading_labels(alloc: Global, levels: usize, items: &[Item]) -> Result<Tuple, OpFault>
     requires { levels ≤ 4 }
     ensures labels { (live : Tables) (texts : List OneText) → MakesBy tuple_value texts result
@@ -84,6 +85,7 @@ fn leading_labels(alloc: Global, levels: usize, items: &[Item]) -> Result<Tuple,
 }
 
 // The labels of all levels, of which a tuple has one for each.
+#[tactic(auto, using(crate::proofs::KeyLaws::count_items))]
 fn full_labels(alloc: Global, levels: usize, items: &[Item]) -> Result<Tuple, OpFault>
     requires some { 1 ≤ levels }
     requires few { levels ≤ 4 }
@@ -110,6 +112,7 @@ fn lone_label(alloc: Global, levels: usize, cell: Cell) -> Result<Tuple, OpFault
 }
 
 // An item of a list of keys.
+#[tactic(auto, using(crate::proofs::Hints::whole_item))]
 fn whole_item(alloc: Global, levels: usize, item: &Item) -> Result<Tuple, OpFault>
     requires some { 1 ≤ levels }
     requires few { levels ≤ 4 }

@@ -26,6 +26,7 @@ fn missing(alloc: Global, label: Label) -> OpFault
 }
 
 /// The place of the first column with the label. Takes no memory.
+#[tactic(auto, using(crate::proofs::Hints::place_of_label))]
 pub fn place_of_label(dict: &TextDict, on: &ObjRef<'_>, label: Label) -> Option<usize>
     requires whole { IsWhole on.now }
     requires settled { IsSettled headings_value dict.now on.now.headings }

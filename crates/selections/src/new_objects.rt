@@ -18,6 +18,7 @@ use frame_store::{Headings, ObjId, OpFault, Store, Value};
 use std::alloc::Global;
 
 /// The numbers below a count. `NoMemory` is the only refusal.
+#[tactic(auto, using(crate::proofs::PickedLaws::one_more_place))]
 pub fn places_below(alloc: Global, count: usize) -> Result<Places, NoMemory>
     ensures { IfOk result (λ made. made ≡ range_with_len 0 count) }
 {
@@ -30,6 +31,7 @@ pub fn places_below(alloc: Global, count: usize) -> Result<Places, NoMemory>
 
 // A new object with all rows and columns of another one, of this shape and under these headings,
 // one for each column: `Limit` where it would be beyond the limits.
+#[tactic(auto, using(crate::proofs::Hints::headed_by))]
 fn headed_by(
     alloc: Global,
     store: &mut Store,

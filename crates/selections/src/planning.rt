@@ -63,6 +63,7 @@ pub(crate) struct Plan {
 
 impl Taken {
     /// How many rows there are.
+    #[tactic(auto, using(crate::proofs::Hints::count))]
     pub(crate) fn count(&self) -> usize
         ensures { result ≡ length (rows_in self.now) }
     {
@@ -195,6 +196,7 @@ fn mask_plan(
 }
 
 // What a value in brackets takes from a frame: the column of a label, or the rows of a mask.
+#[tactic(auto, using(crate::proofs::BracketLaws::column_planned))]
 fn value_plan(
     alloc: Global,
     store: &Store,
@@ -260,6 +262,7 @@ fn are_truths(items: &[Item]) -> bool
 }
 
 // Whether the key is a list of truth values alone, and not empty.
+#[tactic(auto, using(crate::proofs::TruthLaws::truth_list_is))]
 fn is_truth_list(key: &Subscript) -> bool
     ensures { (live : Tables) (texts : List OneText)
         → result ≡ meant.is_truth_list (subscript_of live texts key.now) }

@@ -59,6 +59,7 @@ fn found<T>(picked: Result<T, KeyFault>) -> Result<T, OpFault>
 }
 
 // The rows of an axis that a key by label picks.
+#[tactic(auto, using(crate::proofs::SeenKeys::labels_found))]
 fn labelled(alloc: Global, dict: &TextDict, axis: &Axis, key: &LocKey) -> Result<Picked, OpFault>
     requires some { 1 ≤ length axis.now.names }
     requires fits { FitsLevels (length axis.now.names) key.now }
@@ -170,6 +171,7 @@ fn at_rows(
 }
 
 // What a key by position picks among so many.
+#[tactic(auto, using(crate::proofs::SeenKeys::places_found))]
 fn places_among(alloc: Global, count: usize, key: &Subscript) -> Result<Picked, OpFault>
     ensures places { (live : Tables) (texts : List OneText) → MakesBy pick_value texts result
         (meant.place_pick count (subscript_of live texts key.now)) }
@@ -259,6 +261,7 @@ fn is_tuple(key: &Subscript) -> bool
 }
 
 // The columns of a key of `loc`. No tuple and no mask names columns.
+#[tactic(auto, using(crate::proofs::SeenKeys::range_below))]
 fn loc_columns(
     alloc: Global,
     dict: &TextDict,
@@ -315,6 +318,7 @@ pub fn columns_by(
 
 /// All columns of a table: those of a frame as a slice, and the one of a Series as a single one. `NoMemory` is the only
 /// refusal.
+#[tactic(auto, using(crate::proofs::SeenKeys::range_below, indexers::proofs::SpanLaws::all_listed))]
 pub fn all_columns(alloc: Global, on: &ObjRef<'_>) -> Result<Picked, NoMemory>
     requires { IsWhole on.now }
     ensures places { IfOk result (λ picked. picked.places

@@ -132,6 +132,7 @@ fn place_of(rows: Rows, row: usize) -> usize
 }
 
 // The axis of a slice of rows.
+#[tactic(auto, using(crate::proofs::Hints::sliced_axis))]
 fn sliced_axis(alloc: Global, axis: &Axis, rows: Rows) -> Result<Axis, NoMemory>
     requires { AreRowsBelow rows (length axis.now.tuples) }
     ensures { IfOk result (λ made. made ≡ taken_axis axis.now (rows_of rows)) }
@@ -148,6 +149,7 @@ fn sliced_axis(alloc: Global, axis: &Axis, rows: Rows) -> Result<Axis, NoMemory>
 }
 
 // A new object with these rows and columns of another one.
+#[tactic(auto, using(crate::proofs::Hints::count))]
 fn make_taken(
     alloc: Global,
     store: &mut Store,
@@ -233,6 +235,7 @@ fn take_column(alloc: Global, store: &mut Store, on: ObjId, plan: &Plan) -> Resu
 }
 
 // Rows and columns of a frame, as a frame.
+#[tactic(auto, using(crate::proofs::Hints::take_frame))]
 fn take_frame(
     alloc: Global,
     store: &mut Store,
@@ -313,6 +316,7 @@ pub fn sliced(alloc: Global, store: &mut Store, on: ObjId, rows: Rows) -> Result
 }
 
 // The answer of a plan.
+#[tactic(auto, using(crate::proofs::PickedLaws::read_is, crate::proofs::CarryLaws::row_inside))]
 fn carry_out(
     alloc: Global,
     store: &mut Store,

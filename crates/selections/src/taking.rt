@@ -114,6 +114,7 @@ fn chosen_column(alloc: Global, a: ColRef<'_>, rows: &Places) -> Result<Column, 
 }
 
 /// The cells of these columns at these rows, each column in a block of its own. `NoMemory` is the only refusal.
+#[tactic(auto, using(crate::proofs::Hints::chosen_blocks))]
 pub fn chosen_blocks(
     alloc: Global,
     on: &ObjRef<'_>,
@@ -136,6 +137,7 @@ pub fn chosen_blocks(
 
 /// The table of these rows and columns of another one, under these headings, one for each column.
 /// `NoMemory` is the only refusal.
+#[tactic(auto, using(crate::proofs::TakeLaws::chosen_whole))]
 pub fn chosen_table(
     alloc: Global,
     on: &ObjRef<'_>,
@@ -157,6 +159,7 @@ pub fn chosen_table(
 
 /// The table of these rows and columns of another one without so many of its leading levels, under these
 /// headings, one for each column. `NoMemory` is the only refusal.
+#[tactic(auto, using(crate::proofs::Hints::table_under))]
 pub(crate) fn table_under(
     alloc: Global,
     on: &ObjRef<'_>,

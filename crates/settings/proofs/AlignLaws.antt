@@ -1,47 +1,16 @@
 -- Series that are aligned to labels: by their numbers as by their texts.
 use Rattle.{
   std.{proofs.{Common.{◌≡◌, ◌∙◌, ap, refl, sym, arith, ℕ, suc, ◌+◌, ◌<◌, Bool, true, false, ◌&&◌, List, [], ◌∷◌, ◌++◌, map, length, take, nat_eq, All, Option, Some, None, Result, Ok, Err}, lemmas.{Bool.Decides.{same_from_decides, nat_tests}, List.{length-map, map-append, take_more, FromFn.{fill_by_all}, Elements.{All-map}}, Option.{get_or_from_slice_get}}, Math.ListN.{get_or-map}}, specs.{Prelude.{◌≢◌, ◌||◌, slice_get, slice_index_or}, List.{range_with_len}, Cmp.Lexicographic.{pointwise}}},
-  cell_core.specs.{declared.cell.{Cell.{Cell, TheVariants.{Na}}, Label.{Label}}, Texts.{AreDistinct}},
+  cell_core.specs.declared.cell.{Cell.{Cell, TheVariants.{Na}}, Label.{Label}},
   meaning.specs.{Text.{Text}, Cell.{na_cell, LabelValue, datum, IsGiven, AreGiven}, Column.{gap_cell, taken}, Fault.{FaultValue, bad_value, levels, then_value}},
   column_core.specs.Moves.{IsPlaceOf},
   multi_index.specs.Axes.{AxisValue, HaveLevels},
-  table_meaning.specs.{Settled.{IsSettled}, Table.{NumberedTable, Table, table_value, tuple_value, column_at}},
+  table_meaning.specs.Table.{NumberedTable, Table, table_value, tuple_value, column_at},
   form_meaning.specs.{Binding.{same_label}, Infix.{same_tuple, same_tuples}},
-  align_meaning.{specs.{Faults.{met_rows}, Targets.{reindexed}}, proofs.{SeenLaws.{gaps_seen, reindexed_seen}, FoundLaws.{reindexed_count, reindexed_below, repeat_given}}},
-  label_align.specs.{Answers.{AlignsBy, as_it_is as as_rows}, declared.fault.AlignFault.{AlignFault, TheVariants.{DuplicateLabels, TooLarge, NoMemory}}},
   select_meaning.specs.Set.{aligned_rows, aligned_column},
   frame_store.specs.{Parts.{axis_of}, Shown.{labels_value, cells_value}, declared.fault.OpFault.{OpFault}},
-  form_parts.{specs.{Makes.{MakesBy}, Faults.{align_refusal}}, proofs.{LabelLaws.{value_decides}, RowLaws.{tuple_by_number, tuples_settled}}},
-  selections.specs.Selected.{as_it_is},
+  form_parts.{specs.Makes.{MakesBy}, proofs.LabelLaws.{value_decides}},
 }
-use Rattle.row_keys.specs.Keys as numbers
-
-module _ (texts : List Text) (distinct : AreDistinct texts) (keys targets : List (List Label)) (given : IsSettled labels_value texts keys) (asked : IsSettled labels_value texts targets) where
-  -- rows that are found by numbers are those by texts
-  pub reindexed_by_number : reindexed same_tuple (labels_value texts keys) (labels_value texts targets) ≡ gaps_seen (tuple_value texts) (reindexed numbers.same_tuple keys targets)
-  reindexed_by_number =
-      reindexed_seen _ _ _ (λ x y. false) _ (λ x y. false) (λ x y f g. tuple_by_number _ x y distinct f g) (λ x y f g. refl)
-      _ (tuples_settled _ _ given) targets (tuples_settled _ _ asked)
-
-  abbrev pub found_rows : Result (List (Option ℕ)) FaultValue
-  found_rows = met_rows (reindexed same_tuple (labels_value texts keys) (labels_value texts targets))
-
-  pub rows_met : (rows : List (Option ℕ)) → reindexed numbers.same_tuple keys targets ≡ Ok rows → found_rows ≡ Ok rows
-  rows_met _ is = cc reindexed_by_number
-
-  pub rows_refused : (fault : AlignFault) → AlignsBy as_rows (Err fault) (reindexed numbers.same_tuple keys targets) → MakesBy as_it_is texts (Err (align_refusal fault)) found_rows
-  rows_refused (DuplicateLabels key) is =
-      let settled = repeat_given _ _ _ (IsSettled tuple_value texts) key (tuples_settled _ _ given) is in
-      (grind (arith, reindexed_by_number, gaps_seen), search)
-  rows_refused TooLarge is = grind (arith, reindexed_by_number, gaps_seen)
-  rows_refused NoMemory is = tt
-
--- as many rows as labels, and rows of the Series
-pub rows_counted : (keys targets : List (List Label)) (rows : List (Option ℕ)) → reindexed numbers.same_tuple keys targets ≡ Ok rows → length rows ≡ length targets
-rows_counted keys targets _ is = rw is at (reindexed_count numbers.same_tuple keys targets)
-
-pub rows_below : (keys targets : List (List Label)) (rows : List (Option ℕ)) → reindexed numbers.same_tuple keys targets ≡ Ok rows → All (IsPlaceOf (length keys)) rows
-rows_below keys targets _ is = rw is at (reindexed_below numbers.same_tuple keys targets)
 
 -- labels on other numbers of levels are others, unless there are none
 or_true : (b : Bool) → (b || true) ≡ true
@@ -116,7 +85,7 @@ module _ {C : Type 0} (na : C) (cells : List C) where
   each_row (row ∷ rows) = cc (each_row rows)
 
   whole_taken : (count : ℕ) → length cells ≡ count → taken na cells (map Some (range_with_len 0 count)) ≡ cells
-  whole_taken _ many = each_row _ ∙ sym (fill_by_all (λ row. slice_index_or cells row na) cells _ na many (λ row lt. refl))
+  whole_taken _ many = each_row _ ∙ sym (fill_by_all _ cells _ na many (λ row lt. refl))
 
 pub own_column : (level_count : ℕ) (labels : List (List LabelValue)) (s : Table) → same_tuples labels s.labels ≡ true → length (column_at s.columns 0).cells ≡ length s.labels → aligned_column level_count labels s ≡ Ok (column_at s.columns 0)
 own_column = search (own_rows, whole_taken)

@@ -8,3 +8,4 @@ pub mod PutCases
 pub mod PutLaws
 pub mod SetLaws
 pub mod TargetLaws
+pub mod Hints

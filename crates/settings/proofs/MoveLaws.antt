@@ -47,4 +47,4 @@ ended_beside old new _ on t (Some id) may put end = end ∙ (λ j other. (at oth
     at : (other : ℕ) → (if nat_eq id.0 other then None else new other) ≡ (if nat_eq on.0 other then Some t else (if nat_eq id.0 other then None else old other))
     at other =
         ap (λ f. if nat_eq id.0 other then None else f other) put
-        ∙ either_first _ _ _ _ _ (λ a b. may.1 (nat_same on.0 other b ∙ sym (nat_same id.0 other a)))
+        ∙ either_first _ _ _ _ _ (λ a b. may.1 (nat_same _ _ b ∙ sym (nat_same id.0 other a)))

@@ -28,6 +28,7 @@ use multi_index::Axis;
 use std::alloc::Global;
 
 // Whether the labels of one axis may be looked up on another: they have as many levels, or no row.
+#[tactic(auto, using(crate::proofs::AlignLaws::rows_apart))]
 fn may_meet(labels: &Axis, axis: &Axis) -> bool
     ensures meets { (texts : List OneText) → result
         ≡ same_tuples (labels_value texts labels.now.tuples) (labels_value texts axis.now.tuples)
@@ -38,6 +39,7 @@ fn may_meet(labels: &Axis, axis: &Axis) -> bool
 }
 
 // The row of a Series that each label of an axis takes, or a gap.
+#[tactic(auto, using(crate::proofs::Hints::aligned_rows))]
 fn aligned_rows(
     alloc: Global,
     dict: &TextDict,

@@ -82,6 +82,7 @@ fn expect_listed(rows: usize, columns: usize, count: usize) -> Result<(), OpFaul
 }
 
 // The axis of the rows that are reached.
+#[tactic(auto, using(crate::proofs::CellLaws::taken_reached))]
 fn reached_axis(
     alloc: Global,
     dict: &TextDict,
@@ -120,6 +121,7 @@ fn values_by_position(alloc: Global, count: usize, series: &ObjRef<'_>) -> Resul
 }
 
 // The cells of a Series, aligned to the labels of the rows that are reached.
+#[tactic(auto, using(crate::proofs::Hints::values_by_label))]
 fn values_by_label(
     alloc: Global,
     dict: &TextDict,
@@ -172,6 +174,7 @@ fn series_values(
 }
 
 // A value for each row and column that is reached, row by row.
+#[tactic(auto, using(crate::proofs::Hints::values_for))]
 pub(crate) fn values_for(
     alloc: Global,
     store: &Store,

@@ -39,6 +39,7 @@ fn axis_with(
 }
 
 // The columns with one more row of NA.
+#[tactic(auto, using(crate::proofs::GrowLaws::gap_more, crate::proofs::GrowLaws::gap_single))]
 fn columns_with_gap(alloc: Global, on: &ObjRef<'_>) -> Result<Blocks, NoMemory>
     ensures columns { IfOk result (λ made. map block_column made ≡ columns_with_gap on.now) }
     ensures single { IfOk result (λ made. All IsSingle made) }
@@ -93,6 +94,7 @@ fn new_column(
 }
 
 // The table with one more column of NA, where a label is added for it.
+#[tactic(auto, using(crate::proofs::GrowLaws::fresh_headed))]
 fn with_gap_column(
     alloc: Global,
     table: Table,
@@ -116,6 +118,7 @@ fn with_gap_column(
 }
 
 // The change that puts the values, and adds a row or a column where there is one to be added.
+#[tactic(auto, using(crate::proofs::Hints::filled))]
 pub(crate) fn filled(
     alloc: Global,
     dict: &TextDict,

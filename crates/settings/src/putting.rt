@@ -95,6 +95,7 @@ pub(crate) fn put_change(
 
 // The frame with the rows of an axis, in which its columns hold NA, and a column under a label at
 // a place.
+#[tactic(auto, using(crate::proofs::PutLaws::rows_whole))]
 pub(crate) fn rows_change(
     alloc: Global,
     on: &ObjRef<'_>,
@@ -120,6 +121,7 @@ pub(crate) fn rows_change(
 }
 
 // The scalars of a list, which go by rows; a frame without rows gets the labels 0, 1 and so on.
+#[tactic(auto, using(crate::proofs::PutCases::range_count))]
 fn list_change(
     alloc: Global,
     dict: &TextDict,

@@ -17,6 +17,7 @@ use std::alloc::Global;
 /// `WrongKind` where `on` is a scalar or a Series, and of a label that is no scalar; `NoKey`
 /// where no column has the label. `NoMemory` may come in place of any answer. After a refusal all
 /// objects are as they were.
+#[tactic(auto, using(crate::proofs::SetLaws::removed_headed))]
 pub fn remove(
     alloc: Global,
     store: &mut Store,

@@ -1,39 +1,39 @@
 -- `pd.concat` makes a valid table of valid ones.
 use Rattle.{
-  std.{proofs.{Common.{◌≡◌, ◌≢◌, ◌∙◌, refl, sym, ap, ℕ, suc, ◌+◌, ◌<◌, List, [], ◌∷◌, length, map, filter, length-append, arith}, lemmas.{Bool.{eqb-true, false≢true, Decides.{nat_tests}}, List.{length-map, FromFn.{length-map-range_with_len}, Elements.{All-nil, All-cons, All-head, All-tail, All-filter, All-append, filter_passes}, Kept.{AllPairs-cons, AllPairs-filter}}}}, specs.{Prelude.{Bool, true, false, not, nat_lt, fold, slice_index_or, unwrap_or, if◌then◌else◌, Option, Some, None, IsSome, IfSome, Result, Ok, Err, IfOk, All, AllPairs}, Bool.{Decides}, List.{list_all, flat_map, range_with_len}, Cmp.Lexicographic.{pointwise, as_long}}},
+  std.{proofs.{Common.{◌≡◌, ◌≢◌, ◌∙◌, refl, sym, ap, ℕ, suc, ◌+◌, ◌<◌, List, [], ◌∷◌, length, map, filter, length-append, arith}, lemmas.{Bool.{eqb-true, false≢true, Decides.{nat_tests}}, List.{length-map, FromFn.{length-map-range_with_len}, Elements.{All-nil, All-cons, All-head, All-tail, All-filter, All-append, filter_passes}, Kept.{AllPairs-cons, AllPairs-filter}}}}, specs.{Prelude.{Bool, true, false, not, nat_lt, fold, slice_index_or, unwrap_or, Option, Some, None, IsSome, IfSome, Result, IfOk, All}, Bool.{Decides}, List.{list_all, flat_map}, Cmp.Lexicographic.{as_long}}},
   cell_core.specs.declared.{cell.Kind.{Kind}, grid.Shape.{Shape, TheVariants.{Series, Frame}}},
-  meaning.specs.{Cell.{CellValue, LabelValue}, Column.{ColumnValue}, Fault.{FaultValue, bad_value, levels}, Reduce.{distinct}},
-  align_meaning.{specs.Targets.{rows_of_targets}, proofs.OrderLaws.{all_flat, all_distinct}},
+  meaning.specs.{Column.{ColumnValue}, Fault.{FaultValue}, Reduce.{distinct}},
+  align_meaning.proofs.OrderLaws.{all_flat, all_distinct},
   join_meaning.specs.Concat.{same_kind, united, labels_under},
-  table_meaning.{specs.{Table.{ColumnOf, Table, column_at}, Valid.{IsValid, AreHeadings}, Value.{Entry, Given, NamedGiven, list_in}}, proofs.KindLaws.{kind_is}},
-  form_meaning.specs.{Finish.{finished, same_heading, value_of_column, column_of_value}, Infix.{same_tuple, common_name}, Make.{on}},
-  method_meaning.specs.Concat.{Concatenation, tables_of, kept_names, level_names_of_all, columns_name_of_all, have_same_levels, labels_of_tables, RowAxis, rows_below, columns_below, column_under, column_or_missing, frame_column_below, is_series, table_below, finished_below, series_below, frames_below, are_series, are_frames, numbered_from, headings_beside, rows_met, columns_beside, table_beside, unless_label_twice, beside, with_keys, along, concatenated, concat_result, concat_call},
-  table_laws.{specs.Validity.{IsValidEntry, IsValidArgument, AreValidArguments}, proofs.{ListLaws.{both_true, all_pass, all_made, all_mapped, then_keeps, try_keeps, on_keeps, on_some_keeps, of_length_keeps}, CellLaws.{Held, na_held}, ColumnLaws.{IsColumn, spread_column}, TableLaws.{IsShaped, shaped, limited_keeps, column_of_table, series_heading, frame_headings, one_column}, HeadingLaws.{label_decides}, InfixLaws.{columns_on}, GroupLaws.{AreLabels, frame_keeps}, LevelLaws.{on_levels_keep}, SetLaws.{length_default, default_levels}, ArgumentLaws.{argument_valid}}},
+  table_meaning.{specs.{Table.{Table, column_at}, Valid.{IsValid, AreHeadings}, Value.{Entry, Given, NamedGiven, list_in}}, proofs.KindLaws.{kind_is}},
+  form_meaning.specs.{Finish.{finished, same_heading, value_of_column}, Infix.{same_tuple, common_name}},
+  method_meaning.specs.Concat.{Concatenation, tables_of, kept_names, level_names_of_all, columns_name_of_all, have_same_levels, labels_of_tables, RowAxis, rows_below, columns_below, column_under, column_or_missing, frame_column_below, is_series, table_below, finished_below, series_below, frames_below, are_series, are_frames, numbered_from, headings_beside, rows_met, columns_beside, table_beside, beside, with_keys, along, concatenated, concat_result, concat_call},
+  table_laws.{specs.Validity.{IsValidArgument, AreValidArguments}, proofs.{Words.{Keeps, Column, Name, Tuple, Cells, Apart, Levelled, IsFrame}, ListLaws.{both_true, all_pass, all_made, all_mapped, then_keeps, try_keeps, on_keeps, on_some_keeps, of_length_keeps}, ColumnLaws.{IsColumn, spread_column, Held, na_held}, TableLaws.{IsShaped, shaped, limited_keeps, column_of_table, series_heading, frame_headings, one_column, label_decides}, InfixLaws.{columns_on}, GroupLaws.{AreLabels, frame_keeps}, LevelLaws.{on_levels_keep}, SetLaws.{length_default, default_levels}, ArgumentLaws.{argument_valid}}},
 }
 
-abbrev Has : ℕ → List LabelValue → Type 0
+abbrev Has : ℕ → Tuple → Type 0
 Has n tuple = length tuple ≡ n
 
 abbrev AreShaped : List Table → Type 0
 AreShaped ts = All IsShaped ts
 
 -- the labels of all rows
-abbrev all_labels : List Table → List (List LabelValue)
+abbrev all_labels : List Table → List Tuple
 all_labels ts = flat_map (λ labels. labels) (labels_of_tables ts)
 
 -- columns one below the other
 
-abbrev AreColumns : (Table → ColumnOf CellValue) → List Table → Type 0
+abbrev AreColumns : (Table → Column) → List Table → Type 0
 AreColumns f ts = All (λ t. IsColumn (length t.labels) (f t)) ts
 
-module _ (f : Table → ColumnOf CellValue) where
+module _ (f : Table → Column) where
   abbrev Fits : Table → Type 0
   Fits t = IsColumn (length t.labels) (f t)
 
   abbrev parts : List Table → List ColumnValue
   parts ts = map value_of_column (map f ts)
 
-  abbrev cells : List Table → List CellValue
+  abbrev cells : List Table → Cells
   cells ts = flat_map (λ part. part.cells) (parts ts)
 
   cells_count : (ts : List Table) → AreColumns f ts → length (cells ts) ≡ length (all_labels ts)
@@ -50,36 +50,31 @@ module _ (f : Table → ColumnOf CellValue) where
 
   below_held : (ts : List Table) → AreColumns f ts → IfOk (columns_below (map f ts)) (IsColumn (length (all_labels ts)))
   below_held [] h = grind arith
-  below_held (t ∷ ts) h = by _ refl
-    where
-      by : (b : Bool) → list_all (λ other. same_kind (f t).kind other.kind) (parts ts) ≡ b
-          → IfOk (on (if b then Some record { kind = (f t).kind; cells = cells (t ∷ ts) } else None) (λ c. Ok (column_of_value c))) (IsColumn (length (all_labels (t ∷ ts))))
-      by true e = record {
-        filled = cells_count (t ∷ ts) h;
-        held = All-append (Held (f t).kind) (f t).cells (cells ts) (All-head Fits t ts h).held (cells_held _ ts (All-tail Fits t ts h) e);
-      }
-      by false e = tt
+  below_held (t ∷ ts) h =
+      let count = cells_count (t ∷ ts) h in
+      let all : list_all (λ other. same_kind (f t).kind other.kind) (parts ts) ≡ true → All (Held (f t).kind) (cells (t ∷ ts)) = λ e. All-append (Held (f t).kind) (f t).cells (cells ts) (All-head Fits t ts h).held (cells_held _ ts (All-tail Fits t ts h) e) in
+      grind arith
 
 below_is : (a b : ℕ) → nat_lt a b ≡ true → a < b
-below_is a b e = Prim.grind (arith, nat_tests)
+below_is a b e = grind (arith, nat_tests)
 
 or_else : {X : Type 0} (P : X → Type 0) (o : Option X) (x : X) → IfSome o P → P x → P (unwrap_or o x)
 or_else P = grind arith
 
-column_held : (h : Option LabelValue) (kind : Kind) (t : Table) → IsShaped t → IsColumn (length t.labels) (column_or_missing h kind t)
+column_held : (h : Name) (kind : Kind) (t : Table) → IsShaped t → IsColumn (length t.labels) (column_or_missing h kind t)
 column_held h kind t s = or_else (IsColumn (length t.labels)) (column_under h t) _ (grind (arith, below_is, column_of_table)) (spread_column _ _ _ (na_held kind))
 
-frame_column_held : (ts : List Table) (h : Option LabelValue) → AreShaped ts → IfOk (frame_column_below ts h) (IsColumn (length (all_labels ts)))
+frame_column_held : (ts : List Table) (h : Name) → AreShaped ts → IfOk (frame_column_below ts h) (IsColumn (length (all_labels ts)))
 frame_column_held = search (below_held, column_held)
 
 -- the names of levels
 
-kept_count : (as' bs : List (Option LabelValue)) → length (kept_names as' bs) ≡ length as'
+kept_count : (as' bs : List Name) → length (kept_names as' bs) ≡ length as'
 kept_count [] bs = refl
 kept_count (a ∷ as') [] = ap suc (kept_count as' [])
 kept_count (a ∷ as') (b ∷ bs) = ap suc (kept_count as' bs)
 
-fold_count : (names : List (Option LabelValue)) (more : List (List (Option LabelValue))) → length (fold kept_names names more) ≡ length names
+fold_count : (names : List Name) (more : List (List Name)) → length (fold kept_names names more) ≡ length names
 fold_count names [] = refl
 fold_count names (m ∷ more) = fold_count (kept_names names m) more ∙ kept_count _ m
 
@@ -87,46 +82,46 @@ names_count : (t : Table) (ts : List Table) → length (level_names_of_all (t �
 names_count = search fold_count
 
 -- Series have no name of columns
-no_common : (names : List (Option LabelValue)) → fold common_name None names ≡ None
+no_common : (names : List Name) → fold common_name None names ≡ None
 no_common [] = refl
 no_common (None ∷ names) = no_common names
 no_common (Some l ∷ names) = no_common names
 
 -- tables of so many levels
 abbrev HaveLevels : ℕ → List Table → Type 0
-HaveLevels n ts = All (λ t. All (Has n) t.labels) ts
+HaveLevels n ts = All (λ t. Levelled n t.labels) ts
 
 labels_have : (n : ℕ) (ts : List Table) → HaveLevels n ts → All (All (Has n)) (labels_of_tables ts)
-labels_have n ts h = all_made (λ t. All (Has n) t.labels) (All (Has n)) (λ t. t.labels) (λ t k. k) ts h
+labels_have n ts h = all_made (λ t. Levelled n t.labels) (All (Has n)) (λ t. t.labels) (λ t k. k) ts h
 
-all_have : (n : ℕ) (ts : List Table) → HaveLevels n ts → All (Has n) (all_labels ts)
+all_have : (n : ℕ) (ts : List Table) → HaveLevels n ts → Levelled n (all_labels ts)
 all_have n ts h = all_flat (Has n) _ (λ labels. labels) (λ labels k. k) (labels_of_tables ts) (labels_have n ts h)
 
 -- the labels of the parts
 
-under_count : (keys : List LabelValue) (ts : List Table) → length keys ≡ length ts → length (labels_under keys (labels_of_tables ts)) ≡ length (all_labels ts)
+under_count : (keys : Tuple) (ts : List Table) → length keys ≡ length ts → length (labels_under keys (labels_of_tables ts)) ≡ length (all_labels ts)
 under_count [] [] e = refl
 under_count [] (t ∷ ts) e = search
 under_count (key ∷ keys) [] e = search
-under_count (key ∷ keys) (t ∷ ts) e = search (length-map, length-append, under_count keys ts (Prim.omega (arith, e)))
+under_count (key ∷ keys) (t ∷ ts) e = search (length-map, length-append, under_count keys ts (omega (arith, e)))
 
-under_have : (n : ℕ) (keys : List LabelValue) (ts : List Table) → HaveLevels n ts → All (Has (suc n)) (labels_under keys (labels_of_tables ts))
+under_have : (n : ℕ) (keys : Tuple) (ts : List Table) → HaveLevels n ts → Levelled (suc n) (labels_under keys (labels_of_tables ts))
 under_have n [] ts h = All-nil (Has (suc n))
 under_have n (key ∷ keys) [] h = All-nil (Has (suc n))
 under_have n (key ∷ keys) (t ∷ ts) h =
-    All-append (Has (suc n)) (map (λ tuple. key ∷ tuple) t.labels) (labels_under keys (labels_of_tables ts))
-    (all_made _ (Has (suc n)) (λ tuple. key ∷ tuple) (λ tuple k. ap suc k) t.labels (All-head (λ t. All (Has n) t.labels) t ts h))
-    (under_have n keys ts (All-tail (λ t. All (Has n) t.labels) t ts h))
+    let first = all_made _ (Has (suc n)) (λ tuple. key ∷ tuple) (λ tuple k. ap suc k) t.labels (All-head (λ t. Levelled n t.labels) t ts h) in
+    let rest = under_have n keys ts (All-tail (λ t. Levelled n t.labels) t ts h) in
+    search All-append
 
 -- a label for each part
-abbrev AreKeys : ℕ → Bool → Option (List LabelValue) → Type 0
+abbrev AreKeys : ℕ → Bool → Option Tuple → Type 0
 AreKeys count renumbered keys = renumbered ≡ false → IfSome keys (λ ks. length ks ≡ count)
 
 record IsAxis (rows : ℕ) (a : RowAxis) : Type 0 where
   count : length a.labels ≡ rows
   levels : All (Has (length a.names)) a.labels
 
-axis_is : (t : Table) (ts : List Table) (renumbered : Bool) (keys : Option (List LabelValue)) → HaveLevels (length t.level_names) (t ∷ ts) → AreKeys (length (t ∷ ts)) renumbered keys
+axis_is : (t : Table) (ts : List Table) (renumbered : Bool) (keys : Option Tuple) → HaveLevels (length t.level_names) (t ∷ ts) → AreKeys (length (t ∷ ts)) renumbered keys
     → IsAxis (length (all_labels (t ∷ ts))) (rows_below renumbered keys (t ∷ ts))
 axis_is t ts true keys = search (length_default, default_levels)
 axis_is t ts false None = search (names_count, all_have)
@@ -151,11 +146,11 @@ all_frames = grind (arith, frame_is, all_pass)
 
 -- labels of columns that differ
 
-heading_decides : (a b : Option LabelValue) → Decides (same_heading a b) (a ≡ b)
+heading_decides : (a b : Name) → Decides (same_heading a b) (a ≡ b)
 heading_decides = grind (arith, label_decides)
 
 module _ {K : Type 0} (same : K → K → Bool) where
-  distinct_apart : ((a b : K) → Decides (same a b) (a ≡ b)) → (xs : List K) → AllPairs (λ a b. a ≢ b) (distinct same xs)
+  distinct_apart : ((a b : K) → Decides (same a b) (a ≡ b)) → (xs : List K) → Apart (distinct same xs)
   distinct_apart decides [] = grind arith
   distinct_apart decides (x ∷ xs) =
       let others = filter (λ q. not (same q x)) (distinct same xs) in
@@ -167,7 +162,7 @@ module _ {K : Type 0} (same : K → K → Bool) where
   united_all P true first others h = All-filter _ P _ (All-head (All P) first others h)
   united_all P false first others h = search (all_distinct, all_flat)
 
-  united_apart : ((a b : K) → Decides (same a b) (a ≡ b)) → (inner : Bool) (first : List K) (others : List (List K)) → AllPairs (λ a b. a ≢ b) first → AllPairs (λ a b. a ≢ b) (united same inner (first ∷ others))
+  united_apart : ((a b : K) → Decides (same a b) (a ≡ b)) → (inner : Bool) (first : List K) (others : List (List K)) → Apart first → Apart (united same inner (first ∷ others))
   united_apart decides true first others h = AllPairs-filter (λ a b. a ≢ b) _ _ h
   united_apart decides false first others h = search distinct_apart
 
@@ -182,21 +177,21 @@ module _ (t : Table) (ts : List Table) (s : AreShaped (t ∷ ts)) (c : Concatena
   first = grind arith
 
   module _ (levels : HaveLevels (length t.level_names) all) (keys : AreKeys (length all) c.renumbered c.keys) where
-    below_keeps : (shape : Shape) (headings : List (Option LabelValue)) (columns : List (ColumnOf CellValue)) → AreHeadings shape (columns_name_of_all all) headings → length headings ≡ length columns → All (IsColumn rows) columns
-        → IfOk (finished_below (table_below shape all c headings columns)) IsValidEntry
+    below_keeps : (shape : Shape) (headings : List Name) (columns : List Column) → AreHeadings shape (columns_name_of_all all) headings → length headings ≡ length columns → All (IsColumn rows) columns
+        → Keeps (finished_below (table_below shape all c headings columns))
     below_keeps = grind (arith, axis_is, on_levels_keep, limited_keeps)
 
-    series_keep : AreOf Series all → IfOk (series_below all c) IsValidEntry
+    series_keep : AreOf Series all → Keeps (series_below all c)
     series_keep are =
         let nameless : columns_name_of_all all ≡ None = grind (arith, no_common) in
         then_keeps _ _ _ _
-        (below_held (λ u. column_at u.columns 0) all (λ k d lt. let u = slice_index_or all k d in column_of_table u (s k d lt) 0 (Prim.omega (arith, one_column u (s k d lt) (are k d lt)))))
+        (below_held (λ u. column_at u.columns 0) all (λ k d lt. let u = slice_index_or all k d in column_of_table u (s k d lt) 0 (omega (arith, one_column u (s k d lt) (are k d lt)))))
         (λ column held. below_keeps _ _ (column ∷ []) (series_heading _ _ _ refl nameless) refl (All-cons (IsColumn rows) column [] held (All-nil (IsColumn rows))))
 
-    frames_keep : AreOf Frame all → IfOk (frames_below all c (united same_heading c.inner (map (λ u. u.headings) all))) IsValidEntry
+    frames_keep : AreOf Frame all → Keeps (frames_below all c (united same_heading c.inner (map (λ u. u.headings) all)))
     frames_keep are =
         let hs = united same_heading c.inner (map (λ u. u.headings) all) in
-        let labelled = all_made (λ u. IsShaped u × (u.shape ≡ Frame)) _ (λ u. u.headings) (λ u both. both.0.headings.labelled both.1) all (λ k d lt. (s k d lt, are k d lt)) in
+        let labelled = all_made (λ u. IsShaped u × (IsFrame u)) _ (λ u. u.headings) (λ u both. both.0.headings.labelled both.1) all (λ k d lt. (s k d lt, are k d lt)) in
         let some : All IsSome hs = search united_all in
         let apart = united_apart _ heading_decides c.inner _ _ (grind arith) in
         then_keeps (λ columns. (length columns ≡ length hs) × All (IsColumn rows) columns) _ _ _
@@ -205,79 +200,68 @@ module _ (t : Table) (ts : List Table) (s : AreShaped (t ∷ ts)) (c : Concatena
 
 -- side by side
 
-numbered_count : (n : ℕ) (hs : List (Option LabelValue)) → length (numbered_from n hs) ≡ length hs
+numbered_count : (n : ℕ) (hs : List Name) → length (numbered_from n hs) ≡ length hs
 numbered_count n [] = refl
 numbered_count n (None ∷ hs) = ap suc (numbered_count (n + 1) hs)
 numbered_count n (Some l ∷ hs) = ap suc (numbered_count n hs)
 
-numbered_some : (n : ℕ) (hs : List (Option LabelValue)) → AreLabels (numbered_from n hs)
+numbered_some : (n : ℕ) (hs : List Name) → AreLabels (numbered_from n hs)
 numbered_some n [] = All-nil IsSome
 numbered_some n (None ∷ hs) = grind (arith, numbered_some (n + 1) hs)
 numbered_some n (Some l ∷ hs) = grind (arith, numbered_some n hs)
 
-headings_count : (renumbered : Bool) (hs : List (Option LabelValue)) → length (headings_beside renumbered hs) ≡ length hs
+headings_count : (renumbered : Bool) (hs : List Name) → length (headings_beside renumbered hs) ≡ length hs
 headings_count = grind (arith, length-map-range_with_len, numbered_count)
 
-headings_some : (renumbered : Bool) (hs : List (Option LabelValue)) → AreLabels (headings_beside renumbered hs)
+headings_some : (renumbered : Bool) (hs : List Name) → AreLabels (headings_beside renumbered hs)
 headings_some true hs = search all_mapped
 headings_some false hs = numbered_some 0 hs
 
-met_count : (own labels : List (List LabelValue)) → length (rows_met own labels) ≡ length labels
-met_count own labels = by _ refl
-  where
-    by : (b : Bool) → pointwise same_tuple own labels ≡ b → length (if b then map Some (range_with_len 0 (length own)) else rows_of_targets same_tuple own labels) ≡ length labels
-    by true e = length-map-range_with_len _ 0 _ ∙ as_long same_tuple own labels e
-    by false e = length-map labels _
+met_count : (own labels : List Tuple) → length (rows_met own labels) ≡ length labels
+met_count own labels = grind (arith, length-map-range_with_len, as_long, length-map)
 
-beside_held : (labels : List (List LabelValue)) (t : Table) → IsShaped t → All (IsColumn (length labels)) (columns_beside labels t)
+beside_held : (labels : List Tuple) (t : Table) → IsShaped t → All (IsColumn (length labels)) (columns_beside labels t)
 beside_held labels t s = search (columns_on, met_count)
 
-beside_count : (labels : List (List LabelValue)) (ts : List Table) → AreShaped ts → length (flat_map (λ t. t.headings) ts) ≡ length (flat_map (columns_beside labels) ts)
+beside_count : (labels : List Tuple) (ts : List Table) → AreShaped ts → length (flat_map (λ t. t.headings) ts) ≡ length (flat_map (columns_beside labels) ts)
 beside_count labels [] s = refl
 beside_count labels (t ∷ ts) s =
     let own : length t.headings ≡ length (columns_beside labels t) = (All-head IsShaped t ts s).headed ∙ sym (length-map t.columns _) in
     grind (arith, length-append, beside_count labels ts (All-tail IsShaped t ts s))
 
 module _ (t : Table) (ts : List Table) (s : AreShaped (t ∷ ts)) (renumbered : Bool) where
-  beside_keeps : (labels : List (List LabelValue)) → All (Has (length t.level_names)) labels → IfOk (finished (table_beside (t ∷ ts) renumbered labels)) IsValidEntry
+  beside_keeps : (labels : List Tuple) → Levelled (length t.level_names) labels → Keeps (finished (table_beside (t ∷ ts) renumbered labels))
   beside_keeps labels has =
       let own : IsShaped t = grind arith in
       search (names_count, frame_keeps, headings_count, beside_count, all_flat, beside_held, headings_some)
 
-beside_all_keeps : (t : Table) (ts : List Table) (c : Concatenation) → AreShaped (t ∷ ts) → IfOk (beside (t ∷ ts) c) IsValidEntry
-beside_all_keeps t ts c s = by _ _ _ refl
-  where
-    all : List Table
-    all = t ∷ ts
-
-    by : (a e : Bool) (o : Option (List LabelValue)) → have_same_levels all ≡ e
-        → IfOk (if a then finished (table_beside all c.renumbered t.labels) else (if e then unless_label_twice o (finished (table_beside all c.renumbered (united same_tuple c.inner (labels_of_tables all)))) else Err (bad_value levels))) IsValidEntry
-    by true e o is = beside_keeps t ts s _ t.labels (All-head IsShaped t ts s).levels
-    by false false o is = tt
-    by false true (Some label) is = tt
-    by false true None is =
-        let n = length _ in
-        beside_keeps t ts s _ (united same_tuple c.inner (labels_of_tables all)) (united_all _ (Has n) _ _ _ (labels_have n all (grind (arith, all_pass, eqb-true))))
+beside_all_keeps : (t : Table) (ts : List Table) (c : Concatenation) → AreShaped (t ∷ ts) → Keeps (beside (t ∷ ts) c)
+beside_all_keeps t ts c s =
+    let n = length t.level_names in
+    let has : have_same_levels (t ∷ ts) ≡ true → All (Levelled n) (labels_of_tables (t ∷ ts)) = λ e. labels_have n (t ∷ ts) (grind (arith, all_pass, eqb-true)) in
+    let all : have_same_levels (t ∷ ts) ≡ true → Levelled n (united same_tuple c.inner (labels_of_tables (t ∷ ts))) = λ e. united_all same_tuple (Has n) c.inner _ _ (has e) in
+    let own = (All-head IsShaped t ts s).levels in
+    grind (arith, beside_keeps)
 
 -- along either axis
 
-along_keeps : (across : Bool) (t : Table) (ts : List Table) (c : Concatenation) → AreShaped (t ∷ ts) → AreKeys (length (t ∷ ts)) c.renumbered c.keys → IfOk (along across (t ∷ ts) c) IsValidEntry
+along_keeps : (across : Bool) (t : Table) (ts : List Table) (c : Concatenation) → AreShaped (t ∷ ts) → AreKeys (length (t ∷ ts)) c.renumbered c.keys → Keeps (along across (t ∷ ts) c)
 along_keeps true t ts c s keys = beside_all_keeps t ts c s
 along_keeps false t ts c s keys = grind (arith, series_keep, all_pass, eqb-true, all_series, frames_keep, all_frames)
 
-with_keys_keep : (count : ℕ) (across renumbered : Bool) (keys : Option (List LabelValue)) (rest : Result Entry FaultValue) → (AreKeys count renumbered keys → IfOk rest IsValidEntry) → IfOk (with_keys count across renumbered keys rest) IsValidEntry
+with_keys_keep : (count : ℕ) (across renumbered : Bool) (keys : Option Tuple) (rest : Result Entry FaultValue) → (AreKeys count renumbered keys → Keeps rest) → Keeps (with_keys count across renumbered keys rest)
 with_keys_keep = grind (arith, of_length_keeps)
 
-concatenated_keeps : (across : Bool) (ts : List Table) (c : Concatenation) → AreShaped ts → IfOk (concatenated across ts c) IsValidEntry
+concatenated_keeps : (across : Bool) (ts : List Table) (c : Concatenation) → AreShaped ts → Keeps (concatenated across ts c)
 concatenated_keeps across [] c s = tt
 concatenated_keeps across (t ∷ ts) c s = search (with_keys_keep, along_keeps)
 
 list_valid : (a : Given) → IsValidArgument a → IfSome (list_in a) (λ parts. All IsValid (tables_of parts))
 list_valid = grind arith
 
-pub concat_result_keeps : (objects axis join renumbered keys : Given) → IsValidArgument objects → IfOk (concat_result (objects ∷ axis ∷ join ∷ renumbered ∷ keys ∷ [])) IsValidEntry
+pub concat_result_keeps : (objects axis join renumbered keys : Given) → IsValidArgument objects → Keeps (concat_result (objects ∷ axis ∷ join ∷ renumbered ∷ keys ∷ []))
 concat_result_keeps objects axis join renumbered keys h = search (on_some_keeps, list_valid, on_keeps, concatenated_keeps, shaped)
 
 -- a call of `pd.concat`
-pub concat_call_keeps : (gs : List NamedGiven) → AreValidArguments gs → IfOk (concat_call gs) IsValidEntry
+pub concat_call_keeps : (gs : List NamedGiven) → AreValidArguments gs → Keeps (concat_call gs)
 concat_call_keeps gs h = grind (arith, concat_result_keeps, argument_valid)

@@ -1,14 +1,12 @@
 -- A file of comma-separated values reads as a valid frame.
 use Rattle.{
   std.{proofs.{Common.{◌≡◌, ◌≢◌, refl, ap, ℕ, suc, List, [], ◌∷◌, length, map, arith}, lemmas.{Bool.Decides.{nat_tests}, List.{length-map, Elements.{All-nil}, Kept.{AllPairs-cons}}, Map.Keys.{IsDistinct-head, IsDistinct-tail}, Slice.Eq.{bytes_eq-Decides}}}, specs.{Prelude.{Bool, true, false, if◌then◌else◌, slice_get, unwrap_or, Option, Some, None, IsSome, IfSome, Result, IfOk, All, AllPairs}, List.{IsDistinct, AllByRecursion}}},
-  csv.specs.Reading.{records},
   cell_core.specs.Texts.{with_text},
   meaning.specs.{Text.{Text, same_text}, Cell.{CellValue, na_cell, text_cell, LabelValue, text, Kind}, Cast.{cast_cell}},
   table_meaning.specs.Value.{Given, NamedGiven},
-  form_meaning.specs.{Signature.{function_named}, Functions.{make_result}},
   csv_meaning.{specs.CsvRead.{CsvValue, CsvRefusal, is_missing, cell_of_field, column_of_fields, columns_from, labels_after, labels_of, labelled_columns, columns_of_rows, columns_of_records, columns_of_file}, proofs.DifferentLaws.{labels_differ}},
-  method_meaning.specs.Readers.{frame_of_columns, frame_or_fault, csv_result, reads_file, read_result, make_with},
-  table_laws.{specs.Validity.{IsValidEntry}, proofs.{ListLaws.{both_true, both_ways, all_mapped}, CellLaws.{Held, cast_held}, ColumnLaws.{IsColumn}, TableLaws.{IsShaped, valid, frame_headings}, SetLaws.{length_default, default_levels}, MethodLaws.{on_bound_keeps}, MakeLaws.{make_result_keeps}}},
+  method_meaning.specs.Readers.{frame_of_columns, frame_or_fault, csv_result, read_result, make_with},
+  table_laws.{specs.Validity.{IsValidEntry}, proofs.{ListLaws.{both_true, both_ways, all_mapped, if_keeps}, ColumnLaws.{IsColumn, Held, cast_held}, TableLaws.{IsShaped, valid, frame_headings}, SetLaws.{length_default, default_levels}, MethodLaws.{on_bound_keeps}, MakeLaws.{make_result_keeps}}},
 }
 
 -- fields
@@ -93,8 +91,4 @@ read_result_keeps = search (on_bound_keeps, csv_result_keeps)
 -- a function of `pd`, with the file that it reads
 pub make_with_keeps : (file : Option (List ℕ)) (name : Text) (gs : List NamedGiven) → IfOk (make_with file name gs) IsValidEntry
 make_with_keeps None name gs = make_result_keeps name gs
-make_with_keeps (Some bytes) name gs = by (reads_file (function_named name))
-  where
-    by : (b : Bool) → IfOk (if b then read_result bytes gs else make_result name gs) IsValidEntry
-    by true = read_result_keeps bytes gs
-    by false = make_result_keeps name gs
+make_with_keeps (Some bytes) name gs = search (if_keeps, read_result_keeps, make_result_keeps)

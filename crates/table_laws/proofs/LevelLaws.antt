@@ -1,24 +1,25 @@
 -- Methods that give the rows other levels make valid tables of valid ones.
 use Rattle.{
-  std.{proofs.{Common.{◌≡◌, ◌∙◌, refl, sym, ℕ, ◌<◌, ◌≤◌, ◌+◌, List, length, map, length-append, arith}, lemmas.{Bool.Decides.{nat_tests}, List.{length-map, FromFn.{length-range_with_len}, Edits.{length-remove, length-swap}, Elements.{All-filter, All-append}}}}, specs.{Prelude.{remove, Option, Some, None, IsSome, Result, IfOk, All}, List.{range_with_len}}},
-  cell_core.specs.declared.grid.Shape.TheVariants.{Frame},
-  meaning.specs.{Cell.{CellValue, LabelValue, na_cell}, Operator.{cell_label}, Fault.{FaultValue, levels}},
-  pick_meaning.proofs.PositionLaws.{at_inside},
-  table_meaning.specs.{Table.{ColumnOf, RowOf, Table, rows_of}, Value.{Entry, Given}},
-  form_meaning.specs.{Finish.{first_repeated, limited}, Select.{columns_frame}, Set.{list_column}},
-  method_meaning.specs.{Rows.{cells_by_row}, Levels.{rename_axis_result, on_levels, indexed_by, index_set, set_index_result, renumbered, level_cells, level_labels, with_levels, levels_reset, level_of, of_several, level_dropped, droplevel_result, levels_swapped, swaplevel_result}},
-  table_laws.{specs.Validity.{IsValidEntry}, proofs.{ListLaws.{both_true, all_made, all_mapped, all_tabulated, then_keeps, try_keeps, of_length_keeps}, ColumnLaws.{IsColumn, list_keeps}, TableLaws.{IsShaped, limited_keeps, frame_headings}, HeadingLaws.{different, finished_keeps, found_within}, ReachLaws.{below_all, found_is}, RowLaws.{kept_shaped, rows_counted, anything}, SetLaws.{length_default, default_levels}}},
+  std.{proofs.{Common.{◌≡◌, ◌∙◌, refl, sym, ℕ, ◌<◌, ◌≤◌, ◌+◌, List, length, map, length-append, arith}, lemmas.{Bool.{eqb-true, Decides.{nat_tests}}, List.{length-map, FromFn.{length-range_with_len}, Edits.{length-remove, length-swap}, Elements.{All-filter, All-append, All-nil}}}}, specs.{Prelude.{remove, Option, Some, None, IsSome, Result, IfOk, All, true, IfSome}, List.{range_with_len}}},
+  meaning.specs.{Cell.{CellValue, LabelValue, na_cell}, Operator.{cell_label}, Fault.{FaultValue}},
+  pick_meaning.{proofs.{PositionLaws.{at_inside}, InsideLaws.{rows_inside}}, specs.{Labels.{unless_none}, Rows.{rows_where}}},
+  table_meaning.specs.{Table.{RowOf, Table, rows_of}, Value.{Entry, Given, GivenList, cell, table, nothing, one, row, many, entries, no_given, more_given}},
+  form_meaning.specs.{Finish.{first_repeated, limited, column_labels}, Select.{columns_frame, labels_of}, Set.{list_column}, Binding.{each, is_scalar, count_of}, Infix.{same_tuple}},
+  method_meaning.specs.{Rows.{cells_by_row}, Levels.{rename_axis_result, on_levels, indexed_by, index_set, set_index_result, renumbered, level_cells, level_labels, with_levels, levels_reset, level_of, of_several, level_dropped, droplevel_result, levels_swapped, swaplevel_result}, Section.{has_label, rows_with_label, section, xs_result}, Reindex.{rows_at, rows_reindexed, column_or_missing, columns_at, columns_reindexed, reindex_result}},
+  table_laws.{proofs.{Words.{Keeps, Column, Tuple, IsFrame, Below, Levelled}, ListLaws.{both_true, all_made, all_mapped, all_tabulated, then_keeps, try_keeps, of_length_keeps}, ColumnLaws.{IsColumn, list_keeps, spread_column, na_held}, TableLaws.{IsShaped, limited_keeps, frame_headings, column_of_table, different, finished_keeps, found_within}, ReachLaws.{below_all, found_is, rows_shaped}, RowLaws.{kept_shaped, rows_counted, anything}, SetLaws.{length_default, default_levels, met_keeps}, InfixLaws.{columns_on}}, specs.Validity.{IsValidEntry}},
+  select_meaning.specs.{Keys.{found_pick, whole_items}, Select.{rows_taken, row_name}},
+  align_meaning.{specs.{Faults.{AlignRefusal}, Targets.{reindexed}}, proofs.FoundLaws.{reindexed_count, reindexed_below}},
 }
 
-abbrev Has : ℕ → List LabelValue → Type 0
+abbrev Has : ℕ → Tuple → Type 0
 Has n tuple = length tuple ≡ n
 
 -- names of levels
-pub rename_axis_keeps : (t : Table) (names : Given) → IsShaped t → IfOk (rename_axis_result t names) IsValidEntry
+pub rename_axis_keeps : (t : Table) (names : Given) → IsShaped t → Keeps (rename_axis_result t names)
 rename_axis_keeps = grind (arith, of_length_keeps, limited_keeps)
 
 -- columns as labels
-pub on_levels_keep : (count : ℕ) (rest : Result Entry FaultValue) → (1 ≤ count → count ≤ 4 → IfOk rest IsValidEntry) → IfOk (on_levels count rest) IsValidEntry
+pub on_levels_keep : (count : ℕ) (rest : Result Entry FaultValue) → (1 ≤ count → count ≤ 4 → Keeps rest) → Keeps (on_levels count rest)
 on_levels_keep = grind (arith, nat_tests, both_true)
 
 pub row_has : (t : Table) (places : List ℕ) → All (λ (r : RowOf LabelValue CellValue). length r.cells ≡ length places) (rows_of na_cell (columns_frame t places))
@@ -26,62 +27,48 @@ row_has = search (all_tabulated, length-map)
 
 tuples_have : (t : Table) (places : List ℕ) → All (Has (length (indexed_by t places).level_names)) (indexed_by t places).labels
 tuples_have t places =
-    all_made (λ cells. length cells ≡ length places) (Has (length (indexed_by t places).level_names)) _ (λ cells h. length-map cells _ ∙ h ∙ sym (length-map places _)) (cells_by_row t places)
-    (all_made (λ r. length r.cells ≡ length places) (λ cells. length cells ≡ length places) (λ r. r.cells) (λ r h. h) (rows_of na_cell (columns_frame t places)) (row_has t _))
+    let rows = all_made (λ r. length r.cells ≡ length places) (λ cells. length cells ≡ length places) (λ r. r.cells) (λ r h. h) (rows_of na_cell (columns_frame t places)) (row_has t _) in
+    search (all_made, length-map)
 
-indexed_shaped : (t : Table) (places : List ℕ) → IsShaped t → t.shape ≡ Frame → 1 ≤ length places → length places ≤ 4 → first_repeated (indexed_by t places).headings ≡ None → IsShaped (indexed_by t places)
+indexed_shaped : (t : Table) (places : List ℕ) → IsShaped t → IsFrame t → 1 ≤ length places → length places ≤ 4 → first_repeated (indexed_by t places).headings ≡ None → IsShaped (indexed_by t places)
 indexed_shaped t places s is some few none =
     let k = kept_shaped t _ s is (All-filter _ (λ place. place < length t.columns) _ (below_all _)) none in
     let names : length places ≡ length (indexed_by t places).level_names = search length-map in
     let rows = sym (length-map (cells_by_row t places) (map cell_label) ∙ rows_counted t _) in
-    record {
-      some = grind arith;
-      few = grind arith;
-      levels = tuples_have t _;
-      headed = k.headed;
-      columns = grind arith;
-      headings = k.headings;
-    }
+    let levels = tuples_have t places in
+    grind arith
 
-index_set_keeps : (t : Table) (places : List ℕ) → IsShaped t → t.shape ≡ Frame → IfOk (index_set t places) IsValidEntry
+index_set_keeps : (t : Table) (places : List ℕ) → IsShaped t → IsFrame t → Keeps (index_set t places)
 index_set_keeps = grind (arith, on_levels_keep, limited_keeps, indexed_shaped)
 
-pub set_index_keeps : (t : Table) (keys : Given) → IsShaped t → t.shape ≡ Frame → IfOk (set_index_result t keys) IsValidEntry
+pub set_index_keeps : (t : Table) (keys : Given) → IsShaped t → IsFrame t → Keeps (set_index_result t keys)
 set_index_keeps = grind (arith, then_keeps, anything, index_set_keeps)
 
 -- the labels 0, 1 and so on
 renumbered_shaped : (t : Table) → IsShaped t → IsShaped (renumbered t)
 renumbered_shaped = grind (arith, default_levels, length_default)
 
-pub renumbered_keeps : (t : Table) → IsShaped t → IfOk (limited (renumbered t)) IsValidEntry
+pub renumbered_keeps : (t : Table) → IsShaped t → Keeps (limited (renumbered t))
 renumbered_keeps t s = limited_keeps _ (renumbered_shaped t s)
 
 -- levels as columns
 level_keeps : (t : Table) (level : ℕ) → IfOk (list_column (level_cells t level)) (IsColumn (length t.labels))
 level_keeps = grind (arith, length-map, list_keeps)
 
-with_levels_shaped : (t : Table) (columns : List (ColumnOf CellValue)) → IsShaped t → t.shape ≡ Frame → length columns ≡ length t.level_names → All (IsColumn (length t.labels)) columns → first_repeated (with_levels t columns).headings ≡ None
+with_levels_shaped : (t : Table) (columns : List Column) → IsShaped t → IsFrame t → length columns ≡ length t.level_names → All (IsColumn (length t.labels)) columns → first_repeated (with_levels t columns).headings ≡ None
     → IsShaped (with_levels t columns)
 with_levels_shaped t columns s is size h none =
     let r = renumbered_shaped t s in
     let own = map (λ l. Some l) (level_labels t) in
     let count : length own ≡ length columns = grind (arith, length-map, length-range_with_len) in
     let some = All-append IsSome own t.headings (all_mapped IsSome (λ l. Some l) (λ l. refl) (level_labels t)) (s.headings.labelled is) in
-    record {
-      some = r.some;
-      few = r.few;
-      levels = r.levels;
-      headed = grind (arith, length-append);
-      columns = All-append (IsColumn (length (renumbered t).labels)) columns t.columns (search length_default) r.columns;
-      headings = search (frame_headings, different);
-    }
+    let all = All-append (IsColumn (length (renumbered t).labels)) columns t.columns (search length_default) r.columns in
+    grind (arith, length-append, frame_headings, different)
 
-pub levels_reset_keeps : (t : Table) → IsShaped t → t.shape ≡ Frame → IfOk (levels_reset t) IsValidEntry
+pub levels_reset_keeps : (t : Table) → IsShaped t → IsFrame t → Keeps (levels_reset t)
 levels_reset_keeps t s is =
-    let levels = range_with_len 0 (length _) in
-    then_keeps (λ columns. (length columns ≡ length levels) × All (IsColumn (length t.labels)) columns) _ _ _
-    (try_keeps (λ level. Unit {0}) _ (λ level. list_column (level_cells t level)) (λ level h. level_keeps t _) levels _)
-    (λ columns made. finished_keeps _ (with_levels_shaped t _ s is (made.0 ∙ length-range_with_len 0 _) made.1))
+    let made = try_keeps (λ level. Unit {0}) (IsColumn (length t.labels)) (λ level. list_column (level_cells t level)) (λ level h. level_keeps t _) (range_with_len 0 (length t.level_names)) (λ k d lt. tt) in
+    grind (arith, finished_keeps, with_levels_shaped, length-range_with_len)
 
 -- a level that is named stands there
 abbrev pub IsLevel : Table → ℕ → Type 0
@@ -94,7 +81,7 @@ level_of_keeps = grind (arith, found_is, at_inside, found_within)
 pub of_several_keeps : {A : Type 0} (P : A → Type 0) (t : Table) (rest : Result A FaultValue) → (2 ≤ length t.level_names → IfOk rest P) → IfOk (of_several t rest) P
 of_several_keeps P = grind (arith, nat_tests)
 
-dropped_has : (t : Table) (level : ℕ) → IsLevel t level → (tuple : List LabelValue) → length tuple ≡ length t.level_names → Has (length (remove t.level_names level)) (remove tuple level)
+dropped_has : (t : Table) (level : ℕ) → IsLevel t level → (tuple : Tuple) → length tuple ≡ length t.level_names → Has (length (remove t.level_names level)) (remove tuple level)
 dropped_has = grind (arith, length-remove)
 
 pub dropped_shaped : (t : Table) (level : ℕ) → IsShaped t → IsLevel t level → 2 ≤ length t.level_names → IsShaped (level_dropped t level)
@@ -109,7 +96,7 @@ dropped_shaped t level s lt several =
       headings = s.headings;
     }
 
-pub droplevel_keeps : (t : Table) (level : Option CellValue) → IsShaped t → IfOk (droplevel_result t level) IsValidEntry
+pub droplevel_keeps : (t : Table) (level : Option CellValue) → IsShaped t → Keeps (droplevel_result t level)
 droplevel_keeps t level s =
     then_keeps _ _ _ _ (level_of_keeps t level)
     (λ k lt. of_several_keeps _ t _ (λ several. limited_keeps (level_dropped t k) (dropped_shaped t k s lt several)))
@@ -127,7 +114,92 @@ swapped_shaped t i j s =
       headings = s.headings;
     }
 
-pub swaplevel_keeps : (t : Table) (first second : Option CellValue) → IsShaped t → IfOk (swaplevel_result t first second) IsValidEntry
-swaplevel_keeps t first second s =
-    then_keeps (IsLevel t) _ _ _ (level_of_keeps t first)
-    (λ i here. then_keeps (IsLevel t) IsValidEntry _ _ (level_of_keeps t second) (λ j there. limited_keeps _ (swapped_shaped t i j s)))
+pub swaplevel_keeps : (t : Table) (first second : Option CellValue) → IsShaped t → Keeps (swaplevel_result t first second)
+swaplevel_keeps = grind (arith, level_of_keeps, then_keeps, limited_keeps, swapped_shaped)
+
+-- `xs`
+-- the rows lie in the table
+some_inside : (P : List ℕ → Type 0) (key : Tuple) (rows : List ℕ) → P rows → IfOk (found_pick (unless_none key rows)) P
+some_inside P = grind arith
+
+section_keeps : (t : Table) (l : LabelValue) (level : ℕ) → IsShaped t → IsLevel t level → 2 ≤ length t.level_names → Keeps (section t l level)
+section_keeps t l level s lt several =
+    let rows = rows_where (has_label level l) 0 t.labels in
+    then_keeps (λ rows. Below (length t.labels) rows) _ (rows_with_label t l level) _
+    (search (some_inside, rows_inside))
+    (λ rows inside. limited_keeps (level_dropped (rows_taken t rows) level) (search (dropped_shaped, rows_shaped)))
+
+pub xs_keeps : (t : Table) (key : CellValue) (level : Option CellValue) → IsShaped t → Keeps (xs_result t key level)
+xs_keeps t key level s =
+    of_several_keeps IsValidEntry t _
+    (λ several. then_keeps _ _ _ _ (level_of_keeps t level) (λ k lt. section_keeps t _ k s lt several))
+
+-- `reindex`
+-- each item of a list has a label for each level
+labels_count : (parts : GivenList) → each is_scalar parts ≡ true → length (labels_of parts) ≡ count_of parts
+labels_count no_given h = refl
+labels_count (more_given (one (cell c)) rest) h = grind (arith, labels_count rest h)
+labels_count (more_given (one (table t)) rest) h = cc
+labels_count (more_given nothing rest) h = cc
+labels_count (more_given (row parts) rest) h = cc
+labels_count (more_given (many parts) rest) h = cc
+labels_count (more_given (entries pairs) rest) h = cc
+
+items_have : (n : ℕ) (items : GivenList) → IfOk (whole_items n items) (All (Has n))
+items_have n no_given = All-nil (Has n)
+items_have n (more_given g rest) = grind (arith, then_keeps, eqb-true, both_true, labels_count, items_have n rest)
+
+rows_reindexed_keeps : (t : Table) (labels : List Tuple) → IsShaped t → Levelled (length t.level_names) labels → Keeps (rows_reindexed t labels)
+rows_reindexed_keeps t labels s has =
+    then_keeps (λ rows. length rows ≡ length labels) IsValidEntry _ _
+    (search (met_keeps, reindexed_count))
+    (λ rows count. limited_keeps (rows_at na_cell t labels rows) (search (length-map, columns_on)))
+
+-- columns
+column_or_missing_keeps : (t : Table) (place : Option ℕ) → IsShaped t → IfSome place (λ k. k < length t.columns) → IsColumn (length t.labels) (column_or_missing na_cell t place)
+column_or_missing_keeps t None s inside = search (spread_column, na_held)
+column_or_missing_keeps t (Some place) s inside = column_of_table t s place inside
+
+name_there : (tuple : Tuple) → Has 1 tuple → IsSome (row_name tuple)
+name_there = grind arith
+
+abbrev ArePlaces : Table → List Tuple → List (Option ℕ) → Type 0
+ArePlaces t labels places = (length places ≡ length labels) × All (λ place. IfSome place (λ k. k < length t.columns)) places
+
+columns_at_shaped : (t : Table) (labels : List Tuple) (places : List (Option ℕ)) → IsShaped t → IsFrame t → Levelled 1 labels → ArePlaces t labels places → first_repeated (map row_name labels) ≡ None
+    → IsShaped (columns_at na_cell t (map row_name labels) places)
+columns_at_shaped t labels places s is has found none =
+    let some : All IsSome (map row_name labels) = search (all_made, name_there) in
+    record {
+      some = s.some;
+      few = s.few;
+      levels = s.levels;
+      headed = grind (arith, length-map);
+      columns = search (all_made, column_or_missing_keeps);
+      headings = search (frame_headings, different);
+    }
+
+both_hold : {A : Type 0} (P Q : A → Type 0) (r : Result A (AlignRefusal Tuple)) → IfOk r P → IfOk r Q → IfOk r (λ a. P a × Q a)
+both_hold P Q = grind arith
+
+places_found : (t : Table) (labels : List Tuple) → IsShaped t → IfOk (reindexed same_tuple (column_labels t) labels) (ArePlaces t labels)
+places_found t labels s =
+    let count : length (column_labels t) ≡ length t.columns = search length-map in
+    both_hold (λ places. length places ≡ length labels) _ _
+    (reindexed_count same_tuple _ labels)
+    (grind (arith, reindexed_below same_tuple (column_labels t) labels))
+
+columns_reindexed_keeps : (t : Table) (labels : List Tuple) → IsShaped t → IsFrame t → Levelled 1 labels → Keeps (columns_reindexed t labels)
+columns_reindexed_keeps t labels s is has =
+    then_keeps (ArePlaces t labels) IsValidEntry _ _
+    (search (met_keeps, places_found))
+    (λ places found. finished_keeps _ (columns_at_shaped t labels places s is has found))
+
+-- of a list of labels
+pub reindex_keeps : (t : Table) (rows columns : Option GivenList) → IsShaped t → (IsSome columns → IsFrame t) → Keeps (reindex_result t rows columns)
+reindex_keeps t (Some items) None s is =
+    then_keeps _ _ _ _ (items_have _ items) (λ labels has. rows_reindexed_keeps t labels s has)
+reindex_keeps t None (Some items) s is =
+    then_keeps _ _ _ _ (items_have 1 items) (λ labels has. columns_reindexed_keeps t labels s (is refl) has)
+reindex_keeps t None None s is = tt
+reindex_keeps t (Some items) (Some others) s is = tt

@@ -1,6 +1,6 @@
 -- Laws of lists, and of what is made of them one by one.
 use Rattle.{
-  std.{proofs.{Common.{◌≡◌, refl, ap, ℕ, zero, suc, List, [], ◌∷◌, ◌++◌, length, map, arith, take, drop}, lemmas.{Bool.{eqb-true}, List.{length-set, length-append, FromFn.{length-map-range_with_len}, Elements.{All-nil, All-cons, All-head, All-tail, All-set, All-push, All-append, All-take, All-drop}}}}, specs.{Prelude.{Bool, true, false, ◌&&◌, if◌then◌else◌, remove, slice_set, slice_index_or, Option, Result, IfOk, IfSome, All}, List.{list_all}}},
+  std.{proofs.{Common.{◌≡◌, refl, ap, ℕ, zero, suc, List, [], ◌∷◌, length, map, arith, take, drop}, lemmas.{Bool.{eqb-true}, List.{length-set, length-append, FromFn.{length-map-range_with_len}, Elements.{All-nil, All-cons, All-head, All-tail, All-set, All-push, All-append, All-take, All-drop}}}}, specs.{Prelude.{Bool, true, false, ◌&&◌, if◌then◌else◌, remove, slice_index_or, Option, Result, Err, IfOk, IfSome, All}, List.{list_all}}},
   meaning.specs.{Fault.{FaultValue, then_value}, Column.{tabulate, then_rows, try_each, try_pairs}},
   table_meaning.specs.Change.{put_at},
   form_meaning.specs.{Finish.{try_all}, Set.{of_length}, Make.{on}},
@@ -22,9 +22,6 @@ pub all_made : {X Y : Type 0} (P : X → Type 0) (Q : Y → Type 0) (f : X → Y
 all_made P Q f so [] h = All-nil Q
 all_made P Q f so (x ∷ xs) h = All-cons Q (f x) (map f xs) (so x (All-head P x xs h)) (all_made P Q f so xs (All-tail P x xs h))
 
-pub all_any : {X : Type 0} (P : X → Type 0) → ((x : X) → P x) → (xs : List X) → All P xs
-all_any P = search
-
 -- what a function makes of any
 pub all_mapped : {X Y : Type 0} (Q : Y → Type 0) (f : X → Y) → ((x : X) → Q (f x)) → (xs : List X) → All Q (map f xs)
 all_mapped {X = X} Q f so xs = all_made (λ x. Unit {0}) Q f (λ x _. so x) xs (λ k d lt. tt)
@@ -44,6 +41,14 @@ at_or P (x ∷ xs) (suc k) d none h = at_or P xs k d none (All-tail P x xs h)
 -- the value goes on
 pub then_keeps : {A B : Type 0} (P : A → Type 0) (Q : B → Type 0) (r : Result A FaultValue) (go : A → Result B FaultValue) → IfOk r P → ((a : A) → P a → IfOk (go a) Q) → IfOk (then_value r go) Q
 then_keeps P Q = grind arith
+
+-- what a test says
+pub if_keeps : {A : Type 0} (P : A → Type 0) (b : Bool) (x y : Result A FaultValue) → (b ≡ true → IfOk x P) → (b ≡ false → IfOk y P) → IfOk (if b then x else y) P
+if_keeps P = grind arith
+
+-- a test that must pass
+pub where_keeps : {A : Type 0} (P : A → Type 0) (b : Bool) (x : Result A FaultValue) (fault : FaultValue) → (b ≡ true → IfOk x P) → IfOk (if b then x else Err fault) P
+where_keeps P = grind arith
 
 -- what follows where something is given
 pub on_some_keeps : {A B : Type 0} (P : A → Type 0) (Q : B → Type 0) (o : Option A) (go : A → Result B FaultValue) → IfSome o P → ((a : A) → P a → IfOk (go a) Q) → IfOk (on o go) Q
@@ -78,19 +83,15 @@ pub pairs_keep : {A B C : Type 0} (P : A → Type 0) (R : B → Type 0) (Q : C �
 pairs_keep P R Q f so row zero [] [] e g h k = (refl, All-nil Q)
 pairs_keep P R Q f so row (suc n) (x ∷ xs) (y ∷ ys) e g h k =
     rows_keep Q n _ _ _ (so x y (All-head P x xs h) (All-head R y ys k))
-    (pairs_keep P R Q f so (suc row) n xs ys (Prim.omega arith) (Prim.omega arith) (All-tail P x xs h) (All-tail R y ys k))
-pairs_keep P R Q f so row zero [] (y ∷ ys) e g h k = grind arith
-pairs_keep P R Q f so row zero (x ∷ xs) ys e g h k = grind arith
-pairs_keep P R Q f so row (suc n) [] ys e g h k = grind arith
-pairs_keep P R Q f so row (suc n) (x ∷ xs) [] e g h k = grind arith
+    (pairs_keep P R Q f so (suc row) n xs ys (omega arith) (omega arith) (All-tail P x xs h) (All-tail R y ys k))
+pairs_keep P R Q f so row n xs ys e g h k = grind arith
 
 -- an item that is put at a place, or last
 pub All-put_at : {X : Type 0} (P : X → Type 0) (xs : List X) (place : ℕ) (x : X) → All P xs → P x → All P (put_at xs place x)
-All-put_at P xs place x all here = go _
-  where
-    go : (b : Bool) → All P (if b then slice_set xs place x else xs ++ x ∷ [])
-    go true = All-set P xs _ x here all
-    go false = All-push P xs x all here
+All-put_at P xs place x all here =
+    let set = All-set P xs place x here all in
+    let pushed = All-push P xs x all here in
+    grind arith
 
 pub length-put_at : {X Y : Type 0} (xs : List X) (ys : List Y) (place : ℕ) (x : X) (y : Y) → length xs ≡ length ys → length (put_at xs place x) ≡ length (put_at ys place y)
 length-put_at = grind (arith, length-set, length-append)

@@ -1,12 +1,12 @@
 -- Methods make valid tables of valid ones.
 use Rattle.{
-  std.{proofs.{Common.{◌≡◌, ◌∙◌, refl, sym, ℕ, pos, List, [], ◌∷◌, length, map, arith}, lemmas.List.{length-map, Elements.{All-head, All-tail}}}, specs.Prelude.{Bool, true, false, if◌then◌else◌, unwrap_or, Option, Some, None, IsSome, Result, Err, IfOk, All}},
+  std.{proofs.{Common.{◌≡◌, ◌∙◌, refl, sym, ℕ, pos, List, [], ◌∷◌, length, map, arith}, lemmas.List.{length-map, Elements.{All-head, All-tail}}}, specs.Prelude.{Bool, true, false, unwrap_or, Some, None, IsSome, Result, IfOk, All}},
   cell_core.specs.declared.grid.Shape.{Shape, TheVariants.{Series, Frame}},
-  meaning.specs.{Text.{Text}, Cell.{CellValue, LabelValue, int, Kind}, Fault.{FaultValue, wrong_kind}},
-  table_meaning.{specs.{Table.{ColumnOf, Table, column_at}, Value.{Entry, Given, NamedGiven}}, proofs.KindLaws.{kind_is}},
-  form_meaning.{specs.{declared.Method.{Method}, Signature.{method_names, fits_shape}, Binding.{Bound, on_bound}, Finish.{first_repeated, limited, finished, across_columns}}, proofs.ShapeLaws.{named_fits, of_series, of_frame}},
+  meaning.specs.{Text.{Text}, Cell.{LabelValue, int, Kind}, Fault.{FaultValue}},
+  table_meaning.{specs.{Table.{Table, column_at}, Value.{Entry, Given, NamedGiven}}, proofs.KindLaws.{kind_is}},
+  form_meaning.{specs.{declared.Method.{Method}, Signature.{method_names, fits_shape}, Binding.{Bound, on_bound}, Finish.{limited, across_columns}}, proofs.ShapeLaws.{named_fits, of_series, of_frame}},
   method_meaning.specs.{Methods.{each_column, Summary, summary_cell, summary_kind, kind_for, summary_as, summary_of, summary, renamed_series, renamed_heading, renamed_frame, as_frame, reset_index_result, csv_answer, answer_for}, Calls.{method_result, ChainValue, chain_result}},
-  table_laws.{specs.Validity.{IsValidObject, IsValidEntry}, proofs.{ListLaws.{all_made, all_mapped, then_keeps, try_keeps, on_keeps}, CellLaws.{Held, held_cell, wrap_fits, reduction_held}, ColumnLaws.{IsColumn, column_answers}, TableLaws.{IsShaped, shaped, limited_keeps, with_columns_shaped, column_of_table, series_heading, frame_headings, one_column}, HeadingLaws.{different, finished_keeps}, RowLaws.{head_keeps, tail_keeps, dropna_keeps, duplicated_keeps, sort_values_keeps, sort_by_keeps, sorted_keeps, drop_keeps}, GroupLaws.{grouped_result_keeps}, LevelLaws.{rename_axis_keeps, set_index_keeps, renumbered_keeps, levels_reset_keeps, droplevel_keeps, swaplevel_keeps}, ReindexLaws.{reindex_keeps}, SectionLaws.{xs_keeps}}},
+  table_laws.{specs.Validity.{IsValidObject, IsValidEntry}, proofs.{Words.{Keeps, Column, Name, Cells, IsFrame, IsSeries}, ListLaws.{all_made, all_mapped, then_keeps, try_keeps, on_keeps}, ColumnLaws.{IsColumn, column_answers, Held, held_cell, wrap_fits, reduction_held}, TableLaws.{IsShaped, shaped, limited_keeps, with_columns_shaped, column_of_table, series_heading, frame_headings, one_column, different, finished_keeps}, RowLaws.{head_keeps, tail_keeps, dropna_keeps, duplicated_keeps, sort_values_keeps, sort_by_keeps, sorted_keeps, drop_keeps}, GroupLaws.{grouped_result_keeps}, LevelLaws.{rename_axis_keeps, set_index_keeps, renumbered_keeps, levels_reset_keeps, droplevel_keeps, swaplevel_keeps, xs_keeps, reindex_keeps}}},
 }
 use Rattle.form_meaning.specs.declared.Method.TheVariants as method
 use Rattle.form_meaning.specs.declared.ColumnMethod.TheVariants as column_method
@@ -16,25 +16,24 @@ use Rattle.form_meaning.specs.declared.LabelMethod.TheVariants as label_method
 use Rattle.form_meaning.specs.declared.TableMethod.TheVariants as table_method
 
 -- each column by itself
-each_keeps : (f : ColumnOf CellValue → Result (ColumnOf CellValue) FaultValue) (t : Table) → IsShaped t → ((rows : ℕ) (c : ColumnOf CellValue) → IsColumn rows c → IfOk (f c) (IsColumn rows)) → IfOk (each_column f t) IsValidEntry
+each_keeps : (f : Column → Result Column FaultValue) (t : Table) → IsShaped t → ((rows : ℕ) (c : Column) → IsColumn rows c → IfOk (f c) (IsColumn rows)) → Keeps (each_column f t)
 each_keeps f t s so =
-    then_keeps (λ columns. (length columns ≡ length _) × All (IsColumn (length t.labels)) columns) _ _ _
-    (try_keeps _ _ f (so (length t.labels)) t.columns s.columns)
-    (λ columns made. limited_keeps _ (with_columns_shaped t s columns made.0 made.1))
+    let made = try_keeps _ _ f (so (length t.labels)) t.columns s.columns in
+    grind (arith, limited_keeps, with_columns_shaped)
 
 -- summaries
 
-series_shaped : (t : Table) (kind : Kind) (cells : List CellValue) → length cells ≡ length t.headings → All (Held kind) cells → IsShaped (across_columns t None kind cells)
+series_shaped : (t : Table) (kind : Kind) (cells : Cells) → length cells ≡ length t.headings → All (Held kind) cells → IsShaped (across_columns t None kind cells)
 series_shaped t kind cells size h = record {
-  some = Prim.omega arith;
-  few = Prim.omega arith;
+  some = omega arith;
+  few = omega arith;
   levels = search all_mapped;
   headed = refl;
   columns = grind (arith, length-map);
   headings = search series_heading;
 }
 
-summary_of_keeps : (p : Shape) (op : Summary) (t : Table) → IsShaped t → t.shape ≡ p → IfOk (summary_of p op t) IsValidEntry
+summary_of_keeps : (p : Shape) (op : Summary) (t : Table) → IsShaped t → t.shape ≡ p → Keeps (summary_of p op t)
 summary_of_keeps Series op t s is =
     let c = column_at t.columns 0 in
     then_keeps (Held (summary_kind op c.kind)) IsValidEntry (summary_cell op c) _ (grind (arith, reduction_held, wrap_fits, column_of_table, one_column))
@@ -45,34 +44,23 @@ summary_of_keeps Frame op t s is =
     (try_keeps (λ c. All (Held c.kind) c.cells) (Held kind) (summary_as op kind) (grind (arith, kind_is, reduction_held, wrap_fits)) t.columns (grind arith))
     (λ cells made. limited_keeps _ (series_shaped t kind cells (made.0 ∙ sym s.headed) made.1))
 
-summary_keeps : (op : Summary) (t : Table) → IsShaped t → IfOk (summary op t) IsValidEntry
+summary_keeps : (op : Summary) (t : Table) → IsShaped t → Keeps (summary op t)
 summary_keeps = search summary_of_keeps
 
 -- names
 
-renamed_series_keeps : (t : Table) (name : Option LabelValue) → IsShaped t → t.shape ≡ Series → IfOk (limited (renamed_series t name)) IsValidEntry
+renamed_series_keeps : (t : Table) (name : Name) → IsShaped t → IsSeries t → Keeps (limited (renamed_series t name))
 renamed_series_keeps = grind (arith, limited_keeps, one_column, series_heading)
 
-renamed_frame_keeps : (t : Table) (pairs : List (LabelValue × Given)) → IsShaped t → t.shape ≡ Frame → IfOk (renamed_frame t pairs) IsValidEntry
-renamed_frame_keeps t pairs s is = by _
-  where
-    u : Table
-    u = record t { headings = map (renamed_heading pairs) t.headings }
+renamed_frame_keeps : (t : Table) (pairs : List (LabelValue × Given)) → IsShaped t → IsFrame t → Keeps (renamed_frame t pairs)
+renamed_frame_keeps t pairs s is =
+    let some = all_made IsSome IsSome (renamed_heading pairs) (grind arith) t.headings (s.headings.labelled is) in
+    grind (arith, finished_keeps, length-map, frame_headings, different)
 
-    some : All IsSome u.headings
-    some = all_made IsSome IsSome _ (grind arith) t.headings (s.headings.labelled is)
-
-    fits : first_repeated u.headings ≡ None → IsShaped u
-    fits none = search (some, length-map, frame_headings, different)
-
-    by : (b : Bool) → IfOk (if b then finished u else Err wrong_kind) IsValidEntry
-    by true = finished_keeps u fits
-    by false = tt
-
-heading_kept : (h : Option LabelValue) → IsSome h → Some (unwrap_or h (int (pos 0))) ≡ h
+heading_kept : (h : Name) → IsSome h → Some (unwrap_or h (int (pos 0))) ≡ h
 heading_kept = grind arith
 
-headings_kept : (hs : List (Option LabelValue)) → All IsSome hs → map (λ h. Some (unwrap_or h (int (pos 0)))) hs ≡ hs
+headings_kept : (hs : List Name) → All IsSome hs → map (λ h. Some (unwrap_or h (int (pos 0)))) hs ≡ hs
 headings_kept [] some = refl
 headings_kept (h ∷ hs) some = λ j. heading_kept h (All-head IsSome h hs some) j ∷ headings_kept hs (All-tail IsSome h hs some) j
 
@@ -85,18 +73,18 @@ as_frame_shaped Series t s is =
       levels = s.levels;
       headed = search length-map;
       columns = s.columns;
-      headings = frame_headings _ _ _ refl (search all_mapped) (λ i j d lt within. absurd (Prim.omega (arith, lt, within, size)));
+      headings = frame_headings _ _ _ refl (search all_mapped) (λ i j d lt within. absurd (omega (arith, lt, within, size)));
     }
 as_frame_shaped Frame t s is = grind (arith, length-map, headings_kept)
 
-as_frame_keeps : (t : Table) → IsShaped t → IfOk (limited (as_frame t)) IsValidEntry
+as_frame_keeps : (t : Table) → IsShaped t → Keeps (limited (as_frame t))
 as_frame_keeps = grind (arith, limited_keeps, as_frame_shaped)
 
-reset_index_keeps : (t : Table) (drop : Bool) → IsShaped t → IfOk (reset_index_result t drop) IsValidEntry
+reset_index_keeps : (t : Table) (drop : Bool) → IsShaped t → Keeps (reset_index_result t drop)
 reset_index_keeps t true s = renumbered_keeps t s
 reset_index_keeps t false s = levels_reset_keeps _ (as_frame_shaped _ t s refl) refl
 
-csv_keeps : (index : Bool) (t : Table) → IfOk (csv_answer index t) IsValidEntry
+csv_keeps : (index : Bool) (t : Table) → Keeps (csv_answer index t)
 csv_keeps = grind arith
 
 ruleset answers = (
@@ -121,7 +109,7 @@ ruleset answers = (
 )
 
 -- by the method and how many arguments it has; those that a shape alone has say which, and one of each family has them told apart
-answer_keeps : (m : Method) (gs : List Given) (t : Table) → IsShaped t → fits_shape m t.shape ≡ true → IfOk (answer_for m gs t) IsValidEntry
+answer_keeps : (m : Method) (gs : List Given) (t : Table) → IsShaped t → fits_shape m t.shape ≡ true → Keeps (answer_for m gs t)
 unfolding method_names
 answer_keeps (method.Rows row_method.SortIndex) (ascending ∷ []) t s fit = search (on_keeps, sorted_keeps)
 answer_keeps (method.Table table_method.RenameSeries) (name ∷ []) t s fit = search (renamed_series_keeps, of_series)
@@ -136,12 +124,12 @@ answer_keeps m (a ∷ []) t s fit = search answers depth 9
 answer_keeps m (a ∷ b ∷ []) t s fit = search answers depth 9
 answer_keeps m gs t s fit = search answers
 
-pub on_bound_keeps : (b : Bound) (go : List Given → Result Entry FaultValue) → ((gs : List Given) → IfOk (go gs) IsValidEntry) → IfOk (on_bound b go) IsValidEntry
+pub on_bound_keeps : (b : Bound) (go : List Given → Result Entry FaultValue) → ((gs : List Given) → Keeps (go gs)) → Keeps (on_bound b go)
 on_bound_keeps = grind arith
 
-pub method_result_keeps : (v : Entry) (name : Text) (gs : List NamedGiven) → IsValidObject v → IfOk (method_result v name gs) IsValidEntry
+pub method_result_keeps : (v : Entry) (name : Text) (gs : List NamedGiven) → IsValidObject v → Keeps (method_result v name gs)
 method_result_keeps = grind (arith, on_bound_keeps, answer_keeps, shaped, named_fits)
 
 -- a method of a value
-pub chain_result_keeps : (v : Entry) (chain : ChainValue) (gs : List NamedGiven) → IsValidObject v → IfOk (chain_result v chain gs) IsValidEntry
+pub chain_result_keeps : (v : Entry) (chain : ChainValue) (gs : List NamedGiven) → IsValidObject v → Keeps (chain_result v chain gs)
 chain_result_keeps v chain gs h = grind (arith, method_result_keeps, grouped_result_keeps)

@@ -1,14 +1,14 @@
 -- A statement leaves a valid state of a valid one.
 use Rattle.{
-  std.{proofs.{Common.{arith, ℕ, List}, lemmas.List.Elements.{All-nil, All-cons}}, specs.Prelude.{Bool, true, false, if◌then◌else◌, codes, is_some, Option, Some, None, IfSome, Result, Ok, Err, IfOk, All}},
+  std.{proofs.{Common.{arith, ℕ, List}, lemmas.List.Elements.{All-nil, All-cons}}, specs.Prelude.{Bool, if◌then◌else◌, codes, is_some, Option, Some, None, IfSome, Result, Ok, Err, IfOk, All}},
   meaning.specs.{Text.{Text, Contents}, Fault.{FaultValue}},
   language_meaning.specs.Tree.{Expr, Step, Arg, ArgList, Args, Form},
-  table_meaning.specs.{Table.{Table}, Valid.{IsValid}, Value.{Entry, table, NamedGiven, key_given}},
-  form_meaning.specs.{declared.Function.TheVariants.{ReadCsv}, Signature.{function_named}},
+  table_meaning.specs.{Table.{Table}, Valid.{IsValid}, Value.{Entry, NamedGiven, key_given}},
+  form_meaning.specs.Signature.{function_named},
   select_meaning.specs.Select.{plain, through},
-  method_meaning.specs.{Calls.{has_method}, Concat.{tables_of}, Functions.{function_result}, Readers.{reads_file, file_name_of, read_result}},
-  script_meaning.specs.{State.{State, without_name}, Reading.{Files, Reading, Reads, at_once, then_read, of_bytes, of_path, of_file}, Expression.{value_of_name, is_minus, where_named, made, value_of, stepped, sub_of, second_of, brackets_of, given_of, part_of, parts_of, pairs_of, named_of, target_of}, Statement.{Answer, then_answer, with_value, set_answer, statement_result}},
-  table_laws.{specs.Validity.{IsValidObject, IsValidEntry, IsValidGiven, IsValidArgument, AreValidArguments, IsValidState, LeavesValid, HasHeldLiterals, IsHeldArgument, IsHeldForm}, proofs.{InfixLaws.{infix_result_keeps, sign_result_keeps}, SelectLaws.{length_result_keeps}, ReachLaws.{select_result_keeps}, SetLaws.{assign_result_keeps, removal_result_keeps}, MethodLaws.{chain_result_keeps}, CsvLaws.{read_result_keeps}, ArgumentLaws.{more_valid}, CallLaws.{call_result_keeps, function_result_keeps}}},
+  method_meaning.specs.{Calls.{has_method}, Concat.{tables_of}, Readers.{read_result}},
+  script_meaning.specs.{State.{State, without_name}, Reading.{Files, Reading, Reads, at_once, then_read, of_bytes, of_path}, Expression.{value_of_name, is_minus, where_named, made, value_of, stepped, sub_of, second_of, brackets_of, given_of, part_of, parts_of, pairs_of, named_of, target_of}, Statement.{Answer, then_answer, with_value, set_answer, statement_result}},
+  table_laws.{specs.Validity.{IsValidObject, IsValidEntry, IsValidGiven, IsValidArgument, AreValidArguments, IsValidState, LeavesValid, HasHeldLiterals, IsHeldArgument, IsHeldForm}, proofs.{Words.{Keeps}, InfixLaws.{infix_result_keeps, sign_result_keeps}, ReachLaws.{select_result_keeps, length_result_keeps}, SetLaws.{assign_result_keeps, removal_result_keeps}, MethodLaws.{chain_result_keeps}, CsvLaws.{read_result_keeps}, ArgumentLaws.{more_valid}, CallLaws.{call_result_keeps, function_result_keeps}}},
 }
 use Rattle.language_meaning.specs.Tree as tree
 use Rattle.method_meaning.specs.Calls as calls
@@ -26,12 +26,12 @@ read_keeps P Q = grind arith
 after_any : {A B : Type 0} (Q : B → Type 0) (r : Reads A) (go : A → Reads B) → ((a : A) → IfOk (go a).answer Q) → IfOk (then_read r go).answer Q
 after_any Q = grind (arith, read_keeps)
 
-named_keeps : (known : Bool) (n : Text) (rest : Reads Entry) → IfOk rest.answer IsValidEntry → IfOk (where_named known n rest).answer IsValidEntry
+named_keeps : (known : Bool) (n : Text) (rest : Reads Entry) → Keeps rest.answer → IfOk (where_named known n rest).answer IsValidEntry
 named_keeps = grind arith
 
 -- calls of the functions of `pd`
 
-bytes_keep : (name : Text) (bytes : Option (List ℕ)) (gs : List NamedGiven) → IfOk (of_bytes name bytes (λ bytes. read_result bytes gs)) IsValidEntry
+bytes_keep : (name : Text) (bytes : Option (List ℕ)) (gs : List NamedGiven) → Keeps (of_bytes name bytes (λ bytes. read_result bytes gs))
 bytes_keep name None gs = tt
 bytes_keep name (Some bytes) gs = read_result_keeps bytes gs
 
@@ -39,15 +39,13 @@ path_keeps : (held : Contents) (name : Text) (path : Option Text) (gs : List Nam
 path_keeps = grind (arith, bytes_keep)
 
 made_keeps : (files : Files) (f : Text) (gs : List NamedGiven) → AreValidArguments gs → IfOk (made files f gs).answer IsValidEntry
-made_keeps files f gs h = by (reads_file (function_named f))
-  where
-    by : (b : Bool) → IfOk (if b then then_read (at_once (file_name_of ReadCsv gs)) (λ name. of_file files name (λ bytes. read_result bytes gs)) else at_once (function_result None f gs)).answer IsValidEntry
-    by true = search (after_any, path_keeps)
-    by false = function_result_keeps None f gs h
+made_keeps files f gs h =
+    let called = function_result_keeps None f gs h in
+    grind (arith, path_keeps)
 
 -- expressions
 
-name_keeps : (n : Text) (o : Option Entry) → IfSome o IsValidEntry → IfOk (value_of_name n o) IsValidEntry
+name_keeps : (n : Text) (o : Option Entry) → IfSome o IsValidEntry → Keeps (value_of_name n o)
 name_keeps = grind arith
 
 -- the value of an expression: a table is valid, and a column can hold a scalar where it can hold the literals
@@ -58,7 +56,7 @@ record IsValueOf (x : Expr) (v : Entry) : Type 0 where
 abbrev Gives : Expr → Reads Entry → Type 0
 Gives x r = IfOk r.answer (IsValueOf x)
 
-gives_valid : (x : Expr) (r : Reads Entry) → IfOk r.answer IsValidEntry → Gives x r
+gives_valid : (x : Expr) (r : Reads Entry) → Keeps r.answer → Gives x r
 gives_valid = grind (arith, object)
 
 module _ (files : Files) (s : State) (valid : IsValidState s) where
@@ -129,14 +127,14 @@ module _ (files : Files) (s : State) (valid : IsValidState s) where
 
 -- what an expression gives in a valid state
 pub value_of_keeps : (files : Files) (s : State) → IsValidState s → (x : Expr) → HasHeldLiterals x → IfOk (value_of files s x).answer IsValidEntry
-value_of_keeps files s valid x h = by (value_of files s x).answer (value_valid files s valid x)
-  where
-    by : (o : Result Entry FaultValue) → IfOk o (IsValueOf x) → IfOk o IsValidEntry
-    by (Ok v) k = k.held h
-    by (Err fault) k = tt
+value_of_keeps files s valid x h =
+    let gives = value_valid files s valid x in
+    grind arith
 
 given_keeps : (files : Files) (s : State) → IsValidState s → (a : Arg) → IsHeldArgument a → IfOk (given_of files s a).answer IsValidGiven
-given_keeps files s valid (tree.expr x) h = read_keeps _ _ (value_of files s x) _ (value_of_keeps _ s valid x h) (λ v k. k)
+given_keeps files s valid (tree.expr x) h =
+    let value = value_of_keeps files s valid x h in
+    grind arith
 given_keeps files s valid (tree.many parts) h = search after_any
 given_keeps files s valid (tree.row parts) h = search after_any
 given_keeps files s valid (tree.table pairs) h = search after_any

@@ -1,11 +1,10 @@
 -- Tables whose parts fit, before their limits are tested.
 use Rattle.{
-  std.{proofs.Common.{arith, ◌≡◌, ◌≢◌, ℕ, ◌<◌, ◌≤◌, List, [], ◌∷◌, length}, specs.Prelude.{true, Option, None, IsSome, IfOk, All, AllPairs}},
-  cell_core.specs.declared.grid.Shape.{Shape, TheVariants.{Series, Frame}},
-  meaning.specs.Cell.{CellValue, LabelValue},
-  table_meaning.specs.{Table.{ColumnOf, Table, column_at}, Valid.{AreHeadings, IsValid, within_limits}},
-  form_meaning.specs.Finish.{limited_table, limited, with_columns},
-  table_laws.{specs.Validity.{IsValidEntry}, proofs.ColumnLaws.{IsColumn}},
+  std.{proofs.{Common.{arith, ◌≡◌, ℕ, ◌<◌, ◌≤◌, List, [], ◌∷◌, length, ◌≢◌, refl, zero, suc}, lemmas.{Bool.Decides.{nat_tests}, Cmp.{tied_itself}, List.{Elements.{All-nil, All-head, All-tail}, Quantifiers.{all_pairs_push}}}}, specs.{Prelude.{true, None, IsSome, IfOk, All, Bool, false, ◌||◌, nat_lt, slice_set, slice_index_or, Option, Some, IfSome, option_map, unwrap_or}, Bool.{Decides}, FinMap.{nat_cmp-IsAntisymmetric, slice_cmp-IsAntisymmetric}, List.{list_any}, Ordering.{is_eq, bool_cmp}, declared.cmp.Ordering.{Ordering, TheVariants.{Equal}}}},
+  cell_core.{specs.{declared.grid.Shape.{Shape, TheVariants.{Series, Frame}}, Values.{LabelValue, truth, int, text, na, label_cmp}}, proofs.LabelLaws.{label_total}},
+  table_meaning.specs.{Table.{Table, column_at}, Valid.{AreHeadings, IsValid, within_limits}, Change.{put_at}},
+  form_meaning.specs.{Finish.{limited_table, limited, with_columns, same_heading, first_repeated, finished}, Binding.{same_label}, Select.{place_of_label, found, column_place}},
+  table_laws.proofs.{Words.{Keeps, Column, Name, Apart}, ColumnLaws.{IsColumn}, ListLaws.{both_ways}},
 }
 
 -- a table that is valid if it is within the limits
@@ -26,24 +25,115 @@ valid = grind arith
 pub limited_table_keeps : (t : Table) → IsShaped t → IfOk (limited_table t) IsValid
 limited_table_keeps = grind (arith, valid)
 
-pub limited_keeps : (t : Table) → IsShaped t → IfOk (limited t) IsValidEntry
+pub limited_keeps : (t : Table) → IsShaped t → Keeps (limited t)
 limited_keeps = grind (arith, limited_table_keeps)
 
 -- other columns in the places of a table's own
-pub with_columns_shaped : (t : Table) → IsShaped t → (columns : List (ColumnOf CellValue)) → length columns ≡ length t.columns → All (IsColumn (length t.labels)) columns → IsShaped (with_columns t columns)
+pub with_columns_shaped : (t : Table) → IsShaped t → (columns : List Column) → length columns ≡ length t.columns → All (IsColumn (length t.labels)) columns → IsShaped (with_columns t columns)
 with_columns_shaped t s columns size h = search
 
 pub column_of_table : (t : Table) → IsShaped t → (place : ℕ) → place < length t.columns → IsColumn (length t.labels) (column_at t.columns place)
 column_of_table = grind arith
 
 -- the name of a Series
-pub series_heading : (s : Shape) (name : Option LabelValue) (h : Option LabelValue) → s ≡ Series → name ≡ None → AreHeadings s name (h ∷ [])
+pub series_heading : (s : Shape) (name : Name) (h : Name) → s ≡ Series → name ≡ None → AreHeadings s name (h ∷ [])
 series_heading = grind arith
 
 -- the labels of a frame
-pub frame_headings : (s : Shape) (name : Option LabelValue) (hs : List (Option LabelValue)) → s ≡ Frame → All IsSome hs → AllPairs (λ a b. a ≢ b) hs → AreHeadings s name hs
+pub frame_headings : (s : Shape) (name : Name) (hs : List Name) → s ≡ Frame → All IsSome hs → Apart hs → AreHeadings s name hs
 frame_headings = grind arith
 
 -- a Series has one column
 pub one_column : (t : Table) → IsShaped t → t.shape ≡ Series → length t.columns ≡ 1
 one_column = grind arith
+
+-- labels of columns that differ
+bool_same : (a b : Bool) → bool_cmp a b ≡ Equal → a ≡ b
+bool_same = grind arith
+
+-- labels that compare as equal are the same
+value_same : (a b : LabelValue) → label_cmp a b ≡ Equal → a ≡ b
+value_same (truth a) (truth b) e = search bool_same
+value_same (int a) (int b) e = grind arith
+value_same (text a) (text b) e = cc (slice_cmp-IsAntisymmetric nat_cmp-IsAntisymmetric a b e)
+value_same na na e = refl
+value_same a b e = cc
+
+is_equal : (o : Ordering) → is_eq o ≡ true → o ≡ Equal
+is_equal = grind arith
+
+pub label_decides : (a b : LabelValue) → Decides (same_label a b) (a ≡ b)
+label_decides = grind (arith, value_same, is_equal, tied_itself, label_total)
+
+-- the label of a heading
+met : (l : LabelValue) (h : Name) → same_heading (Some l) h ≡ true → h ≡ Some l
+met = grind (arith, label_decides)
+
+-- another heading
+other : (h g : Name) → same_heading h g ≡ false → h ≢ g
+other = grind (arith, both_ways, label_decides)
+
+neither : (b c : Bool) → b || c ≡ false → (b ≡ false) × (c ≡ false)
+neither = grind arith
+
+none_such : (h : Name) (hs : List Name) → list_any (same_heading h) hs ≡ false → All (λ g. h ≢ g) hs
+none_such h [] e = All-nil (λ g. h ≢ g)
+none_such h (g ∷ gs) e =
+    let both = neither _ _ e in
+    grind (arith, other, none_such h gs both.1)
+
+-- headings of which none stands again
+pub different : (hs : List Name) → All IsSome hs → first_repeated hs ≡ None → Apart hs
+different [] some e = grind arith
+different (h ∷ hs) some e =
+    let here = All-head IsSome h hs some in
+    let rest = different hs (All-tail IsSome h hs some) in
+    let none = none_such h hs in
+    grind arith
+
+-- a table that is finished
+pub finished_keeps : (t : Table) → (first_repeated t.headings ≡ None → IsShaped t) → Keeps (finished t)
+finished_keeps = grind arith
+
+-- where a label stands
+pub record IsPlace (hs : List Name) (l : LabelValue) (place : ℕ) : Type 0 where
+  pub below : place < length hs
+  pub here : slice_index_or hs place None ≡ Some l
+
+later : (h : Name) (hs : List Name) (l : LabelValue) (o : Option ℕ) → IfSome o (IsPlace hs l) → IfSome (option_map suc o) (IsPlace (h ∷ hs) l)
+later = grind arith
+
+pub place_found : (hs : List Name) (l : LabelValue) → IfSome (place_of_label hs l) (IsPlace hs l)
+place_found [] l = tt
+place_found (h ∷ hs) l = grind (arith, met, later, place_found hs l)
+
+pub place_absent : (hs : List Name) (l : LabelValue) → place_of_label hs l ≡ None → All (λ h. h ≢ Some l) hs
+place_absent [] l e = grind arith
+place_absent (h ∷ hs) l e =
+    let rest = place_absent hs l in
+    let apart = other (Some l) h in
+    grind arith
+
+pub found_within : (hs : List Name) (l : LabelValue) → IfOk (found l (place_of_label hs l)) (λ place. place < length hs)
+found_within hs l =
+    let found = place_found hs l in
+    grind arith
+
+pub column_place_found : (t : Table) (l : LabelValue) → IfOk (column_place t l) (λ place. place < length t.headings)
+column_place_found t l = found_within t.headings l
+
+set_same : {X : Type 0} (xs : List X) (i : ℕ) (x d : X) → i < length xs → slice_index_or xs i d ≡ x → slice_set xs i x ≡ xs
+set_same [] i x d lt is = refl
+set_same (y ∷ ys) zero x d lt is = cc
+set_same (y ∷ ys) (suc i) x d lt is = grind (arith, set_same ys)
+
+not_below : (n : ℕ) → nat_lt n n ≡ false
+not_below n = grind (arith, nat_tests)
+
+-- the headings with a label in its own place, or last
+pub put_heading : (hs : List Name) (l : LabelValue) → Apart hs → Apart (put_at hs (unwrap_or (place_of_label hs l) (length hs)) (Some l))
+put_heading hs l apart = by _ refl (place_found hs l)
+  where
+    by : (o : Option ℕ) → place_of_label hs l ≡ o → IfSome o (IsPlace hs l) → Apart (put_at hs (unwrap_or o (length hs)) (Some l))
+    by (Some p) e at = grind (arith, nat_tests, set_same)
+    by None e at = grind (arith, not_below (length hs), all_pairs_push (λ a b. a ≢ b) hs (Some l) apart (λ k d lt. place_absent hs l e k d lt))

@@ -5,4 +5,4 @@ use Rattle.{
 use Rattle.column_core.proofs.columns.repeated_value.Goals as goal
 
 pub returns : goal.returns
-returns g c = c.column.ensures ∙ repeated_column g.T.Value.kind g.T.Value.cell _ _ _ c.args.value c.in_ok-rows.ensures.count c.in_ok-rows.ensures.rows
+returns g c = c.column.ensures ∙ repeated_column _ g.T.Value.cell _ _ _ _ c.in_ok-rows.ensures.count c.in_ok-rows.ensures.rows

@@ -5,4 +5,4 @@ use Rattle.{
 use Rattle.column_core.proofs.moves.copied.Goals as goal
 
 pub returns-in-Ok : goal.returns-in-Ok
-returns-in-Ok g c = total_made g.T.Value.kind g.T.Value.cell _ _ _ _ c.in-Ok.rows.values.items c.in-Ok.rows.present.items c.column.result (λ k. refl) c.in-Ok.ensures.rows c.in-Ok.ensures.count c.column.ensures
+returns-in-Ok g c = total_made _ g.T.Value.cell _ _ _ _ _ _ _ (λ k. refl) c.in-Ok.ensures.rows c.in-Ok.ensures.count c.column.ensures

@@ -3,5 +3,5 @@ use Rattle.column_core.proofs.moves.shift_rows.Goals as goal
 
 pub returns-clause-cells : goal.returns-clause-cells
 returns-clause-cells g c = λ p d b.
-    if_ok_cells c.copied.result _ _ c.copied.ensures
-    (shifted_seen g.T.Value.cell g.met.T.Value.missing (g.A.Source.count_of c.args.a.now) (g.A.Source.row_of c.args.a.now) p _ _ d b)
+    if_ok_cells _ _ _ c.copied.ensures
+    (shifted_seen g.T.Value.cell g.met.T.Value.missing _ _ p _ _ d b)

@@ -3,5 +3,5 @@ use Rattle.column_core.proofs.moves.take_lane.Goals as goal
 
 pub returns-in-Some-clause-cells : goal.returns-in-Some-clause-cells
 returns-in-Some-clause-cells g c =
-    if_ok_change c.take_rows.result _ _ c.take_rows.ensures.cells
+    if_ok_change _ _ _ c.take_rows.ensures.cells
     (cc (same_column g.T.Value.kind g.T.Value.cell _ _ _ _ c.in-Some.ensures.count c.in-Some.ensures.rows))

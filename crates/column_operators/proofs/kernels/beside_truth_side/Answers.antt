@@ -1,14 +1,14 @@
 use Rattle.{
-  cell_core.specs.declared.cell.Kind.TheVariants.{Boolean},
+  std.proofs.Common.{arith},
   column_core.specs.Columns.{truth_cell},
-  column_operators.proofs.Scalars.{truth_kept, scalar_on_left, scalar_on_right},
+  column_operators.proofs.Scalars.{scalar_on_left, scalar_on_right},
 }
 use Rattle.column_operators.proofs.kernels.beside_truth_side.Goals as goal
 
 pub returns-then-left-clause-answer : goal.returns-then-left-clause-answer
 returns-then-left-clause-answer g c = λ texts.
-    scalar_on_left texts c.args.task Boolean truth_cell _ _ c.args.scalar c.args.left _ (truth_kept texts c.args.scalar) c.if-left.true texts _ c.count.ensures (c.on_truth_sides.ensures.answer texts)
+    scalar_on_left _ _ _ truth_cell _ _ _ _ _ (grind arith) c.if-left.true texts _ c.count.ensures (c.on_truth_sides.ensures.answer texts)
 
 pub returns-else-left-clause-answer : goal.returns-else-left-clause-answer
 returns-else-left-clause-answer g c = λ texts.
-    scalar_on_right texts c.args.task Boolean truth_cell _ _ c.args.scalar c.args.left _ (truth_kept texts c.args.scalar) c.if-left.false texts _ c.count.ensures (c.on_truth_sides-else-left.ensures.answer texts)
+    scalar_on_right _ _ _ truth_cell _ _ _ _ _ (grind arith) c.if-left.false texts _ c.count.ensures (c.on_truth_sides-else-left.ensures.answer texts)

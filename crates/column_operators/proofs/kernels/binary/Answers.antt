@@ -6,4 +6,4 @@ use Rattle.{
 use Rattle.column_operators.proofs.kernels.binary.Goals as goal
 
 pub returns-in-Add-clause-rows : goal.returns-in-Add-clause-rows
-returns-in-Add-clause-rows c = column_rows _ _ add c.args.a c.args.b _ _ refl (sym c.requires.same) c.sums.ensures.answer
+returns-in-Add-clause-rows c = column_rows _ _ add _ _ _ _ refl (sym c.requires.same) c.sums.ensures.answer

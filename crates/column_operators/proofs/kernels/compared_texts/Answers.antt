@@ -1,7 +1,7 @@
 use Rattle.{
   std.{proofs.Common.{arith, refl}, specs.{Ordering.{nat_cmp}, Cmp.Lexicographic.{slice_cmp}}},
-  cell_core.specs.{Values.{text_of}, declared.cell.Kind.TheVariants.{Boolean, Text as string}},
-  column_core.specs.Columns.{text_cell, truth_cell},
+  cell_core.specs.{Values.{text_of}, declared.cell.Kind.TheVariants.{Text as string}},
+  column_core.specs.Columns.{text_cell},
   column_operators.{specs.Operations.{compare_row}, proofs.TaskAnswers.{pair_answer}},
   nullable_array.proofs.ColumnAnswers.{given_at},
 }
@@ -9,10 +9,10 @@ use Rattle.column_operators.specs.declared.ops.Task.TheVariants as task
 use Rattle.column_operators.proofs.kernels.compared_texts.Goals as goal
 
 pub returns-clause-given : goal.returns-clause-given
-returns-clause-given g c = given_at c.operate.result c.args.dict.now c.operate.ensures.given
+returns-clause-given g c = given_at _ _ c.operate.ensures.given
 
 pub returns-clause-answer : goal.returns-clause-answer
 returns-clause-answer g c =
     let texts = c.args.dict.now in
     let r = c.args.relation in
-    pair_answer texts _ (task.Compare r) refl string string Boolean text_cell text_cell truth_cell (compare_row r (λ a b. slice_cmp nat_cmp (text_of texts a) (text_of texts b))) refl (grind arith) _ _ _ _ c.requires.same _ (c.operate.ensures.answer texts)
+    pair_answer _ _ (task.Compare r) refl string string _ text_cell text_cell _ (compare_row r (λ a b. slice_cmp nat_cmp (text_of texts a) (text_of texts b))) refl (grind arith) _ _ _ _ c.requires.same _ (c.operate.ensures.answer texts)

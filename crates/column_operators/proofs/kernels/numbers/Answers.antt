@@ -1,5 +1,4 @@
 use Rattle.{
-  cell_core.specs.declared.cell.Kind.TheVariants.{Int64},
   column_core.{specs.Columns.{number_cell}, proofs.CellRows.{same_column}},
   column_operators.proofs.TaskAnswers.{two_columns},
 }
@@ -7,5 +6,5 @@ use Rattle.column_operators.proofs.kernels.numbers.Goals as goal
 
 pub returns-in-Some-Some-clause-answer : goal.returns-in-Some-Some-clause-answer
 returns-in-Some-Some-clause-answer c = λ texts.
-    two_columns texts c.args.task _ _ _ _ c.on_number_sides.result (same_column Int64 number_cell _ _ _ _ c.in-Some-Some.ensures.count c.in-Some-Some.ensures.rows)
-    (same_column Int64 number_cell _ _ _ _ c.in-Some-Some.ensures'.count c.in-Some-Some.ensures'.rows) (c.on_number_sides.ensures.answer texts)
+    two_columns _ _ _ _ _ _ _ (same_column _ number_cell _ _ _ _ c.in-Some-Some.ensures.count c.in-Some-Some.ensures.rows)
+    (same_column _ number_cell _ _ _ _ c.in-Some-Some.ensures'.count c.in-Some-Some.ensures'.rows) (c.on_number_sides.ensures.answer texts)

@@ -21,7 +21,7 @@ on_texts-requires-clause-same c =
     ∙ sym (length-column _ _ _ _ (ap borrowed_column (sym c.in-Texts-Texts.is-1) ∙ c.b.view_is))
 
 pub returns-in-Ints-Ints-clause-given : goal.returns-in-Ints-Ints-clause-given
-returns-in-Ints-Ints-clause-given c = given_at c.numbers.result c.args.dict.now c.numbers.ensures.given
+returns-in-Ints-Ints-clause-given c = given_at _ _ c.numbers.ensures.given
 
 pub returns-in-Truths-Truths-clause-given : goal.returns-in-Truths-Truths-clause-given
-returns-in-Truths-Truths-clause-given c = given_at c.truths.result c.args.dict.now c.truths.ensures.given
+returns-in-Truths-Truths-clause-given c = given_at _ _ c.truths.ensures.given

@@ -16,12 +16,12 @@ joined-requires-clause-same c =
     ∙ sym (length-column _ _ _ _ (ap borrowed_column (sym c.in-Texts-Texts.is-1) ∙ c.b.view_is))
 
 pub returns-in-Ints-Ints-clause-given : goal.returns-in-Ints-Ints-clause-given
-returns-in-Ints-Ints-clause-given c = given_at c.numbers.result c.args.dict.now c.numbers.ensures.given
+returns-in-Ints-Ints-clause-given c = given_at _ _ c.numbers.ensures.given
 
 pub joined-requires-clause-a : goal.joined-requires-clause-a
 joined-requires-clause-a c = λ k lt.
-    given-row c.args.dict.now c.in-Texts-Texts.x.count _ (rw (sym (ap borrowed_column (sym c.in-Texts-Texts.is-0) ∙ c.a.view_is)) at c.requires.a) k lt
+    given-row _ _ _ (rw (sym (ap borrowed_column (sym c.in-Texts-Texts.is-0) ∙ c.a.view_is)) at c.requires.a) k lt
 
 pub joined-requires-clause-b : goal.joined-requires-clause-b
 joined-requires-clause-b c = λ k lt.
-    given-row c.args.dict.now c.in-Texts-Texts.y.count _ (rw (sym (ap borrowed_column (sym c.in-Texts-Texts.is-1) ∙ c.b.view_is)) at c.requires.b) k lt
+    given-row _ _ _ (rw (sym (ap borrowed_column (sym c.in-Texts-Texts.is-1) ∙ c.b.view_is)) at c.requires.b) k lt

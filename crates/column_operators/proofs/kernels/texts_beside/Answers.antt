@@ -8,8 +8,8 @@ use Rattle.column_operators.proofs.kernels.texts_beside.Goals as goal
 
 pub returns-then-left-clause-answer : goal.returns-then-left-clause-answer
 returns-then-left-clause-answer c =
-    scalar_on_left c.args.dict.now c.args.task string text_cell _ _ c.args.scalar c.args.left _ (text_kept c.args.dict.now c.args.scalar) c.if-left.true c.args.dict.now _ refl c.on_texts.ensures.answer
+    scalar_on_left _ c.args.task string text_cell _ _ _ c.args.left _ (text_kept _ _) c.if-left.true c.args.dict.now _ refl c.on_texts.ensures.answer
 
 pub returns-else-left-clause-answer : goal.returns-else-left-clause-answer
 returns-else-left-clause-answer c =
-    scalar_on_right c.args.dict.now c.args.task string text_cell _ _ c.args.scalar c.args.left _ (text_kept c.args.dict.now c.args.scalar) c.if-left.false c.args.dict.now _ refl c.on_texts-else-left.ensures.answer
+    scalar_on_right _ c.args.task string text_cell _ _ _ c.args.left _ (text_kept _ _) c.if-left.false c.args.dict.now _ refl c.on_texts-else-left.ensures.answer

@@ -1,6 +1,5 @@
 use Rattle.{
   std.proofs.Common.{subst},
-  cell_core.specs.declared.cell.Kind.TheVariants.{Boolean},
   meaning.specs.Cell.{datum},
   nullable_array.specs.Answers.{Answers},
   column_core.{specs.Columns.{CellColumn, column_value, truth_cell}, proofs.CellRows.{same_column}},
@@ -11,4 +10,4 @@ use Rattle.column_operators.proofs.kernels.truths_beside.Goals as goal
 pub returns-in-Some-clause-answer : goal.returns-in-Some-clause-answer
 returns-in-Some-clause-answer c = λ texts.
     subst (λ (col : CellColumn). Answers texts c.beside_truth_side.result (scalar_task c.args.task (column_value texts col) (datum texts (truth_cell c.args.scalar)) c.args.left))
-    (same_column Boolean truth_cell _ _ _ _ c.in-Some.ensures.count c.in-Some.ensures.rows) (c.beside_truth_side.ensures.answer texts)
+    (same_column _ truth_cell _ _ _ _ c.in-Some.ensures.count c.in-Some.ensures.rows) (c.beside_truth_side.ensures.answer texts)

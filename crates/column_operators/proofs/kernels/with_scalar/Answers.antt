@@ -6,4 +6,4 @@ use Rattle.{
 use Rattle.column_operators.proofs.kernels.with_scalar.Goals as goal
 
 pub returns-in-Add-clause-rows : goal.returns-in-Add-clause-rows
-returns-in-Add-clause-rows c = scalar_rows _ _ add c.args.a c.args.scalar c.args.scalar_left _ _ refl c.sums_beside.ensures.answer
+returns-in-Add-clause-rows c = scalar_rows _ _ add _ _ _ _ _ refl c.sums_beside.ensures.answer

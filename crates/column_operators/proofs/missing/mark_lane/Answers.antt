@@ -1,6 +1,5 @@
 use Rattle.{
   std.proofs.{Common.{◌∙◌, ap, Some}, lemmas.Result.{IfOk-weaker}},
-  cell_core.specs.declared.cell.Kind.TheVariants.{Boolean},
   column_core.{specs.Columns.{truth_cell}, proofs.CellRows.{same_column}},
   column_operators.specs.Marks.{mark_of},
 }
@@ -9,4 +8,4 @@ use Rattle.column_operators.proofs.missing.mark_lane.Goals as goal
 pub returns-in-Some : goal.returns-in-Some
 returns-in-Some g c =
     IfOk-weaker c.mark_side.result _ _
-    (λ m h. h ∙ same_column Boolean truth_cell _ _ _ _ c.in-Some.ensures.count (λ k lt. ap (λ x. Some (mark_of c.args.mark.now.missing x)) (c.in-Some.ensures.rows k lt))) c.mark_side.ensures
+    (λ m h. h ∙ same_column _ truth_cell _ _ _ _ c.in-Some.ensures.count (λ k lt. ap (λ x. Some (mark_of c.args.mark.now.missing x)) (c.in-Some.ensures.rows k lt))) c.mark_side.ensures

@@ -1,12 +1,9 @@
 use Rattle.{
   std.proofs.Common.{refl},
-  cell_core.specs.declared.cell.Kind.TheVariants.{Boolean},
   column_core.{specs.Columns.{truth_cell}, proofs.{CellRows.{total_made}, RowsMade.{rows_written}}},
 }
 use Rattle.column_operators.proofs.missing.mark_side.Goals as goal
 
 pub returns : goal.returns
 returns g c =
-    let values = c.in_ok-rows.rows.values.items in
-    let present = c.in_ok-rows.rows.present.items in
-    total_made Boolean truth_cell _ _ _ _ values present c.column.result (λ k. refl) (rows_written _ _ values present c.in_ok-rows.ensures.rows) c.in_ok-rows.ensures.count c.column.ensures
+    total_made _ truth_cell _ _ _ _ _ _ _ (λ k. refl) (rows_written _ _ _ _ c.in_ok-rows.ensures.rows) c.in_ok-rows.ensures.count c.column.ensures

@@ -1,6 +1,6 @@
 use Rattle.{
-  std.proofs.{Common.{◌≡◌, ◌<◌, ◌+◌, ◌-◌, length, arith}, lemmas.List.{length-set, append-nil}},
-  concat_forms.proofs.{NameLaws.{level_more, given_more}, PlaceLaws.{taken_seen}},
+  std.proofs.{Common.{◌≡◌, ◌<◌, ◌+◌, ◌-◌, length, arith}, lemmas.List.{length-set, append-nil, take-map}},
+  concat_forms.proofs.PartLaws.{level_more, given_more},
 }
 use Rattle.concat_forms.proofs.axes.named.Goals as goal
 
@@ -8,7 +8,7 @@ pub loop-level-init : goal.loop-level-init
 loop-level-init c =
     let before = c.levels.result - c.args.levels in
     let none : before + 0 ≡ before = omega arith in
-    grind (arith, taken_seen, append-nil)
+    grind (arith, take-map, append-nil)
 
 pub loop-level-preserved : goal.loop-level-preserved
 loop-level-preserved c =

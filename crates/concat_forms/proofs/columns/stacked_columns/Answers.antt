@@ -1,14 +1,14 @@
 use Rattle.{
-  std.proofs.Common.{arith, refl},
+  std.proofs.Common.{arith},
   form_parts.proofs.GapLaws.{single_on},
-  concat_forms.proofs.ColumnLaws.{one_more_stacked},
+  concat_forms.proofs.BelowLaws.{one_more_stacked},
 }
 use Rattle.concat_forms.proofs.columns.stacked_columns.Goals as goal
 
 pub loop-heading-preserved : goal.loop-heading-preserved
 loop-heading-preserved c = record {
   columns = λ texts.
-      one_more_stacked _ _ _ _ _ _ _ _ _ _ _ c.loop-heading-test.true refl c.sought_by.ensures
+      one_more_stacked _ _ _ _ _ _ _ _ _ _ c.loop-heading-test.true c.sought_by.ensures
       (c.in_ok-column.ensures texts) c.into_block.ensures c.in_ok-push.ensures.ok (c.loop-heading.invariant.columns texts);
   single = grind (arith, single_on);
 }

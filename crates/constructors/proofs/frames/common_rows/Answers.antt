@@ -1,15 +1,8 @@
 use Rattle.{
-  std.proofs.Common.{arith, refl},
-  constructors.proofs.RowLaws.{rows_next, rows_differ},
+  std.proofs.Common.{refl},
+  constructors.proofs.RowLaws.{rows_differ},
 }
 use Rattle.constructors.proofs.frames.common_rows.Goals as goal
 
 pub returns-then-got-rows : goal.returns-then-got-rows
-returns-then-got-rows c = λ texts. (
-  rows_differ _ _ _ _ _ _ _
-      c.requires c.at-in-loop-place.ensures c.rows-got.ensures c.if-got-rows.true (c.loop-place.invariant texts),
-  λ more. refl,
-)
-
-pub loop-place-preserved : goal.loop-place-preserved
-loop-place-preserved = grind (arith, rows_next)
+returns-then-got-rows c = λ texts. (rows_differ _ _ _ _ _ _ _ c.requires c.at-in-loop-place.ensures c.rows-got.ensures (c.loop-place.invariant texts) c.if-got-rows.true, λ more. refl)

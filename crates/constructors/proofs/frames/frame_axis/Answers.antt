@@ -5,5 +5,4 @@ use Rattle.{
 use Rattle.constructors.proofs.frames.frame_axis.Goals as goal
 
 pub returns-clause-rows : goal.returns-clause-rows
-returns-clause-rows c =
-    axis_rows [] _ _ _ _ _ (c.in_ok-rows.ensures []) c.len.ensures (c.axis_for.ensures.labels [])
+returns-clause-rows c = axis_rows [] _ _ _ _ _ (c.in_ok-rows.ensures []) (c.axis_for.ensures.labels [])

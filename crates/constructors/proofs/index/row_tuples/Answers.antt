@@ -4,15 +4,10 @@ use Rattle.{
 }
 use Rattle.constructors.proofs.index.row_tuples.Goals as goal
 
-pub of-requires-clause-some : goal.of-requires-clause-some
-of-requires-clause-some c =
+pub of-requires : goal.of-requires
+of-requires c =
     let count : length c.as_slice.result.now ≡ c.args.levels = cc (c.as_slice.ensures.value, row_fits _ _ _ _ _ _ c.requires.alike (omega arith) c.row-item.is (c.in_ok-put_labels.ensures (λ id. None) [])) in
-    omega (arith, count)
-
-pub of-requires-clause-few : goal.of-requires-clause-few
-of-requires-clause-few c =
-    let count : length c.as_slice.result.now ≡ c.args.levels = cc (c.as_slice.ensures.value, row_fits _ _ _ _ _ _ c.requires.alike (omega arith) c.row-item.is (c.in_ok-put_labels.ensures (λ id. None) [])) in
-    omega (arith, count)
+    record { some = omega (arith, count); few = omega (arith, count) }
 
 pub loop-row-preserved : goal.loop-row-preserved
 loop-row-preserved c =

@@ -9,8 +9,7 @@ loop-place-preserved c =
     let lt : c.loop-place.place < length c.args.pairs.now = omega arith in
     record {
       inside = keys_step _ _ _ _ _ _ c.loop-place.invariant.inside lt c.requires c.in_ok-insert.ensures.entries;
-      pairs = λ live. pair_step _ _ _ _ _ _ _ _
-          c.len.ensures.distinct c.loop-place.invariant.inside lt c.requires c.in_ok-insert.ensures.entries (c.loop-place.invariant.pairs live);
+      pairs = λ live. pair_step _ _ _ _ _ _ c.loop-place.invariant.inside lt c.requires c.in_ok-insert.ensures.entries c.len.ensures.distinct live _ (c.loop-place.invariant.pairs live);
     }
 
 pub returns-clause-inside : goal.returns-clause-inside

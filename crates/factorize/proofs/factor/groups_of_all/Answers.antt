@@ -7,6 +7,3 @@ use Rattle.factorize.proofs.factor.groups_of_all.Goals as goal
 pub of-requires : goal.of-requires
 of-requires c =
     grind (arith, All-map (IsPlaceOf (length c.args.numbers.firsts.items)) Some c.args.numbers.codes.items c.requires)
-
-pub returns-clause-groups : goal.returns-clause-groups
-returns-clause-groups = grind arith

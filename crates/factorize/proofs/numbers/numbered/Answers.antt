@@ -9,22 +9,19 @@ use Rattle.factorize.proofs.numbers.numbered.Goals as goal
 
 pub loop-level-init : goal.loop-level-init
 loop-level-init g c =
-    let rows = g.R.KeyLevels.keys c.args.rows.now in
     let last = c.levels-levels.result - 1 in
-    let all : All (λ t. length t ≡ last + 1) rows = grind arith in
+    let all : All (λ t. length t ≡ last + 1) (g.R.KeyLevels.keys _) = grind arith in
     record {
       inside = omega (arith, c.levels-levels.ensures.some);
-      numbered = last_level same_number laws-law label.Na last rows c.in_ok-numbers.numbers.codes.items c.in_ok-numbers.numbers.firsts.items all (grind arith);
+      numbered = last_level _ laws-law label.Na last _ _ _ all (grind arith);
     }
 
 pub loop-level-preserved : goal.loop-level-preserved
 loop-level-preserved g c =
-    let rows = g.R.KeyLevels.keys c.args.rows.now in
-    let here = c.loop-level.level - 1 in
-    let all : All (λ t. here < length t) rows = grind arith in
+    let all : All (λ t. (c.loop-level.level - 1) < length t) (g.R.KeyLevels.keys c.args.rows.now) = grind arith in
     record {
       inside = omega (arith, c.loop-level.invariant.inside);
-      numbered = one_level same_number laws-law label.Na here rows c.loop-level.numbers.codes.items c.in_ok-numbers-2.numbers.codes.items c.in_ok-numbers-2.numbers.firsts.items all
+      numbered = one_level same_number laws-law label.Na _ _ c.loop-level.numbers.codes.items _ _ all
           (grind arith)
           (grind arith);
     }

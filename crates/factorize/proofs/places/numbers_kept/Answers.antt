@@ -1,6 +1,5 @@
 use Rattle.{
-  std.{proofs.Common.{◌≡◌, ◌∙◌, ℕ, Bool, List, true, false, not, filter, length, ap, sym, rules}, specs.List.{range_with_len}},
-  group_meaning.specs.Keys.{ordered_if},
+  std.proofs.Common.{◌≡◌, ◌∙◌, ℕ, Bool, List, true, false, not, filter, length, ap, sym, rules},
   factorize.{specs.Numbers.{first_row, number_less, row_holds_na, kept_numbers}, proofs.NumberLaws.{filter_all}},
 }
 use Rattle.factorize.proofs.places.numbers_kept.Goals as goal
@@ -8,18 +7,18 @@ use Rattle.factorize.proofs.places.numbers_kept.Goals as goal
 pub returns-then-not-dropna : goal.returns-then-not-dropna
 returns-then-not-dropna g c =
     let texts = c.args.dict.now in
-    let keys = g.R.KeyLevels.keys c.args.rows.now in
+    let keys = g.R.KeyLevels.keys _ in
     let meant : Bool → List ℕ → List ℕ = λ dropna firsts. kept_numbers c.args.sorted dropna (number_less texts keys c.args.levels firsts) (λ n. row_holds_na texts keys c.args.levels (first_row firsts n)) (length firsts) in
     let firsts = c.deref-firsts.result.now in
     let off : c.args.dropna ≡ false = search rules in
     c.in_ok-ordered.ensures
-    ∙ sym (filter_all (ordered_if c.args.sorted (number_less texts keys c.args.levels firsts) (range_with_len 0 (length firsts))))
+    ∙ sym (search filter_all)
     ∙ (λ i. meant (sym off i) (c.deref-firsts.ensures.value i))
 
 pub returns : goal.returns
 returns g c =
     let texts = c.args.dict.now in
-    let keys = g.R.KeyLevels.keys c.args.rows.now in
+    let keys = g.R.KeyLevels.keys _ in
     let meant : Bool → List ℕ → List ℕ = λ dropna firsts. kept_numbers c.args.sorted dropna (number_less texts keys c.args.levels firsts) (λ n. row_holds_na texts keys c.args.levels (first_row firsts n)) (length firsts) in
     let firsts = c.deref-firsts.result.now in
     let on : c.args.dropna ≡ true = search rules in

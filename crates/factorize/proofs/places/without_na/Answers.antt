@@ -13,10 +13,10 @@ loop-number-preserved g c = λ texts.
     let told : not c.holds_na-stays.result ≡ stays (slice_index_or numbers i 0) = cc (c.holds_na-stays.ensures texts, c.row_of.ensures) in
     c.in_ok-push_if.ensures
     ∙ (λ j. c.loop-number.invariant texts j ++ cond (told j) (slice_index_or numbers i 0 ∷ []) [])
-    ∙ sym (filter_more stays numbers i 0 lt)
+    ∙ sym (filter_more _ numbers i 0 lt)
 
 pub returns : goal.returns
 returns g c = λ texts.
     let end : length c.args.numbers.now ≤ c.loop-number.number-index = omega arith in
     c.from.ensures ∙ c.loop-number.invariant texts
-    ∙ ap (filter (λ n. not (row_holds_na texts (g.R.KeyLevels.keys c.args.rows.now) c.args.levels (first_row c.args.firsts.now n)))) (take_all c.loop-number.number-index c.args.numbers.now end)
+    ∙ ap (filter (λ n. not (row_holds_na texts (g.R.KeyLevels.keys _) c.args.levels (first_row c.args.firsts.now n)))) (take_all _ _ end)

@@ -1,10 +1,9 @@
 use Rattle.{
   std.proofs.Common.{◌∙◌},
-  format_meaning.specs.{Told.{cell_at}, Print.{shown_cell}},
   frame_format.proofs.FieldLaws.{column_pushed},
 }
 use Rattle.frame_format.proofs.frame.push_cells.Goals as goal
 
 pub loop-column-preserved : goal.loop-column-preserved
 loop-column-preserved g c =
-    column_pushed c.args.widths.now (λ column. shown_cell (cell_at c.args.source.now c.args.row column)) c.loop-column.column _ _ _ _ _ c.loop-column.invariant c.in_ok-push_spaces.ensures c.in_ok-push_right.ensures (c.as_str.ensures.value ∙ c.in_ok-show_cell.ensures)
+    column_pushed _ _ _ _ _ _ _ _ c.loop-column.invariant c.in_ok-push_spaces.ensures c.in_ok-push_right.ensures (c.as_str.ensures.value ∙ c.in_ok-show_cell.ensures)

@@ -1,8 +1,8 @@
 use Rattle.{
-  std.{proofs.{Common.{◌∙◌, ◌++◌, ap, arith, ◌≡◌, length}, lemmas.Result.{IfOk-weaker}}, specs.List.{flat_map}},
+  std.proofs.{Common.{◌∙◌, ap, arith, ◌≡◌, length}, lemmas.Result.{IfOk-weaker}},
   cell_core.specs.Values.{na_cell},
   table_meaning.specs.Table.{row_of},
-  format_meaning.specs.{CsvWrite.{header_fields, row_fields, record_text, csv_text_of}, Print.{places}},
+  format_meaning.specs.CsvWrite.{row_fields, record_text, csv_text_of},
   frame_format.proofs.RecordLaws.{nothing_written, header_written, row_written, rows_written},
 }
 use Rattle.frame_format.proofs.records.csv_text.Goals as goal
@@ -13,12 +13,10 @@ loop-row-init g c =
 
 pub loop-row-preserved : goal.loop-row-preserved
 loop-row-preserved g c =
-    let t = c.new-source.result in
-    row_written _ _ (record_text (header_fields c.args.index t)) (λ row. row_fields c.args.index (row_of na_cell t row)) c.loop-row.row _ c.loop-row.invariant c.in_ok-write_record-2.ensures c.in_ok-fill_row.ensures.fields
+    row_written _ _ _ (λ row. row_fields c.args.index (row_of na_cell c.new-source.result row)) _ _ c.loop-row.invariant c.in_ok-write_record-2.ensures c.in_ok-fill_row.ensures.fields
 
 pub returns : goal.returns
 returns g c =
     let t = c.new-source.result in
-    let header = record_text (header_fields c.args.index t) in
     let all : c.loop-row.row ≡ length t.labels = omega (arith, c.loop-row-test.false, c.loop-row.auto.row-end, c.rows-row-end.ensures) in
-    IfOk-weaker c.words_of.result _ _ (λ words h. h _ c.loop-row.invariant ∙ (ap (λ n. header ++ flat_map (λ row. record_text (row_fields c.args.index (row_of na_cell t row))) (places n)) all ∙ ap (λ l. header ++ l) (rows_written t (λ r. record_text (row_fields c.args.index r)))) ∙ ap (csv_text_of c.args.index) c.new-source.ensures) c.words_of.ensures
+    IfOk-weaker c.words_of.result _ _ (λ words h. h _ c.loop-row.invariant ∙ (cc (rows_written t (λ r. record_text (row_fields c.args.index r)))) ∙ ap (csv_text_of c.args.index) c.new-source.ensures) c.words_of.ensures

@@ -5,4 +5,4 @@ use Rattle.{
 use Rattle.frame_format.proofs.series.push_series_lines.Goals as goal
 
 pub loop-row-preserved : goal.loop-row-preserved
-loop-row-preserved g c = flat_pushed _ c.loop-row.row _ c.loop-row.out c.push_str.new.self _ c.loop-row.invariant (grind (arith, both)) refl
+loop-row-preserved g c = flat_pushed _ c.loop-row.row _ _ _ _ c.loop-row.invariant (grind (arith, both)) refl

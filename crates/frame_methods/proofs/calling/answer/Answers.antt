@@ -1,25 +1,25 @@
 use Rattle.{
   std.proofs.Common.{arith},
-  frame_store.{specs.World.{world}, proofs.Settling.{longer_self}},
+  frame_store.proofs.Settling.{longer_self},
   label_methods.proofs.AnswerLaws.{known_table, forms_so},
 }
 use Rattle.frame_methods.proofs.calling.answer.Goals as goal
 
 -- one cell of each column
 pub summarize-made-requires : goal.summarize-made-requires
-summarize-made-requires c = known_table (world c.args.store.now c.args.dict.now) c.args.on.0 c.read.result c.read.ensures.table c.read.ensures.whole c.requires.settled
+summarize-made-requires c = known_table _ _ _ c.read.ensures.table c.read.ensures.whole c.requires.settled
 
 pub returns-in-Summary : goal.returns-in-Summary
 returns-in-Summary c =
     forms_so _ _ _ _ _
     (grind arith)
-    (c.answer_made.ensures c.args.dict.now _ (longer_self c.args.dict.now) c.requires.settled c.summarize-made.ensures.answer)
+    (c.answer_made.ensures c.args.dict.now _ (longer_self _) c.requires.settled c.summarize-made.ensures.answer)
 
 -- a table of rows, levels or labels
 pub returns-in-Rows : goal.returns-in-Rows
 returns-in-Rows c =
     forms_so _ _ _ _ _ (grind arith)
-    (c.placed.ensures.answers c.args.dict.now _ (longer_self c.args.dict.now) c.requires.settled c.rows_made-table.ensures)
+    (c.placed.ensures.answers c.args.dict.now _ (longer_self _) c.requires.settled c.rows_made-table.ensures)
 
 pub returns-in-Levels : goal.returns-in-Levels
 returns-in-Levels c =
@@ -29,4 +29,4 @@ returns-in-Levels c =
 pub returns-in-Labels : goal.returns-in-Labels
 returns-in-Labels c =
     forms_so _ _ _ _ _ (grind arith)
-    (c.placed-in-Labels.ensures.answers c.args.dict.now _ (longer_self c.args.dict.now) c.requires.settled c.labels_made-table.ensures)
+    (c.placed-in-Labels.ensures.answers c.args.dict.now _ (longer_self _) c.requires.settled c.labels_made-table.ensures)

@@ -14,11 +14,11 @@ returns-in_err-cell c = λ earlier meant longer settled makes. (
 
 pub returns-in-Table : goal.returns-in-Table
 returns-in-Table c = λ earlier meant longer settled makes.
-    c.placed.ensures.answers earlier meant longer settled (table_meant _ c.args.made c.in_ok-cell.field-0 c.in-Table.table meant c.in_ok-cell.was c.in-Table.is c.requires makes)
+    c.placed.ensures.answers earlier meant longer settled (table_meant _ _ _ _ _ c.in_ok-cell.was c.in-Table.is c.requires makes)
 
 pub returns-in-Scalar : goal.returns-in-Scalar
 returns-in-Scalar c = λ earlier meant longer settled makes. (
-  scalar_answered earlier _ _ c.args.made c.in_ok-cell.field-0 c.in-Scalar.cell meant c.in_ok-cell.was c.in-Scalar.is c.requires longer settled makes,
+  scalar_answered _ _ _ _ _ _ _ c.in_ok-cell.was c.in-Scalar.is c.requires longer settled makes,
   longer,
   search kept_settled,
 )

@@ -5,7 +5,6 @@ use Rattle.{
   form_meaning.specs.{Binding.{truth_in}, Make.{on}, Select.{column_places}},
   method_meaning.specs.Rows.{dropna_result, sort_values_result, sort_by_result, all_places, labels_in},
   frame_store.{specs.{Objects.{tables, table_at}, World.{world}}, proofs.Settling.{object_settled}},
-  selections.proofs.PickedLaws.{places_inside},
   frame_methods.proofs.AnswerLaws.{makes_by},
   label_methods.{specs.Named.{first_in}, proofs.{AnswerLaws.{known_table}, NamedLaws.{all_are}}},
 }
@@ -22,22 +21,19 @@ returns-in-Dropna c =
 
 -- the columns of a Series
 pub duplicated-requires-clause-known : goal.duplicated-requires-clause-known
-duplicated-requires-clause-known c = known_table (world c.args.store.now c.args.dict.now) c.args.on.0 c.read-source.result c.read-source.ensures.table c.read-source.ensures.whole c.requires.settled
+duplicated-requires-clause-known c = known_table _ _ _ c.read-source.ensures.table c.read-source.ensures.whole c.requires.settled
 
 pub duplicated-requires-in-DuplicatedFrame-clause-known : goal.duplicated-requires-in-DuplicatedFrame-clause-known
-duplicated-requires-in-DuplicatedFrame-clause-known c = known_table (world c.args.store.now c.args.dict.now) c.args.on.0 c.read-source.result c.read-source.ensures.table c.read-source.ensures.whole c.requires.settled
+duplicated-requires-in-DuplicatedFrame-clause-known c = known_table _ _ _ c.read-source.ensures.table c.read-source.ensures.whole c.requires.settled
 
 pub sort_values-requires-clause-known : goal.sort_values-requires-clause-known
-sort_values-requires-clause-known c = known_table (world c.args.store.now c.args.dict.now) c.args.on.0 c.read-source.result c.read-source.ensures.table c.read-source.ensures.whole c.requires.settled
+sort_values-requires-clause-known c = known_table _ _ _ c.read-source.ensures.table c.read-source.ensures.whole c.requires.settled
 
 pub sort_values-requires-in-SortValuesFrame-clause-known : goal.sort_values-requires-in-SortValuesFrame-clause-known
-sort_values-requires-in-SortValuesFrame-clause-known c = known_table (world c.args.store.now c.args.dict.now) c.args.on.0 c.read-source.result c.read-source.ensures.table c.read-source.ensures.whole c.requires.settled
+sort_values-requires-in-SortValuesFrame-clause-known c = known_table _ _ _ c.read-source.ensures.table c.read-source.ensures.whole c.requires.settled
 
 pub sort_index-requires-clause-known : goal.sort_index-requires-clause-known
-sort_index-requires-clause-known c = known_table (world c.args.store.now c.args.dict.now) c.args.on.0 c.read-source.result c.read-source.ensures.table c.read-source.ensures.whole c.requires.settled
-
-pub duplicated-requires-clause-places : goal.duplicated-requires-clause-places
-duplicated-requires-clause-places = grind (arith, places_inside)
+sort_index-requires-clause-known c = known_table _ _ _ c.read-source.ensures.table c.read-source.ensures.whole c.requires.settled
 
 -- the columns that are named, or all
 -- in the order of their cells
@@ -59,6 +55,3 @@ returns-in_ok-places-in-SortValuesFrame c =
     (ap (λ r. then_value r (sort_values_result s c.truth-ascending.result)) (sym (ap (λ n. column_places (table_value w.texts n) (labels_in g)) at ∙ c.in_ok-places-in-SortValuesFrame.ensures.0))
     ∙ ap (λ o. on o (λ b. sort_by_result s b g)) (c.truth-ascending.ensures w.tables w.texts))
     c.sort_values-in-SortValuesFrame.ensures
-
-pub sort_values-requires-clause-places : goal.sort_values-requires-clause-places
-sort_values-requires-clause-places = grind (arith, places_inside)

@@ -5,25 +5,21 @@ use Rattle.{
   method_meaning.specs.Methods.{each_column},
   frame_store.specs.{Objects.{tables, table_at}, World.{world}},
   signatures.proofs.ScalarLaws.{items_settled},
-  frame_methods.{specs.Listed.{listed_column}, proofs.{HeldLaws.{each_given}, AnswerLaws.{answer_by}, ListedLaws.{isin_meant}}},
+  frame_methods.{specs.Listed.{listed_column}, proofs.{AnswerLaws.{answer_by}, ListedLaws.{isin_meant}}},
   label_methods.proofs.AnswerLaws.{forms_so},
 }
 use Rattle.form_meaning.specs.declared.Method.TheVariants as method
-use Rattle.form_meaning.specs.declared.ColumnMethod.TheVariants as column_method
 use Rattle.frame_methods.proofs.column_ops.columns_answer.Goals as goal
 
 -- cells in a list
 pub listed_cells-requires : goal.listed_cells-requires
-listed_cells-requires c = items_settled c.args.bound.now 0 c.list.result.now (tables c.args.store.now) c.args.dict.now c.list.ensures.value c.requires.call.given
-
-pub columns_placed-requires-in-Isin-clause-own : goal.columns_placed-requires-in-Isin-clause-own
-columns_placed-requires-in-Isin-clause-own c = each_given _ _ c.in_ok-values-in-Isin.ensures.given
+listed_cells-requires c = items_settled c.args.bound.now 0 _ _ _ c.list.ensures.value c.requires.call.given
 
 pub returns-in_ok-values-in-Isin : goal.returns-in_ok-values-in-Isin
 returns-in_ok-values-in-Isin c =
     let w = world c.args.store.now c.args.dict.now in
     let t = table_value c.args.dict.now (table_at (tables c.args.store.now) c.args.on.0) in
     forms_so _ _ _ _ _
-    (isin_meant w.tables w.texts c.list.result.now c.in_ok-values-in-Isin.values.keys _ t (c.list.ensures.value w.tables w.texts) (c.in_ok-values-in-Isin.ensures.same w.texts)
-    ∙ answer_by w (method.Columns c.args.method) (method.Columns column_method.Isin) c.args.bound.now t (λ a. on (list_in (a 0)) (λ parts. each_column (listed_column (cells_of parts)) t)) (ap method.Columns c.in-Isin.is) c.requires.call.parameters refl)
+    (isin_meant _ _ _ _ _ t (c.list.ensures.value w.tables w.texts) (c.in_ok-values-in-Isin.ensures.same w.texts)
+    ∙ answer_by w _ _ c.args.bound.now t (λ a. on (list_in (a 0)) (λ parts. each_column (listed_column (cells_of parts)) t)) (ap method.Columns c.in-Isin.is) c.requires.call.parameters refl)
     c.columns_placed-in-Isin.ensures

@@ -9,10 +9,10 @@ use Rattle.frame_methods.proofs.duplicates.duplicated.Goals as goal
 
 pub series_table-requires : goal.series_table-requires
 series_table-requires c =
-    marks_count c.args.on.now c.args.places.now c.in_ok-numbers.numbers.items c.in_ok-marks.marks.cells c.in_ok-axis.axis c.in_ok-numbers.ensures (c.in_ok-marks.ensures.cells ∙ ap (λ l. map Bool (repeats nat_eq [] l)) c.as_slice.ensures.value) (c.in_ok-axis.ensures ∙ c.axis.ensures)
+    marks_count _ _ _ _ _ c.in_ok-numbers.ensures (c.in_ok-marks.ensures.cells ∙ ap (λ l. map Bool (repeats nat_eq [] l)) c.as_slice.ensures.value) (c.in_ok-axis.ensures ∙ c.axis.ensures)
 
 pub returns : goal.returns
 returns c =
     let within : within_limits (length c.args.on.now.labels) 1 ≡ true = search rules in
-    duplicated_made c.args.dict.now c.args.on.now c.in_ok-series_table.field-0 c.in_ok-axis.axis c.in_ok-marks.marks c.args.places.now c.in_ok-numbers.numbers.items c.len.ensures.distinct c.requires.known c.requires.places
+    duplicated_made _ _ _ _ _ _ _ c.len.ensures.distinct c.requires.known c.requires.places
     c.in_ok-numbers.ensures c.in_ok-marks.ensures.kind (c.in_ok-marks.ensures.cells ∙ ap (λ l. map Bool (repeats nat_eq [] l)) c.as_slice.ensures.value) within (c.in_ok-axis.ensures ∙ c.axis.ensures) c.in_ok-series_table.ensures

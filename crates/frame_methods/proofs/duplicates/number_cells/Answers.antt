@@ -1,5 +1,5 @@
 use Rattle.{
-  std.{proofs.{Common.{◌<◌, ◌≤◌, refl, sym, length, arith}, lemmas.Option.{get_or_from_slice_get}}, specs.Prelude.{slice_index}},
+  std.proofs.{Common.{◌<◌, ◌≤◌, refl, sym, length, arith}, lemmas.Option.{get_or_from_slice_get}},
   frame_methods.proofs.DuplicateLaws.{numbered_more, numbers_more},
 }
 use Rattle.frame_methods.proofs.duplicates.number_cells.Goals as goal
@@ -8,7 +8,7 @@ pub loop-row-preserved : goal.loop-row-preserved
 loop-row-preserved c =
     let lt : c.loop-row.row < length c.args.numbers.now = omega arith in
     let stored = c.in_ok-next.ensures.stored in
-    numbered_more c.args.numbers.now c.column-column.result.cells c.loop-row.row c.in_ok-next.next (slice_index c.loop-row.numbers c.loop-row.row) c.cell.result c.loop-row.numbers _ c.loop-row.seen.keys c.insert_full.new.self.keys stored.0
+    numbered_more _ _ _ _ _ _ _ _ _ _ _
     c.loop-row.invariant lt refl (sym (search get_or_from_slice_get)) c.in_ok-next.ensures.keys stored.1 stored.2 c.in_ok-next.ensures.unique refl
 
 pub returns : goal.returns

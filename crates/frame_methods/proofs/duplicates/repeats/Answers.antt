@@ -1,5 +1,5 @@
 use Rattle.{
-  std.{proofs.Common.{◌<◌, refl, ap, length, arith}, specs.Prelude.{slice_index}},
+  std.proofs.Common.{◌<◌, refl, ap, length, arith},
   frame_methods.proofs.DuplicateLaws.{marks_more},
 }
 use Rattle.frame_methods.proofs.duplicates.repeats.Goals as goal
@@ -7,9 +7,8 @@ use Rattle.frame_methods.proofs.duplicates.repeats.Goals as goal
 pub loop-number-preserved : goal.loop-number-preserved
 loop-number-preserved c =
     let lt : c.loop-number.number-index < length c.args.numbers.now = omega arith in
-    let i = c.loop-number.number-index in
     record {
       kind = grind arith;
-      cells = marks_more c.args.numbers.now c.loop-number.seen.keys c.insert.new.self.keys c.loop-number.marks.cells c.push.new.self.cells i (slice_index c.args.numbers.now i) c.in_ok-is_new.is_new _
+      cells = marks_more _ _ _ _ _ c.loop-number.number-index _ _ _
           lt refl c.in_ok-is_new.ensures.added c.in_ok-is_new.ensures.keys (ap (λ m. m.cells) c.in_ok-push.ensures.ok) c.loop-number.invariant.cells;
     }

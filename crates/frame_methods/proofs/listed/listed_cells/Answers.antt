@@ -7,11 +7,11 @@ use Rattle.frame_methods.proofs.listed.listed_cells.Goals as goal
 pub loop-item-preserved : goal.loop-item-preserved
 loop-item-preserved c =
     let lt : c.loop-item.item-index < length c.args.items.now = omega arith in
-    let both = first_settled c.args.dict.now c.args.items.now c.loop-item.item-index c.item-item.result c.scalar.result lt c.item-item.is c.scalar.ensures c.loop-item.invariant.settled in
+    let both = first_settled _ _ _ _ _ lt c.item-item.is c.scalar.ensures c.loop-item.invariant.settled in
     record {
       settled = both.1;
       given = rw c.in_ok-note.ensures (search noted_given);
       same = λ texts test.
-          noted_step texts c.args.items.now c.loop-item.item-index c.item-item.result c.scalar.result c.loop-item.values.keys c.note.new.values.keys test _ lt c.item-item.is c.scalar.ensures c.in_ok-note.ensures
+          noted_step _ _ _ _ _ _ _ _ _ lt c.item-item.is c.scalar.ensures c.in_ok-note.ensures
           (c.loop-item.invariant.same texts test);
     }

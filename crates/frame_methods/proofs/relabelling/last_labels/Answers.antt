@@ -8,8 +8,8 @@ pub loop-key-preserved : goal.loop-key-preserved
 loop-key-preserved c =
     let lt : c.loop-key.key-index < length c.args.pairs.now = omega arith in
     record {
-      settled = labels_settled c.args.dict.now c.args.pairs.now c.loop-key.key-index c.loop-key-item.result c.scalar.result c.name_of.result c.loop-key.labels.entries c.insert.new.self.entries
+      settled = labels_settled _ _ _ _ _ _ _ _
           c.requires lt c.loop-key-item.is c.scalar.ensures c.name_of.ensures c.in_ok-insert.ensures.entries c.loop-key.invariant.settled;
-      last = labels_step c.args.dict.now c.args.pairs.now c.loop-key.key-index c.loop-key-item.result c.scalar.result c.name_of.result c.loop-key.labels.entries c.insert.new.self.entries _
+      last = labels_step _ _ _ _ _ _ _ _ _
           c.len.ensures.distinct c.requires lt c.loop-key-item.is c.scalar.ensures c.name_of.ensures c.in_ok-insert.ensures.entries c.loop-key.invariant.settled c.loop-key.invariant.last;
     }

@@ -7,20 +7,20 @@ use Rattle.frame_methods.proofs.relabelling.renamed_headings.Goals as goal
 
 pub returns-then-not-have_labels-clause-answer : goal.returns-then-not-have_labels-clause-answer
 returns-then-not-have_labels-clause-answer c =
-    (no_labels c.args.dict.now c.in_ok-labels.labels.entries _ (headings_value c.args.dict.now c.args.on.now.headings) c.in_ok-labels.ensures.last (sym c.have_labels.ensures ∙ c.if-not-have_labels.true), λ more. refl)
+    (no_labels _ _ _ (headings_value c.args.dict.now c.args.on.now.headings) c.in_ok-labels.ensures.last (sym c.have_labels.ensures ∙ c.if-not-have_labels.true), λ more. refl)
 
 pub returns-clause-headings : goal.returns-clause-headings
 returns-clause-headings c =
-    new_heads c.in_ok-labels.labels.entries c.columns_name.result c.args.on.now.headings c.deref.result.now c.different_headings.result (c.deref.ensures.value ∙ c.in_ok-headings.ensures)
+    new_heads _ _ _ _ _ (c.deref.ensures.value ∙ c.in_ok-headings.ensures)
     (c.requires.whole.headings.labelled c.requires.shape) c.different_headings.ensures.different c.different_headings.ensures.made
 
 pub returns-clause-settled : goal.returns-clause-settled
 returns-clause-settled c =
-    new_settled c.args.dict.now c.in_ok-labels.labels.entries c.columns_name.result c.args.on.now.headings c.deref.result.now c.different_headings.result (c.deref.ensures.value ∙ c.in_ok-headings.ensures)
-    c.in_ok-labels.ensures.settled (headings_part c.args.dict.now c.args.on.now c.requires.settled) c.different_headings.ensures.made
+    new_settled _ _ _ _ _ _ (c.deref.ensures.value ∙ c.in_ok-headings.ensures)
+    c.in_ok-labels.ensures.settled (headings_part _ _ c.requires.settled) c.different_headings.ensures.made
 
 pub returns-clause-answer : goal.returns-clause-answer
 returns-clause-answer c =
-    new_meant c.args.dict.now c.in_ok-labels.labels.entries c.columns_name.result c.args.on.now.headings c.deref.result.now _ c.different_headings.result c.len.ensures.distinct
-    c.in_ok-labels.ensures.settled (headings_part c.args.dict.now c.args.on.now c.requires.settled) c.in_ok-labels.ensures.last (c.deref.ensures.value ∙ c.in_ok-headings.ensures) (sym c.have_labels.ensures ∙ c.if-not-have_labels.false)
+    new_meant _ _ _ _ _ _ _ c.len.ensures.distinct
+    c.in_ok-labels.ensures.settled (headings_part _ _ c.requires.settled) c.in_ok-labels.ensures.last (c.deref.ensures.value ∙ c.in_ok-headings.ensures) (sym c.have_labels.ensures ∙ c.if-not-have_labels.false)
     c.different_headings.ensures.different c.different_headings.ensures.made c.different_headings.ensures.refused

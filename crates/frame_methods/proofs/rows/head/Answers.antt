@@ -1,6 +1,5 @@
 use Rattle.{
   std.{proofs.{Common.{arith}, lemmas.Int.{to_z-of_z}}, specs.Int.{w64}},
-  frame_store.specs.Objects.{tables},
   label_methods.proofs.AnswerLaws.{forms_so},
   frame_methods.proofs.RowLaws.{first_meant, rows_read},
 }
@@ -8,7 +7,7 @@ use Rattle.frame_methods.proofs.rows.head.Goals as goal
 
 pub returns : goal.returns
 returns c = λ texts settled.
-    let all = rows_read texts (tables c.args.store.now c.args.on.0) c.read.result c.rows.result c.read.ensures.table c.rows.ensures in
+    let all = rows_read texts _ _ _ c.read.ensures.table c.rows.ensures in
     let counted = rw (to_z-of_z w64 c.args.n c.ranges.n) at c.count_taken-count.ensures.taken in
     forms_so _ _ _ _ _
     (grind (arith, first_meant))

@@ -7,7 +7,7 @@ use Rattle.{
 use Rattle.frame_methods.proofs.rows.rows_table.Goals as goal
 
 pub chosen_table-requires-clause-columns : goal.chosen_table-requires-clause-columns
-chosen_table-requires-clause-columns c = places_inside c.in_ok-columns.columns c.columns-2.result (length c.args.on.now.columns) c.in_ok-columns.ensures c.columns-2.ensures
+chosen_table-requires-clause-columns c = places_inside _ _ _ c.in_ok-columns.ensures c.columns-2.ensures
 
 pub chosen_table-requires-clause-headed : goal.chosen_table-requires-clause-headed
 chosen_table-requires-clause-headed = grind (arith, places_count)
@@ -16,6 +16,6 @@ pub returns : goal.returns
 returns c = λ texts settled.
     let t = c.args.on.now in
     let within : within_limits (length c.args.rows.now) (length t.columns) ≡ true = search rules in
-    rows_made texts t c.in_ok-chosen_table.field-0 c.in_ok-headings.headings c.args.rows.now c.in_ok-columns.columns
+    rows_made _ t _ _ _ _
     c.in_ok-headings.ensures (c.in_ok-columns.ensures ∙ ap (range_with_len 0) c.columns-2.ensures)
     (grind arith) within settled

@@ -8,4 +8,4 @@ pub returns-in_ok-distinct-in-Distinct-clause-answer : goal.returns-in_ok-distin
 returns-in_ok-distinct-in-Distinct-clause-answer c =
     let n = c.in_ok-distinct-in-Distinct.field-0 in
     let lt : n < 2 ^ 64 = omega arith in
-    rw c.in-Distinct.is (distinct_answer c.args.dict.now c.args.a n c.count_cell.result lt (grind arith) c.count_cell.ensures)
+    rw c.in-Distinct.is (distinct_answer _ c.args.a n _ lt (grind arith) c.count_cell.ensures)

@@ -1,7 +1,6 @@
 use Rattle.{
   std.proofs.Common.{◌≡◌, true, length, rules},
   form_meaning.specs.Finish.{within_limits},
-  frame_store.specs.Shown.{cells_value},
   frame_methods.proofs.TableLaws.{made_columns, columns_settled_later},
 }
 use Rattle.frame_methods.proofs.tables.columns_table.Goals as goal
@@ -9,8 +8,8 @@ use Rattle.frame_methods.proofs.tables.columns_table.Goals as goal
 pub returns-clause-answer : goal.returns-clause-answer
 returns-clause-answer g c =
     let within : within_limits (length c.args.on.now.labels) (length c.in-Ok.columns) ≡ true = search rules in (
-      made_columns (g.O.ColumnOp.answer c.args.op.now (cells_value c.args.dict.now (g.O.ColumnOp.held c.args.op.now))) c.args.dict.now c.each_column.new.dict c.args.on.now c.in_ok-table_under.field-0 c.in_ok-headings.headings c.in-Ok.columns
+      made_columns _ _ _ _ _ _ _
           c.in-Ok.ensures.longer c.requires.known.given c.in_ok-headings.ensures c.in_ok-table_under.ensures within c.in-Ok.ensures.answer,
-      columns_settled_later c.args.dict.now c.each_column.new.dict c.args.on.now c.in_ok-table_under.field-0 c.in_ok-headings.headings c.in-Ok.columns
+      columns_settled_later _ _ _ _ _ _
           c.in-Ok.ensures.longer c.requires.known.given c.in_ok-headings.ensures c.in_ok-table_under.ensures c.in-Ok.ensures.given,
     )

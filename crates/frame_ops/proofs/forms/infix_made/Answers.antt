@@ -15,11 +15,11 @@ scalar_infix-requires-clause-known c = search object_settled
 
 pub scalar_infix-requires-clause-cell : goal.scalar_infix-requires-clause-cell
 scalar_infix-requires-clause-cell c =
-    scalar_given c.args.dict.now (tables c.args.store.now) c.in-Object-Scalar.c (rw c.in-Object-Scalar.is-1 at c.requires.right.given)
+    scalar_given _ (tables c.args.store.now) _ (rw c.in-Object-Scalar.is-1 at c.requires.right.given)
 
 pub scalar_infix-requires-in-Scalar-Object-clause-known : goal.scalar_infix-requires-in-Scalar-Object-clause-known
 scalar_infix-requires-in-Scalar-Object-clause-known c = search object_settled
 
 pub scalar_infix-requires-in-Scalar-Object-clause-cell : goal.scalar_infix-requires-in-Scalar-Object-clause-cell
 scalar_infix-requires-in-Scalar-Object-clause-cell c =
-    scalar_given c.args.dict.now (tables c.args.store.now) c.in-Scalar-Object.c (rw c.in-Scalar-Object.is-0 at c.requires.left.given)
+    scalar_given _ (tables c.args.store.now) _ (rw c.in-Scalar-Object.is-0 at c.requires.left.given)

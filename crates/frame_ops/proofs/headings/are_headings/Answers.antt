@@ -1,26 +1,16 @@
 use Rattle.{
   std.proofs.Common.{◌≡◌, ◌<◌, length, arith},
   multi_index.specs.Axes.{HaveLevels},
-  frame_store.proofs.Settling.{headings_part, labels_part},
-  frame_ops.proofs.HeadingLaws.{heading_settled, label_settled, other_rows, other_levels, one_more_heading},
+  frame_store.proofs.Settling.{headings_part},
+  frame_ops.proofs.HeadingLaws.{heading_settled, other_levels, one_more_heading},
 }
 use Rattle.frame_ops.proofs.headings.are_headings.Goals as goal
-
-pub returns-then-rows-columns : goal.returns-then-rows-columns
-returns-then-rows-columns = grind (arith, other_rows)
 
 pub returns-then-levels-ne1 : goal.returns-then-levels-ne1
 returns-then-levels-ne1 c =
     let alike : HaveLevels c.levels.result c.args.series.now.labels = grind arith in
     let same : length c.args.series.now.labels ≡ length c.args.frame.now.headings = omega arith in
     search other_levels
-
-pub same_heading-requires-clause-a : goal.same_heading-requires-clause-a
-same_heading-requires-clause-a c =
-    let lt : c.loop-place.place < length c.args.series.now.labels = omega arith in
-    let one : c.levels.result ≡ 1 = omega arith in
-    let alike : HaveLevels c.levels.result c.args.series.now.labels = grind arith in
-    grind (arith, label_settled, labels_part)
 
 pub same_heading-requires-clause-b : goal.same_heading-requires-clause-b
 same_heading-requires-clause-b c =

@@ -2,19 +2,19 @@ use Rattle.{
   std.proofs.{Common.{◌≡◌, ◌∙◌, ◌<◌, ap, sym, length, arith, slice_index_or, None}, lemmas.{List.{length-set}, Option.{get_or_from_slice_get}}},
   table_meaning.specs.{Settled.{IsSettled}, Table.{heading_value}},
   form_meaning.specs.Infix.{common_name},
-  frame_ops.proofs.{HeadingLaws.{heading_settled}, JoinLaws.{one_named, all_named, names_given}},
+  frame_ops.proofs.{HeadingLaws.{heading_settled}, JoinLaws.{one_named, names_given}},
 }
 use Rattle.frame_ops.proofs.joining.name_levels.Goals as goal
 
 pub common_name-requires-clause-a : goal.common_name-requires-clause-a
 common_name-requires-clause-a c =
     let lt : c.loop-level.level < length c.args.a.now.names = omega arith in
-    heading_settled c.args.dict.now c.args.a.now.names c.name.result c.loop-level.level c.requires.given_a lt (sym (search get_or_from_slice_get))
+    heading_settled _ _ _ _ c.requires.given_a lt (sym (search get_or_from_slice_get))
 
 pub common_name-requires-clause-b : goal.common_name-requires-clause-b
 common_name-requires-clause-b c =
     let lt : c.loop-level.level < length c.args.b.now.names = omega (arith, c.requires.levels) in
-    heading_settled c.args.dict.now c.args.b.now.names c.name-in-loop-level.result c.loop-level.level c.requires.given_b lt (sym (search get_or_from_slice_get))
+    heading_settled _ _ _ _ c.requires.given_b lt (sym (search get_or_from_slice_get))
 
 pub loop-level-preserved : goal.loop-level-preserved
 loop-level-preserved c =
@@ -25,14 +25,11 @@ loop-level-preserved c =
     let set = ap (λ x. x.names) c.set_name.ensures in
     record {
       tuples = ap (λ x. x.tuples) c.set_name.ensures ∙ c.loop-level.invariant.tuples;
-      count = ap (λ l. length l) set ∙ length-set names level c.common_name.result ∙ c.loop-level.invariant.count;
-      named = one_named (λ k h. heading_value dict h ≡ common_name (heading_value dict (slice_index_or c.args.a.now.names k None)) (heading_value dict (slice_index_or c.args.b.now.names k None))) names c.set_name.new.self.names level c.common_name.result set lt c.loop-level.invariant.named
-          (c.common_name.ensures.name ∙ (λ i. common_name (heading_value dict ((sym (get_or_from_slice_get c.args.a.now.names level c.name.result None c.name.ensures)) i)) (heading_value dict ((sym (get_or_from_slice_get c.args.b.now.names level c.name-in-loop-level.result None c.name-in-loop-level.ensures)) i))));
-      given = one_named (λ k h. IsSettled heading_value dict h) names c.set_name.new.self.names level c.common_name.result set lt c.loop-level.invariant.given c.common_name.ensures.settled;
+      count = ap (λ l. length l) set ∙ length-set names _ _ ∙ c.loop-level.invariant.count;
+      named = one_named (λ k h. heading_value dict h ≡ common_name (heading_value dict (slice_index_or c.args.a.now.names k None)) (heading_value dict (slice_index_or c.args.b.now.names k None))) names _ level _ set lt c.loop-level.invariant.named
+          (c.common_name.ensures.name ∙ (λ i. common_name (heading_value dict ((sym (get_or_from_slice_get _ level c.name.result None c.name.ensures)) i)) (heading_value dict ((sym (get_or_from_slice_get c.args.b.now.names level _ None c.name-in-loop-level.ensures)) i))));
+      given = one_named (λ k h. IsSettled heading_value dict h) names _ level _ set lt c.loop-level.invariant.given c.common_name.ensures.settled;
     }
 
-pub returns-clause-names : goal.returns-clause-names
-returns-clause-names = grind (arith, all_named)
-
 pub returns-clause-given : goal.returns-clause-given
-returns-clause-given c = names_given c.args.dict.now c.loop-level.axis.names (λ k lt. c.loop-level.invariant.given k (omega (arith, c.loop-level.invariant.count)))
+returns-clause-given c = names_given _ c.loop-level.axis.names (λ k lt. c.loop-level.invariant.given k (omega (arith, c.loop-level.invariant.count)))

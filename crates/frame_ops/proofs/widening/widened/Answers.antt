@@ -7,7 +7,7 @@ use Rattle.frame_ops.proofs.widening.widened.Goals as goal
 
 pub new-requires-clause-whole : goal.new-requires-clause-whole
 new-requires-clause-whole c =
-    subst (λ t. IsWhole t)
+    subst IsWhole
     (grind arith)
-    (widened_whole c.args.own.now c.args.other.now c.args.keys.now.tuples c.args.places.now c.args.opposites.now c.requires.whole c.requires.frame c.requires.keys c.requires.places.count_is (c.requires.opposites.count_is ∙ sym c.requires.places.count_is)
+    (widened_whole _ c.args.other.now _ _ _ c.requires.whole c.requires.frame c.requires.keys c.requires.places.count_is (c.requires.opposites.count_is ∙ sym c.requires.places.count_is)
     (search side_places))

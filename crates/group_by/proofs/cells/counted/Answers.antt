@@ -8,4 +8,4 @@ use Rattle.group_by.proofs.cells.counted.Goals as goal
 pub returns-clause-value : goal.returns-clause-value
 returns-clause-value c = λ texts.
     let fits : FitsSigned w64 c.cast_signed.result = search rules in
-    ap int_cell (to_z-of_z fits ∙ c.cast_signed.ensures ∙ sym (count_wraps c.args.count (search rules)))
+    ap int_cell (to_z-of_z fits ∙ c.cast_signed.ensures ∙ sym (count_wraps _ (search rules)))

@@ -1,5 +1,5 @@
 use Rattle.{
-  std.proofs.{Common.{◌∙◌, ◌<◌, ◌≤◌, ◌+◌, ◌∷◌, [], ap, arith, map, take, length, slice_index_or}, lemmas.List.{take_more, take_all, map-append}},
+  std.proofs.{Common.{◌∙◌, ◌<◌, ◌≤◌, ◌∷◌, [], ap, arith, map, take, length, slice_index_or}, lemmas.List.{take_more, take_all, map-append}},
   group_meaning.specs.Reductions.{count_cell},
   group_by.proofs.NumberLaws.{no_numbers, numbers_more, same_numbers},
 }
@@ -15,14 +15,13 @@ pub loop-count-preserved : goal.loop-count-preserved
 loop-count-preserved c =
     let counts = c.args.counts.now in
     let k = c.loop-count.count-index in
-    let n = slice_index_or counts k 0 in
     let lt : k < length counts = omega arith in
-    numbers_more c.loop-count.column c.push.new.self (λ texts. map count_cell (take k counts)) (λ texts. map count_cell (take (k + 1) counts)) c.counted.result (λ texts. count_cell n)
+    numbers_more _ _ _ _ _ _
     c.loop-count.invariant c.counted.ensures.held c.counted.ensures.value c.in_ok-push.ensures.ok
-    (λ texts. ap (map count_cell) (take_more counts k 0 lt) ∙ map-append count_cell (take k counts) (n ∷ []))
+    (λ texts. ap (map count_cell) (take_more counts k 0 lt) ∙ map-append count_cell (take k counts) ((slice_index_or counts k 0) ∷ []))
 
 pub returns : goal.returns
 returns c =
     let counts = c.args.counts.now in
     let end : length counts ≤ c.loop-count.count-index = omega arith in
-    same_numbers c.loop-count.column (λ texts. map count_cell (take c.loop-count.count-index counts)) (λ texts. map count_cell counts) c.loop-count.invariant (λ texts. ap (map count_cell) (take_all c.loop-count.count-index counts end))
+    same_numbers _ _ _ c.loop-count.invariant (λ texts. ap (map count_cell) (take_all c.loop-count.count-index counts end))

@@ -10,19 +10,18 @@ count_one-requires-clause-below = grind arith
 pub count_one-requires-clause-room : goal.count_one-requires-clause-room
 count_one-requires-clause-room c =
     let small : c.rows-row-end.result < 2 ^ 64 = search rules in
-    room c.args.groups.now.codes c.loop-row.row c.args.groups.now.count c.loop-row.counts (omega arith) (subst (λ n. n < 2 ^ 64) c.rows-row-end.ensures small) c.loop-row.invariant.size c.loop-row.invariant.each
+    room _ _ _ _ (omega arith) (subst (λ n. n < 2 ^ 64) c.rows-row-end.ensures small) c.loop-row.invariant.size c.loop-row.invariant.each
 
 pub loop-row-init : goal.loop-row-init
 loop-row-init = grind arith
 
 pub loop-row-preserved : goal.loop-row-preserved
 loop-row-preserved c =
-    let codes = c.args.groups.now.codes in
     let row = c.loop-row.row in
-    let is : slice_index_or codes row None ≡ c.code.result = search get_or_from_slice_get in
+    let is : slice_index_or c.args.groups.now.codes row None ≡ c.code.result = search get_or_from_slice_get in
     record {
       size = search;
-      each = rows_counted codes row c.args.groups.now.count c.code.result c.loop-row.counts c.count_one.new.counts (omega arith) is c.count_one.ensures c.loop-row.invariant.size c.loop-row.invariant.each;
+      each = rows_counted _ row _ _ _ _ (omega arith) is c.count_one.ensures c.loop-row.invariant.size c.loop-row.invariant.each;
     }
 
 pub returns-clause-counted : goal.returns-clause-counted

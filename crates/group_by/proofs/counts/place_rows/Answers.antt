@@ -1,6 +1,6 @@
 use Rattle.{
-  std.{proofs.{Common.{◌≡◌, ◌∙◌, ◌<◌, ◌+◌, ◌^◌, ap, sym, subst, arith, rules, length, map, take, slice_index_or, None}, lemmas.{List.FromFn.{map-range_with_len_more}, Option.{get_or_from_slice_get}}}, specs.List.{range_with_len}},
-  group_meaning.specs.{Rows.{rows_of_group}, Reductions.{count_cell, of_group, count_before, group_places}},
+  std.{proofs.{Common.{◌≡◌, ◌∙◌, ◌<◌, ◌^◌, ap, sym, subst, arith, rules, length, map, take, slice_index_or, None}, lemmas.{List.FromFn.{map-range_with_len_more}, Option.{get_or_from_slice_get}}}, specs.List.{range_with_len}},
+  group_meaning.specs.{Rows.{rows_of_group}, Reductions.{count_cell, of_group, count_before}},
   group_by.proofs.NumberLaws.{room, rows_counted, no_numbers, numbers_more, same_numbers, of_one_group},
 }
 use Rattle.group_by.proofs.counts.place_rows.Goals as goal
@@ -20,31 +20,29 @@ count_one-requires-clause-below = grind arith
 pub count_one-requires-clause-room : goal.count_one-requires-clause-room
 count_one-requires-clause-room c =
     let small : c.rows-row-end.result < 2 ^ 64 = search rules in
-    room c.args.groups.now.codes c.loop-row.row c.args.groups.now.count c.loop-row.counts (omega arith) (subst (λ n. n < 2 ^ 64) c.rows-row-end.ensures small) c.loop-row.invariant.size c.loop-row.invariant.each
+    room _ _ _ _ (omega arith) (subst (λ n. n < 2 ^ 64) c.rows-row-end.ensures small) c.loop-row.invariant.size c.loop-row.invariant.each
 
 pub loop-row-preserved : goal.loop-row-preserved
 loop-row-preserved c =
     let codes = c.args.groups.now.codes in
-    let count = c.args.groups.now.count in
     let row = c.loop-row.row in
     let code = c.code-group.result in
-    let counts = c.loop-row.counts in
     let inside : row < length codes = omega arith in
     let is : slice_index_or codes row None ≡ code = search get_or_from_slice_get in
     record {
       size = search;
       each = search rows_counted;
-      made = numbers_more c.loop-row.column c.push.new.self (λ texts. map (count_before codes) (range_with_len 0 row)) (λ texts. map (count_before codes) (range_with_len 0 (row + 1))) c.place_of.result (λ texts. count_before codes row)
+      made = numbers_more _ _ _ _ _ _
           c.loop-row.invariant.made c.place_of.ensures.held
           (λ texts. c.place_of.ensures.value texts
-          ∙ of_one_group code count (λ g. count_cell (slice_index_or counts g 0)) (λ g. count_cell (length (rows_of_group g (take row codes)))) c.code-group.ensures.below (λ g lt. ap count_cell (c.loop-row.invariant.each g lt))
+          ∙ of_one_group _ _ _ _ c.code-group.ensures.below (λ g lt. ap count_cell (c.loop-row.invariant.each g lt))
           ∙ ap (λ o. of_group o (λ g. count_cell (length (rows_of_group g (take row codes))))) (sym is))
           c.in_ok-push.ensures.ok
-          (λ texts. map-range_with_len_more (count_before codes) 0 row row (omega arith));
+          (λ texts. map-range_with_len_more _ 0 _ _ (omega arith));
     }
 
 pub returns : goal.returns
 returns c =
     let codes = c.args.groups.now.codes in
     let end : c.loop-row.row ≡ length codes = omega arith in
-    same_numbers c.loop-row.column (λ texts. map (count_before codes) (range_with_len 0 c.loop-row.row)) (λ texts. (group_places c.args.groups.now).cells) c.loop-row.invariant.made (λ texts. ap (λ n. map (count_before codes) (range_with_len 0 n)) end)
+    same_numbers _ _ _ c.loop-row.invariant.made (λ texts. ap (λ n. map (count_before codes) (range_with_len 0 n)) end)

@@ -7,4 +7,4 @@ use Rattle.group_by.proofs.groups.group_cumcount.Goals as goal
 
 pub returns-clause-answer : goal.returns-clause-answer
 returns-clause-answer g c = λ texts.
-    if_ok_more (λ column are. numbers_value column (λ ts. (group_places c.groups.result.now).cells) are texts ∙ ap group_places c.groups.ensures) c.places.result c.places.ensures
+    if_ok_more (λ column are. numbers_value _ _ are texts ∙ ap group_places c.groups.ensures) c.places.result c.places.ensures

@@ -7,4 +7,4 @@ use Rattle.group_by.proofs.groups.group_size.Goals as goal
 
 pub returns-clause-answer : goal.returns-clause-answer
 returns-clause-answer g c = λ texts.
-    if_ok_more (λ column are. numbers_value column (λ ts. (group_sizes c.groups.result.now).cells) are texts ∙ ap group_sizes c.groups.ensures) c.sizes.result c.sizes.ensures
+    if_ok_more (λ column are. numbers_value _ _ are texts ∙ ap group_sizes c.groups.ensures) c.sizes.result c.sizes.ensures

@@ -27,7 +27,7 @@ loop-row-preserved g c =
     record {
       size = grind arith;
       held = c.gather_cell.ensures.held c.args.a.now.kind c.loop-row.invariant.held one;
-      value = λ group below. taken_in codes row inside (map (datum texts) cells) g.G.Gather.op texts c.code.result cell c.loop-row.gathered c.gather_cell.new.gathered is here c.gather_cell.ensures.takes group (c.loop-row.invariant.value group below);
+      value = λ group below. taken_in _ _ inside _ g.G.Gather.op _ _ _ _ _ is here c.gather_cell.ensures.takes group (c.loop-row.invariant.value group below);
     }
 
 pub returns-clause-value : goal.returns-clause-value

@@ -3,57 +3,40 @@ use Rattle.{
   cell_core.specs.declared.cell.Cell.TheVariants.{Na},
   meaning.specs.{Cell.{na_cell, datum}, Cumulate.{unless_missing}},
   group_meaning.specs.{Rows.{cells_of_group}, Reductions.{of_group, group_cell, sum, running_cell}},
-  group_by.proofs.{RowLaws.{taken_in}, NumberLaws.{no_numbers, numbers_more, same_numbers, of_one_group}},
+  group_by.proofs.{RowLaws.{taken_in}, NumberLaws.{numbers_more, same_numbers, of_one_group}},
 }
 use Rattle.group_by.proofs.running.sum_rows.Goals as goal
-
-pub loop-row-init : goal.loop-row-init
-loop-row-init = grind (arith, no_numbers)
-
-pub add_cell-requires : goal.add_cell-requires
-add_cell-requires = grind arith
-
-pub sum_of-requires-clause-below : goal.sum_of-requires-clause-below
-sum_of-requires-clause-below = grind arith
-
-pub sum_of-requires-clause-held : goal.sum_of-requires-clause-held
-sum_of-requires-clause-held = grind arith
-
-pub push-requires : goal.push-requires
-push-requires = grind arith
 
 pub loop-row-preserved : goal.loop-row-preserved
 loop-row-preserved c =
     let codes = c.args.groups.now.codes in
-    let count = c.args.groups.now.count in
     let cells = c.args.a.now.cells in
     let row = c.loop-row.row in
-    let code = c.code-group.result in
     let cell = c.cell-cell.result in
     let values = λ (texts : List (List ℕ)). map (datum texts) cells in
     let inside : row < length codes = omega arith in
     let lt : row < length cells = omega (arith, inside, c.requires.rows) in
-    let here : (texts : List (List ℕ)) → slice_index_or (values texts) row na_cell ≡ datum texts cell = λ texts. get_or-map (datum texts) cells row cell na_cell lt ∙ ap (datum texts) (get_or_from_slice_get cells row cell cell c.cell-cell.ensures.cell) in
-    let is : slice_index_or codes row None ≡ code = search get_or_from_slice_get in
-    let sums : (texts : List (List ℕ)) (g : ℕ) → g < count → datum texts (slice_index_or c.add_cell.new.sums g Na) ≡ group_cell sum (cells_of_group g (take (row + 1) codes) (values texts))
-    = λ texts g below. taken_in codes row inside (values texts) sum texts code cell c.loop-row.sums c.add_cell.new.sums is (here texts) (c.add_cell.ensures.takes texts) g (c.loop-row.invariant.sums texts g below) in
+    let here : (texts : List (List ℕ)) → slice_index_or (values texts) row na_cell ≡ datum texts cell = λ texts. get_or-map (datum texts) cells row cell na_cell lt ∙ ap (datum texts) (get_or_from_slice_get _ row _ _ c.cell-cell.ensures.cell) in
+    let is : slice_index_or codes row None ≡ c.code-group.result = search get_or_from_slice_get in
+    let sums : (texts : List (List ℕ)) (g : ℕ) → g < c.args.groups.now.count → datum texts (slice_index_or c.add_cell.new.sums g Na) ≡ group_cell sum (cells_of_group g (take (row + 1) codes) (values texts))
+    = λ texts g below. taken_in _ _ inside _ sum _ _ _ _ _ is (here texts) (c.add_cell.ensures.takes texts) g (c.loop-row.invariant.sums texts g below) in
     record {
       size = grind arith;
       held = grind arith;
       sums = sums;
-      made = numbers_more c.loop-row.column c.push.new.self (λ texts. map (running_cell codes (values texts)) (range_with_len 0 row)) (λ texts. map (running_cell codes (values texts)) (range_with_len 0 (row + 1))) c.sum_of.result (λ texts. running_cell codes (values texts) row)
+      made = numbers_more _ _ _ _ _ _
           c.loop-row.invariant.made c.sum_of.ensures.held
           (λ texts. c.sum_of.ensures.value texts
-          ∙ of_one_group code count (λ g. unless_missing (datum texts cell) (datum texts (slice_index_or c.add_cell.new.sums g Na))) (λ g. unless_missing (slice_index_or (values texts) row na_cell) (group_cell sum (cells_of_group g (take (row + 1) codes) (values texts)))) c.code-group.ensures.below
+          ∙ of_one_group _ _ _ _ c.code-group.ensures.below
           (λ g below. λ i. unless_missing (sym (here texts) i) (sums texts g below i))
           ∙ ap (λ o. of_group o (λ g. unless_missing (slice_index_or (values texts) row na_cell) (group_cell sum (cells_of_group g (take (row + 1) codes) (values texts))))) (sym is))
           c.in_ok-push.ensures.ok
-          (λ texts. map-range_with_len_more (running_cell codes (values texts)) 0 row row (omega arith));
+          (λ texts. map-range_with_len_more _ 0 _ _ (omega arith));
     }
 
 pub returns : goal.returns
 returns c =
     let codes = c.args.groups.now.codes in
     let end : c.loop-row.row ≡ length codes = omega arith in
-    same_numbers c.loop-row.column (λ texts. map (running_cell codes (map (datum texts) c.args.a.now.cells)) (range_with_len 0 c.loop-row.row)) (λ texts. map (running_cell codes (map (datum texts) c.args.a.now.cells)) (range_with_len 0 (length codes))) c.loop-row.invariant.made
+    same_numbers _ _ _ c.loop-row.invariant.made
     (λ texts. ap (λ n. map (running_cell codes (map (datum texts) c.args.a.now.cells)) (range_with_len 0 n)) end)

@@ -1,10 +1,9 @@
 use Rattle.{
-  label_methods.proofs.IndexingLaws.{labelled},
-  std.{proofs.{Common.{arith, ◌≡◌, ◌∙◌, ap, sym, subst, true, false, length, map, ◌++◌, rules}, lemmas.{List.{length-map}, Result.{err_from_is_err_and}}}, specs.{List.{list_all}, Prelude.{All, IsSome}}},
+  std.{proofs.{Common.{◌≡◌, ◌∙◌, ap, sym, subst, true, false, length, map, ◌++◌, rules}, lemmas.{List.{length-map}, Result.{err_from_is_err_and}}}, specs.List.{list_all}},
   table_meaning.specs.{Settled.{IsSettled}, Table.{table_value}},
   frame_store.specs.Shown.{headings_value},
   method_meaning.specs.Groups.{headings_of},
-  group_forms.{specs.{declared.columns.ColumnCall.TheVariants.{Reduced}, Columns.{takes_at, made_at}, Grouped.{grouping_seen}, Tables.{group_keys}}, proofs.{ColumnLaws.{all_taken}, KeyLaws.{codes_counted}, RowLaws.{own_settled, labels_counted}, GroupLaws.{group_headings_settled, group_labelled, reduced_refused, reduced_shown, reduced_headings, reduced_columns, group_table, group_made, group_headings_counted, axis_counted, blocks_counted}, ShownLaws.{made_is, refused_is}}},
+  group_forms.{specs.{declared.columns.ColumnCall.TheVariants.{Reduced}, Columns.{takes_at, made_at}, Grouped.{grouping_seen}, Tables.{group_keys}}, proofs.{ColumnLaws.{all_taken}, RowLaws.{own_settled, labels_counted}, GroupLaws.{group_headings_settled, reduced_refused, reduced_shown, reduced_headings, reduced_columns, group_table, group_made, group_headings_counted, axis_counted, blocks_counted}, ShownLaws.{made_is, refused_is}}},
 }
 use Rattle.group_forms.proofs.by_group.reduced.Goals as goal
 
@@ -14,18 +13,6 @@ returns-then-not-all_taken c =
     search reduced_refused
 
 -- the headings
-pub new_headings-requires-clause-given : goal.new_headings-requires-clause-given
-new_headings-requires-clause-given c =
-    let dict = c.args.dict.now in
-    let t = c.args.on.now in
-    let owned = c.as_slice.ensures.value ∙ c.in_ok-own.ensures in
-    let labels = c.as_slice-2.ensures.value ∙ c.in_ok-labels.ensures in
-    subst (IsSettled headings_value dict) (sym labels) (group_headings_settled dict t c.args.grouping.now c.as_slice.result.now c.requires.known.given (search own_settled))
-
-pub new_headings-requires-clause-labelled : goal.new_headings-requires-clause-labelled
-new_headings-requires-clause-labelled c =
-    λ e. subst (All IsSome) (sym (c.as_slice-2.ensures.value ∙ c.in_ok-labels.ensures)) (grind (arith, group_labelled, labelled))
-
 pub returns-in_err-headings : goal.returns-in_err-headings
 returns-in_err-headings c =
     let dict = c.args.dict.now in
@@ -39,13 +26,10 @@ returns-in_err-headings c =
     let table = group_table (table_value dict t) (grouping_seen dict g) (headings_of (table_value dict t) v.places) (reduced_columns dict t g v c.args.op) in
     let p = err_from_is_err_and c.from_residual-in_err-headings.result c.from_residual-in_err-headings.ensures.1 in
     rw (p.1, p.2)
-    (refused_is dict c.is_single-single.result table _ c.in_err-headings.field-0.0 (cc (reduced_shown dict t g v c.args.op all, c.is_single-single.ensures))
+    (refused_is _ _ _ _ _ (cc (reduced_shown dict t g v c.args.op all, c.is_single-single.ensures))
     (c.in_err-headings.ensures.may table (search reduced_headings)))
 
 -- the columns
-pub more_columns-requires-clause-rows : goal.more_columns-requires-clause-rows
-more_columns-requires-clause-rows c = codes_counted c.args.dict.now c.args.on.now c.args.grouping.now c.in_ok-found.found.groups c.in_ok-found.ensures.groups
-
 pub more_columns-requires-clause-taken : goal.more_columns-requires-clause-taken
 more_columns-requires-clause-taken c =
     let all : list_all (takes_at (Reduced c.args.op) c.args.on.now) c.args.values.now.places ≡ true = search rules in
@@ -59,14 +43,12 @@ new_table-requires-clause-rows c =
 
 pub new_table-requires-clause-headed : goal.new_table-requires-clause-headed
 new_table-requires-clause-headed c =
-    let dict = c.args.dict.now in
     let t = c.args.on.now in
-    let g = c.args.grouping.now in
     let v = c.args.values.now in
-    let f = made_at (Reduced c.args.op) c.in_ok-found.found.groups (table_value dict t) in
+    let f = made_at (Reduced c.args.op) c.in_ok-found.found.groups (table_value c.args.dict.now t) in
     ap (λ h. length h.labels) c.in_ok-headings.ensures.made
     ∙ ap (λ l. length l) (c.as_slice-2.ensures.value ∙ c.in_ok-labels.ensures)
-    ∙ sym (blocks_counted dict c.in_ok-blocks.blocks (group_keys (table_value dict t) (grouping_seen dict g) ++ map f v.places) (c.in_ok-blocks.ensures.columns ∙ ap (λ ks. ks ++ map f v.places) c.in_ok-keys.ensures.columns) ∙ group_headings_counted dict t g c.as_slice.result.now (map f v.places) (length-map v.places f ∙ sym (labels_counted t v.places c.as_slice.result.now (c.as_slice.ensures.value ∙ c.in_ok-own.ensures))))
+    ∙ sym (blocks_counted _ _ _ (c.in_ok-blocks.ensures.columns ∙ ap (λ ks. ks ++ map f v.places) c.in_ok-keys.ensures.columns) ∙ group_headings_counted _ t c.args.grouping.now c.as_slice.result.now _ (length-map v.places f ∙ sym (labels_counted t _ _ (c.as_slice.ensures.value ∙ c.in_ok-own.ensures))))
 
 pub returns : goal.returns
 returns c =
@@ -81,7 +63,7 @@ returns c =
     let made = c.in_ok-blocks.ensures.columns ∙ ap (λ ks. ks ++ map (made_at (Reduced c.args.op) c.in_ok-found.found.groups T) v.places) c.in_ok-keys.ensures.columns
     ∙ ap (λ gs. group_keys T (grouping_seen dict g) ++ map (made_at (Reduced c.args.op) gs T) v.places) c.in_ok-found.ensures.groups in
     let table = group_table T (grouping_seen dict g) (headings_of T v.places) (reduced_columns dict t g v c.args.op) in
-    let headed = reduced_headings dict t g v c.args.op c.as_slice.result.now c.as_slice-2.result.now c.count-count.result owned labels (c.count-count.ensures ∙ ap (λ gs. gs.count) c.in_ok-found.ensures.groups) in
-    made_is dict c.is_single-single.result table _ c.in_ok-axis.axis c.columns_name-name.result c.as_slice-2.result.now c.in_ok-blocks.blocks c.in_ok-headings.headings c.new_table.result
-    (group_made dict t g (headings_of T v.places) (reduced_columns dict t g v c.args.op) c.in_ok-axis.axis c.columns_name-name.result c.as_slice-2.result.now c.in_ok-blocks.blocks _ c.requires.known.given c.columns_name-name.ensures c.in_ok-axis.ensures headed.headings (subst (IsSettled headings_value dict) (sym labels) (group_headings_settled dict t g c.as_slice.result.now c.requires.known.given (own_settled dict t v.places c.as_slice.result.now owned c.requires.known.given))) made
+    let headed = reduced_headings dict t g v c.args.op c.as_slice.result.now _ c.count-count.result owned labels (c.count-count.ensures ∙ ap (λ gs. gs.count) c.in_ok-found.ensures.groups) in
+    made_is dict c.is_single-single.result table _ c.in_ok-axis.axis _ _ _ _ c.new_table.result
+    (group_made _ t g _ _ _ _ _ _ _ c.requires.known.given c.columns_name-name.ensures c.in_ok-axis.ensures headed.headings (subst (IsSettled headings_value dict) (sym labels) (group_headings_settled dict t g c.as_slice.result.now c.requires.known.given (own_settled _ t _ _ owned c.requires.known.given))) made
     c.in_ok-blocks.ensures.blocks) (cc (reduced_shown dict t g v c.args.op all, c.is_single-single.ensures)) (c.in_ok-headings.ensures.may table headed) c.in_ok-headings.ensures.made c.new_table.ensures

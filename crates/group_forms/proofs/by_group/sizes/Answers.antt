@@ -1,10 +1,9 @@
 use Rattle.{
   std.proofs.{Common.{◌∙◌, ap, sym, subst, refl, [], ◌∷◌, length}, lemmas.Result.{err_from_is_err_and}},
-  group_forms.{proofs.{GroupLaws.{grouped_is, group_headings_settled, group_headings_counted, sizes_labelled, size_table, size_column, size_headings, sizes_boxed, sizes_seen, one_settled, group_made, axis_counted, blocks_counted}, ShownLaws.{made_is, refused_is}}, specs.Grouped.{grouping_seen}},
+  group_forms.{proofs.{GroupLaws.{grouped_is, group_headings_settled, group_headings_counted, size_table, size_headings, sizes_boxed, sizes_seen, one_settled, group_made, axis_counted, blocks_counted}, ShownLaws.{made_is, refused_is}}, specs.Grouped.{grouping_seen}},
   table_meaning.specs.{Settled.{IsSettled}, Table.{table_value}},
   frame_store.specs.Shown.{headings_value},
 }
-use Rattle.method_meaning.specs.Groups as meant
 use Rattle.group_forms.proofs.by_group.sizes.Goals as goal
 
 -- the headings
@@ -12,22 +11,16 @@ pub new_headings-requires-clause-given : goal.new_headings-requires-clause-given
 new_headings-requires-clause-given c =
     subst (IsSettled headings_value c.args.dict.now) (sym (c.as_slice.ensures.value ∙ c.in_ok-labels.ensures)) (search (group_headings_settled, one_settled))
 
-pub new_headings-requires-clause-labelled : goal.new_headings-requires-clause-labelled
-new_headings-requires-clause-labelled c =
-    sizes_labelled c.args.dict.now c.args.on.now c.args.grouping.now c.args.values.now c.args.heading c.requires.heading c.as_slice.result.now (c.as_slice.ensures.value ∙ c.in_ok-labels.ensures) c.requires.known.whole c.requires.shape c.requires.keys.below
-
 pub returns-in_err-headings : goal.returns-in_err-headings
 returns-in_err-headings c =
-    let dict = c.args.dict.now in
     let t = c.args.on.now in
     let g = c.args.grouping.now in
     let v = c.args.values.now in
     let h = c.args.heading in
-    let table = size_table dict t g v h c.requires.heading in
     let p = err_from_is_err_and c.from_residual-in_err-headings.result c.from_residual-in_err-headings.ensures.1 in
     rw (p.1, p.2)
-    (refused_is dict g.as_index table _ c.in_err-headings.field-0.0 (search grouped_is)
-    (c.in_err-headings.ensures.may table (size_headings dict t g v h c.requires.heading c.as_slice.result.now c.count-count.result (c.as_slice.ensures.value ∙ c.in_ok-labels.ensures) (c.count-count.ensures ∙ ap (λ gs. gs.count) c.in_ok-found.ensures.groups))))
+    (refused_is _ _ _ _ _ (search grouped_is)
+    (c.in_err-headings.ensures.may (size_table _ t g v h c.requires.heading) (size_headings _ t g v h c.requires.heading c.as_slice.result.now _ (c.as_slice.ensures.value ∙ c.in_ok-labels.ensures) (c.count-count.ensures ∙ ap (λ gs. gs.count) c.in_ok-found.ensures.groups))))
 
 -- the table
 pub new_table-requires-clause-single : goal.new_table-requires-clause-single
@@ -42,12 +35,11 @@ new_table-requires-clause-rows c =
 
 pub new_table-requires-clause-headed : goal.new_table-requires-clause-headed
 new_table-requires-clause-headed c =
-    let dict = c.args.dict.now in
     let t = c.args.on.now in
     let g = c.args.grouping.now in
     ap (λ h. length h.labels) c.in_ok-headings.ensures.made
     ∙ ap (λ l. length l) (c.as_slice.ensures.value ∙ c.in_ok-labels.ensures)
-    ∙ sym (blocks_counted dict c.push.new.self _ (sizes_seen dict t g c.in_ok-found.found.groups c.in_ok-column.column c.into_block.result c.in_ok-blocks.blocks c.push.new.self c.into_block.ensures c.in_ok-push.ensures.ok (c.in_ok-column.ensures.answer dict) c.in_ok-found.ensures.groups c.in_ok-blocks.ensures.columns) ∙ group_headings_counted dict t g (c.args.heading ∷ []) (size_column dict t g c.args.values.now c.args.heading c.requires.heading) refl)
+    ∙ sym (blocks_counted _ _ _ (sizes_seen _ t g _ _ _ _ _ c.into_block.ensures c.in_ok-push.ensures.ok (c.in_ok-column.ensures.answer c.args.dict.now) c.in_ok-found.ensures.groups c.in_ok-blocks.ensures.columns) ∙ group_headings_counted _ t g (c.args.heading ∷ []) _ refl)
 
 pub returns : goal.returns
 returns c =
@@ -57,8 +49,7 @@ returns c =
     let v = c.args.values.now in
     let h = c.args.heading in
     let labels = c.as_slice.ensures.value ∙ c.in_ok-labels.ensures in
-    let table = size_table dict t g v h c.requires.heading in
-    let headed = size_headings dict t g v h c.requires.heading c.as_slice.result.now c.count-count.result labels (c.count-count.ensures ∙ ap (λ gs. gs.count) c.in_ok-found.ensures.groups) in
-    made_is dict g.as_index table _ c.in_ok-axis.axis c.columns_name-name.result c.as_slice.result.now c.push.new.self c.in_ok-headings.headings c.new_table.result
-    (group_made dict t g (meant.size_heading g.as_index ∷ []) (size_column dict t g v h c.requires.heading) c.in_ok-axis.axis c.columns_name-name.result c.as_slice.result.now c.push.new.self _ c.requires.known.given c.columns_name-name.ensures c.in_ok-axis.ensures headed.headings (subst (IsSettled headings_value dict) (sym labels) (group_headings_settled dict t g (h ∷ []) c.requires.known.given (one_settled dict h c.requires.given))) (sizes_seen dict t g c.in_ok-found.found.groups c.in_ok-column.column c.into_block.result c.in_ok-blocks.blocks c.push.new.self c.into_block.ensures c.in_ok-push.ensures.ok (c.in_ok-column.ensures.answer dict) c.in_ok-found.ensures.groups c.in_ok-blocks.ensures.columns) (sizes_boxed dict c.in_ok-found.found.groups c.in_ok-column.column c.into_block.result c.in_ok-blocks.blocks c.push.new.self c.into_block.ensures c.in_ok-push.ensures.ok (c.in_ok-column.ensures.answer dict) (c.in_ok-column.ensures.given dict) c.in_ok-blocks.ensures.blocks))
-    (search grouped_is) (c.in_ok-headings.ensures.may table headed) c.in_ok-headings.ensures.made c.new_table.ensures
+    let headed = size_headings _ t g v h c.requires.heading c.as_slice.result.now _ labels (c.count-count.ensures ∙ ap (λ gs. gs.count) c.in_ok-found.ensures.groups) in
+    made_is _ _ _ _ _ _ _ _ _ _
+    (group_made _ t g _ _ _ _ _ _ _ c.requires.known.given c.columns_name-name.ensures c.in_ok-axis.ensures headed.headings (subst (IsSettled headings_value dict) (sym labels) (group_headings_settled _ t g (h ∷ []) c.requires.known.given (one_settled _ h c.requires.given))) (sizes_seen _ t g _ _ _ _ _ c.into_block.ensures c.in_ok-push.ensures.ok (c.in_ok-column.ensures.answer dict) c.in_ok-found.ensures.groups c.in_ok-blocks.ensures.columns) (sizes_boxed _ c.in_ok-found.found.groups _ _ _ _ c.into_block.ensures c.in_ok-push.ensures.ok (c.in_ok-column.ensures.answer dict) (c.in_ok-column.ensures.given dict) c.in_ok-blocks.ensures.blocks))
+    (search grouped_is) (c.in_ok-headings.ensures.may (size_table _ t g v h c.requires.heading) headed) c.in_ok-headings.ensures.made c.new_table.ensures

@@ -2,7 +2,7 @@ use Rattle.{
   std.proofs.Common.{arith, ◌≡◌, ◌∙◌, ap, sym},
   table_meaning.specs.Table.{table_value},
   method_meaning.specs.Groups.{group_answer},
-  frame_store.{specs.{Objects.{tables, table_or}, World.{world}}, proofs.Settling.{longer_self}},
+  frame_store.{specs.Objects.{tables, table_or}, proofs.Settling.{longer_self}},
   group_by.specs.Operations.{reduction_of},
   group_forms.{specs.{Calls.{call_of}, Grouped.{grouping_seen, values_seen}}, proofs.FormLaws.{known_table}},
 }
@@ -10,16 +10,16 @@ use Rattle.method_meaning.specs.Groups as meant
 use Rattle.group_forms.proofs.calling.answer.Goals as goal
 
 pub reduced-table-requires-clause-known : goal.reduced-table-requires-clause-known
-reduced-table-requires-clause-known c = known_table (world c.args.store.now c.args.dict.now) c.args.on.0 c.read.result c.read.ensures.table c.read.ensures.whole c.requires.settled
+reduced-table-requires-clause-known c = known_table _ _ _ c.read.ensures.table c.read.ensures.whole c.requires.settled
 
 pub along_rows-table-requires-clause-known : goal.along_rows-table-requires-clause-known
-along_rows-table-requires-clause-known c = known_table (world c.args.store.now c.args.dict.now) c.args.on.0 c.read-in-Transformed.result c.read-in-Transformed.ensures.table c.read-in-Transformed.ensures.whole c.requires.settled
+along_rows-table-requires-clause-known c = known_table _ _ _ c.read-in-Transformed.ensures.table c.read-in-Transformed.ensures.whole c.requires.settled
 
 pub along_rows-table-requires-in-Cumsum-clause-known : goal.along_rows-table-requires-in-Cumsum-clause-known
-along_rows-table-requires-in-Cumsum-clause-known c = known_table (world c.args.store.now c.args.dict.now) c.args.on.0 c.read-in-Cumsum.result c.read-in-Cumsum.ensures.table c.read-in-Cumsum.ensures.whole c.requires.settled
+along_rows-table-requires-in-Cumsum-clause-known c = known_table _ _ _ c.read-in-Cumsum.ensures.table c.read-in-Cumsum.ensures.whole c.requires.settled
 
 pub counts-table-requires-clause-known : goal.counts-table-requires-clause-known
-counts-table-requires-clause-known c = known_table (world c.args.store.now c.args.dict.now) c.args.on.0 c.read-in-Cumcount.result c.read-in-Cumcount.ensures.table c.read-in-Cumcount.ensures.whole c.requires.settled
+counts-table-requires-clause-known c = known_table _ _ _ c.read-in-Cumcount.ensures.table c.read-in-Cumcount.ensures.whole c.requires.settled
 
 pub returns-in-Reduced : goal.returns-in-Reduced
 returns-in-Reduced c =
@@ -27,7 +27,7 @@ returns-in-Reduced c =
     let g = grouping_seen dict c.args.grouping.now in
     let v = values_seen dict c.args.values.now in
     let at : c.read.result ≡ table_or (tables c.args.store.now c.args.on.0) = grind arith in
-    rw (ap (λ n. group_answer (table_value dict n) g v ((meant.reduced (reduction_of c.in-Reduced.op)))) at ∙ ap (λ x. group_answer (table_value dict (table_or (tables c.args.store.now c.args.on.0))) g v (call_of x)) (sym c.in-Reduced.is)) at (c.placed.ensures.answers dict _ (longer_self dict) c.requires.settled c.reduced-table.ensures)
+    rw (ap (λ n. group_answer (table_value dict n) g v ((meant.reduced (reduction_of c.in-Reduced.op)))) at ∙ ap (λ x. group_answer (table_value dict (table_or (tables c.args.store.now c.args.on.0))) g v (call_of x)) (sym c.in-Reduced.is)) at (c.placed.ensures.answers dict _ (longer_self _) c.requires.settled c.reduced-table.ensures)
 
 pub returns-in-Transformed : goal.returns-in-Transformed
 returns-in-Transformed c =
@@ -35,7 +35,7 @@ returns-in-Transformed c =
     let g = grouping_seen dict c.args.grouping.now in
     let v = values_seen dict c.args.values.now in
     let at : c.read-in-Transformed.result ≡ table_or (tables c.args.store.now c.args.on.0) = grind arith in
-    rw (ap (λ n. group_answer (table_value dict n) g v ((meant.transformed (reduction_of c.in-Transformed.op)))) at ∙ ap (λ x. group_answer (table_value dict (table_or (tables c.args.store.now c.args.on.0))) g v (call_of x)) (sym c.in-Transformed.is)) at (c.placed-in-Transformed.ensures.answers dict _ (longer_self dict) c.requires.settled c.along_rows-table.ensures)
+    rw (ap (λ n. group_answer (table_value dict n) g v ((meant.transformed (reduction_of c.in-Transformed.op)))) at ∙ ap (λ x. group_answer (table_value dict (table_or (tables c.args.store.now c.args.on.0))) g v (call_of x)) (sym c.in-Transformed.is)) at (c.placed-in-Transformed.ensures.answers dict _ (longer_self _) c.requires.settled c.along_rows-table.ensures)
 
 pub returns-in-Cumsum : goal.returns-in-Cumsum
 returns-in-Cumsum c =
@@ -43,7 +43,7 @@ returns-in-Cumsum c =
     let g = grouping_seen dict c.args.grouping.now in
     let v = values_seen dict c.args.values.now in
     let at : c.read-in-Cumsum.result ≡ table_or (tables c.args.store.now c.args.on.0) = grind arith in
-    rw (ap (λ n. group_answer (table_value dict n) g v meant.cumsum) at ∙ ap (λ x. group_answer (table_value dict (table_or (tables c.args.store.now c.args.on.0))) g v (call_of x)) (sym c.in-Cumsum.is)) at (c.placed-in-Cumsum.ensures.answers dict _ (longer_self dict) c.requires.settled c.along_rows-table-in-Cumsum.ensures)
+    rw (ap (λ n. group_answer (table_value dict n) g v meant.cumsum) at ∙ ap (λ x. group_answer (table_value dict (table_or (tables c.args.store.now c.args.on.0))) g v (call_of x)) (sym c.in-Cumsum.is)) at (c.placed-in-Cumsum.ensures.answers dict _ (longer_self _) c.requires.settled c.along_rows-table-in-Cumsum.ensures)
 
 pub returns-in-Cumcount : goal.returns-in-Cumcount
 returns-in-Cumcount c =
@@ -51,4 +51,4 @@ returns-in-Cumcount c =
     let g = grouping_seen dict c.args.grouping.now in
     let v = values_seen dict c.args.values.now in
     let at : c.read-in-Cumcount.result ≡ table_or (tables c.args.store.now c.args.on.0) = grind arith in
-    rw (ap (λ n. group_answer (table_value dict n) g v meant.cumcount) at ∙ ap (λ x. group_answer (table_value dict (table_or (tables c.args.store.now c.args.on.0))) g v (call_of x)) (sym c.in-Cumcount.is)) at (c.placed-in-Cumcount.ensures.answers dict _ (longer_self dict) c.requires.settled c.counts-table.ensures)
+    rw (ap (λ n. group_answer (table_value dict n) g v meant.cumcount) at ∙ ap (λ x. group_answer (table_value dict (table_or (tables c.args.store.now c.args.on.0))) g v (call_of x)) (sym c.in-Cumcount.is)) at (c.placed-in-Cumcount.ensures.answers dict _ (longer_self _) c.requires.settled c.counts-table.ensures)

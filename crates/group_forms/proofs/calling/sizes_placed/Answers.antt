@@ -1,5 +1,5 @@
 use Rattle.{
-  frame_store.{proofs.Settling.{settled_later, object_settled}, specs.{declared.fault.OpFault.TheVariants.{NoMemory}, World.{world}}},
+  frame_store.{proofs.Settling.{settled_later, object_settled}, specs.declared.fault.OpFault.TheVariants.{NoMemory}},
   std.proofs.Common.{◌≡◌, ap, Err, rules},
   method_meaning.specs.Groups.{group_answer},
   group_forms.{specs.Grouped.{grouping_seen, values_seen}, proofs.FormLaws.{seen_before, no_memory_forms, forms_so}},
@@ -10,7 +10,7 @@ use Rattle.group_forms.proofs.calling.sizes_placed.Goals as goal
 pub returns-in_err-heading : goal.returns-in_err-heading
 returns-in_err-heading c =
     let out : c.from_residual.result ≡ Err NoMemory = search rules in
-    no_memory_forms (world c.args.store.now c.args.dict.now) c.size_heading.new.dict c.from_residual.result _ out c.in_err-heading.ensures.longer c.requires.settled
+    no_memory_forms _ _ _ _ out c.in_err-heading.ensures.longer c.requires.settled
 
 pub sizes-table-requires-clause-known : goal.sizes-table-requires-clause-known
 sizes-table-requires-clause-known c = search (settled_later, object_settled)
@@ -19,6 +19,6 @@ pub returns : goal.returns
 returns c =
     let dict = c.args.dict.now in
     let longer = c.in_ok-heading.ensures.longer in
-    forms_so c.placed.result _ _ _ _
-    (ap (λ t. group_answer t (grouping_seen dict c.args.grouping.now) (values_seen dict c.args.values.now) meant.size) (seen_before (world c.args.store.now dict) c.size_heading.new.dict c.args.on.0 c.read.result c.read.ensures.table longer c.requires.settled))
+    forms_so _ _ _ _ _
+    (ap (λ t. group_answer t (grouping_seen dict c.args.grouping.now) (values_seen dict c.args.values.now) meant.size) (seen_before _ _ _ _ c.read.ensures.table longer c.requires.settled))
     (c.placed.ensures.answers dict _ longer c.requires.settled c.sizes-table.ensures)

@@ -8,20 +8,14 @@ use Rattle.group_forms.proofs.keys.groups_of.Goals as goal
 pub returns-clause-groups : goal.returns-clause-groups
 returns-clause-groups c =
     let t = c.args.on.now in
-    let g = c.args.grouping.now in
-    let rows = c.of-rows.result in
-    groups_found c.args.dict.now t g c.len.ensures.distinct c.requires.known.given _ (keys_are t g.keys rows.columns.now (grind arith) rows.count (c.of-rows.ensures.count ∙ c.rows.ensures)) c.group_by_keys.result c.group_by_keys.ensures.count c.group_by_keys.ensures.codes
+    groups_found _ t c.args.grouping.now c.len.ensures.distinct c.requires.known.given _ (keys_are t _ _ (grind arith) c.of-rows.result.count (c.of-rows.ensures.count ∙ c.rows.ensures)) c.group_by_keys.result c.group_by_keys.ensures.count c.group_by_keys.ensures.codes
 
 pub returns-clause-labels : goal.returns-clause-labels
 returns-clause-labels c =
     let t = c.args.on.now in
-    let g = c.args.grouping.now in
-    let rows = c.of-rows.result in
-    labels_found c.args.dict.now t g c.len.ensures.distinct c.requires.known.given _ (keys_are t g.keys rows.columns.now (grind arith) rows.count (c.of-rows.ensures.count ∙ c.rows.ensures)) c.group_by_keys.result c.group_by_keys.ensures.firsts
+    labels_found _ t c.args.grouping.now c.len.ensures.distinct c.requires.known.given _ (keys_are t _ _ (grind arith) c.of-rows.result.count (c.of-rows.ensures.count ∙ c.rows.ensures)) c.group_by_keys.result c.group_by_keys.ensures.firsts
 
 pub returns-clause-firsts : goal.returns-clause-firsts
 returns-clause-firsts c =
     let t = c.args.on.now in
-    let g = c.args.grouping.now in
-    let rows = c.of-rows.result in
-    rows_found c.args.dict.now t g c.len.ensures.distinct c.requires.known.given _ (keys_are t g.keys rows.columns.now (grind arith) rows.count (c.of-rows.ensures.count ∙ c.rows.ensures)) c.group_by_keys.result c.group_by_keys.ensures.firsts
+    rows_found _ t c.args.grouping.now c.len.ensures.distinct c.requires.known.given _ (keys_are t _ _ (grind arith) c.of-rows.result.count (c.of-rows.ensures.count ∙ c.rows.ensures)) c.group_by_keys.result c.group_by_keys.ensures.firsts

@@ -7,4 +7,4 @@ use Rattle.group_forms.proofs.keys.key_tuples.Goals as goal
 pub loop-k-preserved : goal.loop-k-preserved
 loop-k-preserved c =
     let lt : c.loop-k.k < length c.args.rows.now = omega arith in
-    one_more_tuple c.args.on.now c.args.keys.now c.args.rows.now c.loop-k.k c.at.result.now c.row_tuple.result c.loop-k.tuples c.push.new.self lt c.at.ensures c.row_tuple.ensures c.in_ok-push.ensures.ok c.loop-k.invariant
+    one_more_tuple c.args.on.now _ _ _ _ _ _ _ lt c.at.ensures c.row_tuple.ensures c.in_ok-push.ensures.ok c.loop-k.invariant

@@ -1,11 +1,11 @@
 use Rattle.{
-  std.proofs.Common.{rules, arith},
-  group_forms.proofs.KindLaws.{passed_on, not_passed},
+  std.proofs.Common.{add-one, rules, arith},
+  label_methods.proofs.Lists.{drop_next},
 }
 use Rattle.group_forms.proofs.kinds.all_taken.Goals as goal
 
 pub loop-k-preserved : goal.loop-k-preserved
-loop-k-preserved = search (rules, passed_on)
+loop-k-preserved = search (rules, add-one, drop_next)
 
 pub returns-then-not-takes : goal.returns-then-not-takes
-returns-then-not-takes = grind (arith, not_passed)
+returns-then-not-takes = grind (arith, drop_next)

@@ -1,8 +1,8 @@
 use Rattle.{
-  std.{proofs.Common.{arith, ◌≡◌, ◌∙◌, ap, sym, subst, length, Some, None, option_map}, specs.Prelude.{IfSome}},
+  std.proofs.Common.{arith, ◌≡◌, ◌∙◌, ap, sym, length, Some, None, option_map},
   table_meaning.specs.Table.{table_value},
   method_meaning.specs.Groups.{values_in, values_named},
-  frame_store.specs.{Arguments.{items_of}, Objects.{tables, table_at}, World.{world, argument_in, IsKnownArgument}},
+  frame_store.specs.{Arguments.{items_of}, Objects.{tables, table_at}, World.{world, argument_in}},
   label_methods.proofs.NamedLaws.{others_inside},
   group_forms.proofs.FormLaws.{known_table, items_known, many_values},
 }
@@ -13,19 +13,18 @@ pub returns-in_default-clause-values : goal.returns-in_default-clause-values
 returns-in_default-clause-values c =
     let t = table_at (tables c.args.store.now) c.args.on.0 in
     let count : c.columns.result ≡ length t.columns = grind arith in
-    many_values t c.in_ok-places.places (others_inside c.args.keys.now c.in_ok-places.places c.columns.result (length t.columns) c.in_ok-places.ensures count)
+    many_values t _ (others_inside _ _ _ _ c.in_ok-places.ensures count)
 
 -- those that are named
 pub labelled-requires-clause-known : goal.labelled-requires-clause-known
-labelled-requires-clause-known c = known_table (world c.args.store.now c.args.dict.now) c.args.on.0 c.read-source.result c.read-source.ensures.table c.read-source.ensures.whole c.requires.settled
+labelled-requires-clause-known c = known_table _ _ _ c.read-source.ensures.table c.read-source.ensures.whole c.requires.settled
 
 pub listed-requires-clause-known : goal.listed-requires-clause-known
-listed-requires-clause-known c = known_table (world c.args.store.now c.args.dict.now) c.args.on.0 c.read-source.result c.read-source.ensures.table c.read-source.ensures.whole c.requires.settled
+listed-requires-clause-known c = known_table _ _ _ c.read-source.ensures.table c.read-source.ensures.whole c.requires.settled
 
 pub listed-requires-clause-items : goal.listed-requires-clause-items
 listed-requires-clause-items c =
-    let w = world c.args.store.now c.args.dict.now in
-    items_known w c.in-Some.given.now c.in-Some-list.items.now c.in-Some-list.ensures.parts (subst (λ o. IfSome o (λ a. IsKnownArgument w a.now)) c.in-Some.is c.requires.brackets)
+    items_known (world c.args.store.now c.args.dict.now) c.in-Some.given.now _ c.in-Some-list.ensures.parts (grind arith)
 
 pub returns-in-Some-list-clause-answer : goal.returns-in-Some-list-clause-answer
 returns-in-Some-list-clause-answer c =

@@ -12,6 +12,6 @@ loop-row-preserved c =
     let first : HaveFirstRows c.loop-row.first.entries labels (p + 1) = grind arith in
     let next : HaveNextRows c.loop-row.next.items labels (p + 1) = grind arith in
     record {
-      first = first_more labels p _ c.loop-row.first.entries c.insert.new.self.entries lt (λ q. c.in_ok-later.ensures.updates.0 q) first;
+      first = first_more _ p _ _ _ lt (λ q. c.in_ok-later.ensures.updates.0 q) first;
       next = grind (arith, length-set, get_or_default, cases_eq, get_or-set_same, get_or-set_other);
     }

@@ -11,7 +11,7 @@ returns-then-not-branch c =
     let p = c.loop-place.place - 1 in
     let lt : p < length labels = omega arith in
     let keys : AreKeys c.loop-place.later.keys (drop (p + 1) labels) = grind arith in
-    sym (stands_twice labels c.loop-place.later.keys p _ lt keys (sym c.in_ok-insert.ensures.added ∙ c.if-not-branch.true))
+    sym (stands_twice _ _ p _ lt keys (sym c.in_ok-insert.ensures.added ∙ c.if-not-branch.true))
 
 pub loop-place-preserved : goal.loop-place-preserved
 loop-place-preserved c =
@@ -21,6 +21,6 @@ loop-place-preserved c =
     let keys : AreKeys c.loop-place.later.keys (drop (p + 1) labels) = grind arith in
     let differ : all_differ same_number (drop (p + 1) labels) ≡ true = grind arith in
     record {
-      keys = keys_more labels c.loop-place.later.keys c.insert.new.self.keys p _ lt keys c.in_ok-insert.ensures.keys;
+      keys = keys_more _ _ _ p _ lt keys c.in_ok-insert.ensures.keys;
       differ = grind (arith, drop_more);
     }

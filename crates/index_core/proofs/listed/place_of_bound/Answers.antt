@@ -1,7 +1,8 @@
 use Rattle.{
+  pick_meaning.proofs.RowLaws.{rows_more_no},
   std.{proofs.Common.{arith, Bool, ◌∙◌, ap, sym}, specs.Ordering.{is_eq}},
   cell_core.specs.declared.cell.Label.{Label},
-  index_core.{specs.Labels.{order_in}, proofs.{BoundLaws.{first_time, passed_by, second_time}, listed.place_of_bound.Goals.{then-is_eq+else-is_some, else-is_eq}}},
+  index_core.{specs.Labels.{order_in}, proofs.{BoundLaws.{first_time, second_time}, listed.place_of_bound.Goals.{then-is_eq+else-is_some, else-is_eq}}},
 }
 use Rattle.index_core.proofs.listed.place_of_bound.Goals as goal
 
@@ -10,13 +11,13 @@ loop-place-preserved c =
     let p : Label → Bool = λ label. is_eq (order_in c.args.dict.now label c.args.bound) in
     elim c.if-is_eq.branch [
       | then-is_eq+else-is_some w ↦ record {
-        so_far = rw w.found-is (first_time p c.args.labels.now c.loop-place.place _ c.loop-place.found c.loop-place-test.true c.loop-place.invariant.so_far (grind arith) (ap is_eq (sym c.compare.ensures) ∙ sym c.is_eq.ensures ∙ w.if-is_eq.true));
+        so_far = rw w.found-is (first_time p _ c.loop-place.place _ _ c.loop-place-test.true c.loop-place.invariant.so_far (grind arith) (ap is_eq (sym c.compare.ensures) ∙ sym c.is_eq.ensures ∙ w.if-is_eq.true));
         inside = grind arith;
       }
-      | else-is_eq w ↦ grind (arith, passed_by)
+      | else-is_eq w ↦ grind (arith, rows_more_no)
     ]
 
 pub returns-then-is_some-clause-place : goal.returns-then-is_some-clause-place
 returns-then-is_some-clause-place c =
-    second_time (λ label. is_eq (order_in c.args.dict.now label c.args.bound)) c.args.labels.now c.loop-place.place _ c.args.bound c.loop-place.found c.loop-place-test.true c.loop-place.invariant.so_far (grind arith)
+    second_time _ _ c.loop-place.place _ _ _ c.loop-place-test.true c.loop-place.invariant.so_far (grind arith)
     (ap is_eq (sym c.compare.ensures) ∙ sym c.is_eq.ensures ∙ c.if-is_eq.true)

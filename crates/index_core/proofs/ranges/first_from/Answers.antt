@@ -7,9 +7,9 @@ use Rattle.index_core.proofs.ranges.first_from.Goals as goal
 pub returns-then-number-lt0 : goal.returns-then-number-lt0
 returns-then-number-lt0 c =
     let fits = c.ranges.number in
-    λ texts. reached_below texts c.args.n c.args.number (simp to_z-of_z at c.if-number-lt0.true)
+    λ texts. reached_below _ _ _ (simp to_z-of_z at c.if-number-lt0.true)
 
 pub returns : goal.returns
 returns c =
     let fits = c.ranges.number in
-    λ texts. reached_number texts c.args.n c.args.number c.unsigned_abs.result c.min.result (simp to_z-of_z at c.if-number-lt0.false) (grind (arith, to_z-of_z)) c.min.ensures
+    λ texts. reached_number _ _ _ _ _ (simp to_z-of_z at c.if-number-lt0.false) (grind (arith, to_z-of_z)) c.min.ensures

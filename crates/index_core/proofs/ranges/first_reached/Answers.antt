@@ -1,8 +1,4 @@
-use Rattle.std.proofs.Common.{arith}
 use Rattle.index_core.proofs.ranges.first_reached.Goals as goal
-
-pub returns-in-None : goal.returns-in-None
-returns-in-None = grind arith
 
 pub returns-in-Some : goal.returns-in-Some
 returns-in-Some c = rw c.in-Some.is c.first_at.ensures

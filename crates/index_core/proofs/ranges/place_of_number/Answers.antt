@@ -1,5 +1,5 @@
 use Rattle.{
-  index_core.proofs.NumberLaws.{number_there, no_number, missed_number},
+  index_core.proofs.NumberLaws.{nowhere, not_same, label_decides, same_pos, number_there, no_number},
   std.proofs.{Common.{arith}, lemmas.Int.{to_z-of_z}},
 }
 use Rattle.index_core.proofs.ranges.place_of_number.Goals as goal
@@ -11,6 +11,4 @@ pub returns-then-place-n : goal.returns-then-place-n
 returns-then-place-n = grind (arith, number_there, to_z-of_z)
 
 pub returns-else-place-n : goal.returns-else-place-n
-returns-else-place-n c =
-    let fits = c.ranges.number in
-    missed_number c.args.n c.args.number c.unsigned_abs-place.result (simp to_z-of_z at c.if-number-lt0.false) (grind (arith, to_z-of_z)) c.if-place-n.false
+returns-else-place-n = grind (arith, nowhere, not_same, label_decides, same_pos, to_z-of_z)

@@ -1,18 +1,17 @@
 use Rattle.{
-  std.proofs.Common.{length},
   pick_meaning.{specs.Keys.{all_rows}, proofs.{KeyLaws.{picked_inside}, PositionLaws.{spaced_inside}}},
   indexers.proofs.AnswerLaws.{picks_inside},
 }
 use Rattle.indexers.proofs.labels.loc_places.Goals as goal
 
 pub returns-in-All-clause-inside : goal.returns-in-All-clause-inside
-returns-in-All-clause-inside c = picks_inside c.all_rows.result _ (length c.args.axis.now.tuples) c.all_rows.ensures.picked (search picked_inside)
+returns-in-All-clause-inside c = picks_inside _ _ _ c.all_rows.ensures.picked (search picked_inside)
 
 pub returns-in-One-clause-inside : goal.returns-in-One-clause-inside
-returns-in-One-clause-inside c = picks_inside c.rows_of_key.result _ (length c.args.axis.now.tuples) c.rows_of_key.ensures.picked (search picked_inside)
+returns-in-One-clause-inside c = picks_inside _ _ _ c.rows_of_key.ensures.picked (search picked_inside)
 
 pub returns-in-Many-clause-inside : goal.returns-in-Many-clause-inside
-returns-in-Many-clause-inside c = picks_inside c.rows_of_keys.result _ (length c.args.axis.now.tuples) c.rows_of_keys.ensures.picked (search picked_inside)
+returns-in-Many-clause-inside c = picks_inside _ _ _ c.rows_of_keys.ensures.picked (search picked_inside)
 
 pub returns-in_ok-spanned-in-Span-clause-inside : goal.returns-in_ok-spanned-in-Span-clause-inside
-returns-in_ok-spanned-in-Span-clause-inside c = rw c.in_ok-spanned-in-Span.ensures (spaced_inside c.in_ok-rows-in-Span.rows (length c.args.axis.now.tuples) c.in_ok-rows-in-Span.ensures.below)
+returns-in_ok-spanned-in-Span-clause-inside c = rw c.in_ok-spanned-in-Span.ensures (spaced_inside _ _ c.in_ok-rows-in-Span.ensures.below)

@@ -10,7 +10,7 @@ use Rattle.indexers.proofs.labels.rows_of_labels.Goals as goal
 pub returns-then-not-branch-clause-picked : goal.returns-then-not-branch-clause-picked
 returns-then-not-branch-clause-picked c =
     let lt : c.loop-k.k < length c.args.labels.now = omega arith in
-    let here = get_or_from_slice_get c.args.labels.now c.loop-k.k c.at-label.result.now [] c.at-label.ensures in
+    let here = get_or_from_slice_get c.args.labels.now c.loop-k.k _ [] c.at-label.ensures in
     grind (arith, label_refused (leads same_number) c.args.axis.now.tuples c.args.labels.now c.loop-k.places c.loop-k.k [] (not_there c.at-label.result.now) _ lt (ap (rows_of_key (leads same_number) c.args.axis.now.tuples) here ∙ (label_missing c.in_ok-rows.rows c.args.axis.now.tuples c.at-label.result.now c.at.result (ap single_tuples c.in_ok-rows.ensures ∙ c.only_level.ensures) (ap length (sym here) ∙ c.requires.full c.loop-k.k [] lt) c.at.ensures (sym c.in_ok-push_rows.ensures.some ∙ c.if-not-branch.true))) c.loop-k.invariant, c.copy.ensures)
 
 pub loop-k-preserved : goal.loop-k-preserved
@@ -18,5 +18,5 @@ loop-k-preserved c =
     let lt : c.loop-k.k < length c.args.labels.now = omega arith in
     let here = get_or_from_slice_get c.args.labels.now c.loop-k.k c.at-label.result.now [] c.at-label.ensures in
     let one = ap length (sym here) ∙ c.requires.full c.loop-k.k [] lt in
-    let found = label_found c.in_ok-rows.rows c.args.axis.now.tuples c.at-label.result.now c.at.result (ap single_tuples c.in_ok-rows.ensures ∙ c.only_level.ensures) one c.at.ensures (sym c.in_ok-push_rows.ensures.some ∙ c.if-not-branch.false) in
-    label_more (leads same_number) c.args.axis.now.tuples c.args.labels.now c.loop-k.places c.push_rows.new.rows _ c.loop-k.k [] _ lt (cc) c.in_ok-push_rows.ensures.rows c.loop-k.invariant
+    let found = label_found _ _ _ _ (ap single_tuples c.in_ok-rows.ensures ∙ c.only_level.ensures) one c.at.ensures (sym c.in_ok-push_rows.ensures.some ∙ c.if-not-branch.false) in
+    label_more (leads same_number) _ c.args.labels.now c.loop-k.places c.push_rows.new.rows _ c.loop-k.k [] _ lt (cc) c.in_ok-push_rows.ensures.rows c.loop-k.invariant

@@ -12,7 +12,7 @@ returns-then-not-branch-clause-picked c =
     let tuples = c.args.axis.now.tuples in
     let keys = c.args.tuples.now in
     let lt : c.loop-k.k < length keys = omega arith in
-    let key = slice_index_or keys c.loop-k.k [] in
+    let key = slice_index_or keys _ [] in
     grind (arith, label_refused (leads same_number) tuples keys c.loop-k.places c.loop-k.k [] (not_there key) _ lt (whole_missing c.levels.result tuples key c.rows.result.now c.levels.ensures.alike (c.requires c.loop-k.k [] lt ∙ sym c.levels.ensures.count) (c.rows.ensures ∙ ap (λ l. slice_index_or l c.loop-k.k []) c.in_ok-found.ensures ∙ get_or-map (rows_with tuples) keys c.loop-k.k [] [] lt) (sym c.in_ok-push_rows.ensures.some ∙ c.if-not-branch.true)) c.loop-k.invariant, get_or_from_slice_get keys c.loop-k.k c.at.result.now [] c.at.ensures, c.copy.ensures)
 
 pub loop-k-preserved : goal.loop-k-preserved
@@ -20,7 +20,7 @@ loop-k-preserved c =
     let tuples = c.args.axis.now.tuples in
     let keys = c.args.tuples.now in
     let lt : c.loop-k.k < length keys = omega arith in
-    label_more (leads same_number) tuples keys c.loop-k.places c.push_rows.new.places c.rows.result.now c.loop-k.k [] _ lt (whole_found c.levels.result tuples (slice_index_or keys c.loop-k.k []) c.rows.result.now c.levels.ensures.alike (c.requires c.loop-k.k [] lt ∙ sym c.levels.ensures.count) (c.rows.ensures ∙ ap (λ l. slice_index_or l c.loop-k.k []) c.in_ok-found.ensures ∙ get_or-map (rows_with tuples) keys c.loop-k.k [] [] lt) (sym c.in_ok-push_rows.ensures.some ∙ c.if-not-branch.false)) c.in_ok-push_rows.ensures.rows c.loop-k.invariant
+    label_more _ tuples keys c.loop-k.places _ _ _ [] _ lt (whole_found _ _ _ _ c.levels.ensures.alike (c.requires c.loop-k.k [] lt ∙ sym c.levels.ensures.count) (c.rows.ensures ∙ ap (λ l. slice_index_or l c.loop-k.k []) c.in_ok-found.ensures ∙ get_or-map (rows_with tuples) keys c.loop-k.k [] [] lt) (sym c.in_ok-push_rows.ensures.some ∙ c.if-not-branch.false)) c.in_ok-push_rows.ensures.rows c.loop-k.invariant
 
 pub find_partners-requires-clause-alike : goal.find_partners-requires-clause-alike
 find_partners-requires-clause-alike c =

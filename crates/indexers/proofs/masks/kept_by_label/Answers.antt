@@ -1,33 +1,33 @@
 use Rattle.{
   std.proofs.{Common.{◌∙◌, ◌<◌, ap, sym, length, map, arith}, lemmas.{Option.{get_or_from_slice_get}, Result.{err_from_is_err_and}}},
   cell_core.specs.declared.cell.Label.TheVariants.{Na},
-  pick_meaning.{specs.Masks.{cell_of_label, kept_by_label}, proofs.RowLaws.{when_so, when_not}},
+  pick_meaning.{specs.Masks.{cell_of_label}, proofs.RowLaws.{when_so, when_not}},
   index_core.specs.Labels.{same_number},
-  indexers.{specs.{Masks.{is_true, as_tuple}, Picks.{as_it_is}}, proofs.{AnswerLaws.{handed_on, seen_ok, seen_refused}, TurnLaws.{mask_more, mask_refused}, masks.kept_by_label.Goals.{then-branch+in_ok-push, else-branch}}},
+  indexers.{specs.{Masks.{is_true}, Picks.{as_it_is}}, proofs.{AnswerLaws.{handed_on, seen_ok, seen_refused}, TurnLaws.{mask_more, mask_refused}, masks.kept_by_label.Goals.{then-branch+in_ok-push, else-branch}}},
 }
 use Rattle.indexers.proofs.masks.kept_by_label.Goals as goal
 
 pub returns-in_err-keeps : goal.returns-in_err-keeps
 returns-in_err-keeps c =
-    let mask = map is_true c.args.mask.cells in
+    let mask = map is_true _ in
     let labels = c.args.mask_axis.now in
     let axis = c.args.axis.now in
     let lt : c.loop-row.row < length axis = omega arith in
     let p = err_from_is_err_and c.from_residual-in_err-keeps.result c.from_residual-in_err-keeps.ensures.1 in
-    rw (p.1, p.2) (handed_on as_it_is as_it_is c.in_err-keeps.field-0.0 _ _
-    (seen_refused as_tuple (cell_of_label same_number c.in_ok-labels.labels mask c.label.result) (kept_by_label same_number labels mask 0 axis) (λ f is. mask_refused same_number labels mask axis c.loop-row.rows c.loop-row.row Na f _ lt ((ap (cell_of_label same_number labels mask) (search get_or_from_slice_get)) ∙ (ap (λ ls. cell_of_label same_number ls mask c.label.result) (sym c.in_ok-labels.ensures)) ∙ is) c.loop-row.invariant))
+    rw (p.1, p.2) (handed_on as_it_is as_it_is _ _ _
+    (seen_refused _ _ _ (λ f is. mask_refused same_number labels mask axis c.loop-row.rows _ Na f _ lt ((ap (cell_of_label same_number labels mask) (search get_or_from_slice_get)) ∙ (ap (λ ls. cell_of_label same_number ls mask c.label.result) (sym c.in_ok-labels.ensures)) ∙ is) c.loop-row.invariant))
     c.in_err-keeps.ensures)
 
 pub loop-row-preserved : goal.loop-row-preserved
 loop-row-preserved c =
-    let mask = map is_true c.args.mask.cells in
+    let mask = map is_true _ in
     let labels = c.args.mask_axis.now in
     let axis = c.args.axis.now in
     let lt : c.loop-row.row < length axis = omega arith in
-    let cell = (ap (cell_of_label same_number labels mask) (search get_or_from_slice_get)) ∙ (ap (λ ls. cell_of_label same_number ls mask c.label.result) (sym c.in_ok-labels.ensures)) ∙ seen_ok as_tuple (cell_of_label same_number c.in_ok-labels.labels mask c.label.result) c.in_ok-keeps.field-0 c.in_ok-keeps.ensures in
+    let cell = (ap (cell_of_label same_number labels mask) (search get_or_from_slice_get)) ∙ (ap (λ ls. cell_of_label same_number ls mask c.label.result) (sym c.in_ok-labels.ensures)) ∙ seen_ok _ _ _ c.in_ok-keeps.ensures in
     elim c.if-branch.branch [
-      | then-branch+in_ok-push w ↦ mask_more same_number labels mask axis c.loop-row.rows c.if-branch.rows c.loop-row.row Na c.in_ok-keeps.field-0 _ lt cell
+      | then-branch+in_ok-push w ↦ mask_more same_number labels mask axis c.loop-row.rows _ _ Na _ _ lt cell
           (grind (arith, when_so)) c.loop-row.invariant
-      | else-branch w ↦ mask_more same_number labels mask axis c.loop-row.rows c.if-branch.rows c.loop-row.row Na c.in_ok-keeps.field-0 _ lt cell
+      | else-branch w ↦ mask_more same_number labels mask axis c.loop-row.rows _ _ Na _ _ lt cell
           (search when_not) c.loop-row.invariant
     ]

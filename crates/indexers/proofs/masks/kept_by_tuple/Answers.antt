@@ -1,7 +1,6 @@
 use Rattle.{
-  std.{proofs.{Common.{◌≡◌, ◌∙◌, ◌<◌, [], ap, sym, length, map, slice_index_or, arith}, lemmas.{List.{get_or-map, length-map, Elements.{All-append}}, Result.{err_from_is_err_and}}}, specs.Cmp.Lexicographic.{pointwise}},
+  std.proofs.{Common.{◌≡◌, ◌∙◌, ◌<◌, [], ap, sym, length, map, slice_index_or, arith}, lemmas.{List.{get_or-map, length-map, Elements.{All-append}}, Result.{err_from_is_err_and}}},
   pick_meaning.{specs.{Masks.{cell_or_fault}, Rows.{only_row}}, proofs.{RowLaws.{when_so, when_not}, InsideLaws.{rows_inside}}},
-  index_core.specs.Labels.{same_number},
   row_keys.specs.Partners.{rows_with},
   indexers.{specs.{Masks.{is_true}, Picks.{as_it_is}}, proofs.{AnswerLaws.{handed_on}, TurnLaws.{added_to_none, mask_more, mask_refused}, masks.kept_by_tuple.Goals.{then-branch+in_ok-push, else-branch}}},
 }
@@ -9,26 +8,26 @@ use Rattle.indexers.proofs.masks.kept_by_tuple.Goals as goal
 
 pub returns-in_err-keeps_at : goal.returns-in_err-keeps_at
 returns-in_err-keeps_at c =
-    let mask = map is_true c.args.mask.cells in
+    let mask = map is_true _ in
     let labels = c.args.mask_axis.now.tuples in
     let axis = c.args.axis.now.tuples in
     let lt : c.loop-row.row < length axis = omega arith in
     let p = err_from_is_err_and c.from_residual-in_err-keeps_at.result c.from_residual-in_err-keeps_at.ensures.1 in
-    rw (p.1, p.2) (handed_on as_it_is as_it_is c.in_err-keeps_at.field-0.0 _ _
-    (λ f is. mask_refused (pointwise same_number) labels mask axis c.loop-row.rows c.loop-row.row [] f _ lt ((ap (λ l. cell_or_fault (slice_index_or axis c.loop-row.row []) mask (only_row l)) (sym (c.rows.ensures ∙ ap (λ l. slice_index_or l c.loop-row.row []) c.in_ok-found.ensures ∙ get_or-map (rows_with labels) axis c.loop-row.row [] [] lt))) ∙ is) c.loop-row.invariant)
+    rw (p.1, p.2) (handed_on as_it_is as_it_is _ _ _
+    (λ f is. mask_refused _ labels mask axis c.loop-row.rows _ [] f _ lt ((ap (λ l. cell_or_fault (slice_index_or axis c.loop-row.row []) mask (only_row l)) (sym (c.rows.ensures ∙ ap (λ l. slice_index_or l c.loop-row.row []) c.in_ok-found.ensures ∙ get_or-map (rows_with labels) axis c.loop-row.row [] [] lt))) ∙ is) c.loop-row.invariant)
     c.in_err-keeps_at.ensures)
 
 pub loop-row-preserved : goal.loop-row-preserved
 loop-row-preserved c =
-    let mask = map is_true c.args.mask.cells in
+    let mask = map is_true _ in
     let labels = c.args.mask_axis.now.tuples in
     let axis = c.args.axis.now.tuples in
     let lt : c.loop-row.row < length axis = omega arith in
-    let cell = (ap (λ l. cell_or_fault (slice_index_or axis c.loop-row.row []) mask (only_row l)) (sym (c.rows.ensures ∙ ap (λ l. slice_index_or l c.loop-row.row []) c.in_ok-found.ensures ∙ get_or-map (rows_with labels) axis c.loop-row.row [] [] lt))) ∙ c.in_ok-keeps_at.ensures in
+    let cell = (ap (λ l. cell_or_fault (slice_index_or axis c.loop-row.row []) mask (only_row l)) (sym (c.rows.ensures ∙ ap (λ l. slice_index_or l c.loop-row.row []) c.in_ok-found.ensures ∙ get_or-map (rows_with labels) axis _ [] [] lt))) ∙ c.in_ok-keeps_at.ensures in
     elim c.if-branch.branch [
-      | then-branch+in_ok-push w ↦ mask_more (pointwise same_number) labels mask axis c.loop-row.rows c.if-branch.rows c.loop-row.row [] c.in_ok-keeps_at.field-0 _ lt cell
+      | then-branch+in_ok-push w ↦ mask_more _ labels mask axis c.loop-row.rows _ c.loop-row.row [] _ _ lt cell
           (grind (arith, when_so)) c.loop-row.invariant
-      | else-branch w ↦ mask_more (pointwise same_number) labels mask axis c.loop-row.rows c.if-branch.rows c.loop-row.row [] c.in_ok-keeps_at.field-0 _ lt cell
+      | else-branch w ↦ mask_more _ labels mask axis c.loop-row.rows _ c.loop-row.row [] _ _ lt cell
           (search when_not) c.loop-row.invariant
     ]
 

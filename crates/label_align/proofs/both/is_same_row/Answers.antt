@@ -1,11 +1,8 @@
 use Rattle.{
-  std.proofs.Common.{rules, arith},
-  label_align.proofs.OrderLaws.{rows_differ, rows_agree},
+  std.proofs.Common.{arith},
+  label_align.proofs.OrderLaws.{rows_agree},
 }
 use Rattle.label_align.proofs.both.is_same_row.Goals as goal
-
-pub returns-then-ne : goal.returns-then-ne
-returns-then-ne = search (rules, rows_differ)
 
 pub returns : goal.returns
 returns c = rows_agree _ _ _ _ c.requires.alike c.requires.first c.requires.second (λ k lt. c.loop-level.invariant k (omega arith))

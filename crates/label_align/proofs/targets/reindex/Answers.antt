@@ -1,28 +1,21 @@
 use Rattle.{
   std.proofs.{Common.{arith, ◌∙◌, sym}, lemmas.Option.{get_or_from_slice_get}},
   row_keys.proofs.PartnerLaws.{firsts_counted, left_is, right_is, left_below, right_below, buckets_counted},
-  label_align.proofs.TargetLaws.{as_they_are, repeated, found, found_in_sequence},
+  label_align.proofs.TargetLaws.{repeated, found},
 }
 use Rattle.label_align.proofs.targets.reindex.Goals as goal
 
-pub returns-then-has_tuples : goal.returns-then-has_tuples
-returns-then-has_tuples = grind (arith, as_they_are)
-
 pub rows_by_code-requires-clause-known : goal.rows_by_code-requires-clause-known
 rows_by_code-requires-clause-known g c =
-    let a = c.args.a.now.tuples in
-    let b = g.R.LevelRows.tuples c.args.target.now in
     let coded = c.deref-codes.ensures.value ∙ c.in_ok-numbers.ensures.codes in
     let first = c.deref-firsts.ensures.value ∙ c.in_ok-numbers.ensures.firsts in
     search (left_below, left_is, firsts_counted)
 
 pub first_repeat-requires : goal.first_repeat-requires
 first_repeat-requires g c =
-    let a = c.args.a.now.tuples in
-    let b = g.R.LevelRows.tuples c.args.target.now in
     let coded = c.deref-codes.ensures.value ∙ c.in_ok-numbers.ensures.codes in
     let first = c.deref-firsts.ensures.value ∙ c.in_ok-numbers.ensures.firsts in
-    left_below a b c.split_at.result.0.now _ (search left_is)
+    left_below c.args.a.now.tuples (g.R.LevelRows.tuples c.args.target.now) c.split_at.result.0.now _ (search left_is)
     (grind (arith, buckets_counted, firsts_counted))
 
 pub returns-in-Some : goal.returns-in-Some
@@ -38,22 +31,10 @@ returns-in-Some g c =
 
 pub rows_of_codes-requires : goal.rows_of_codes-requires
 rows_of_codes-requires g c =
-    let a = c.args.a.now.tuples in
-    let b = g.R.LevelRows.tuples c.args.target.now in
     let coded = c.deref-codes.ensures.value ∙ c.in_ok-numbers.ensures.codes in
     let first = c.deref-firsts.ensures.value ∙ c.in_ok-numbers.ensures.firsts in
-    right_below a b c.split_at.result.1.now _ (search right_is)
+    right_below c.args.a.now.tuples (g.R.LevelRows.tuples c.args.target.now) c.split_at.result.1.now _ (search right_is)
     (grind (arith, buckets_counted, firsts_counted))
-
-pub returns-then-are_in_sequence : goal.returns-then-are_in_sequence
-returns-then-are_in_sequence g c =
-    let a = c.args.a.now.tuples in
-    let b = g.R.LevelRows.tuples _ in
-    let coded = c.deref-codes.ensures.value ∙ c.in_ok-numbers.ensures.codes in
-    found_in_sequence a b c.split_at.result.0.now (search left_is)
-    (grind arith) c.has_tuples.result c.split_at.result.1.now _ c.has_tuples.ensures c.if-has_tuples.false
-    (search right_is)
-    (grind arith)
 
 pub returns : goal.returns
 returns g c =

@@ -1,15 +1,9 @@
 use Rattle.{
-  std.proofs.Common.{arith, ◌≡◌, true, length, rules},
+  std.proofs.Common.{◌≡◌, true, length, rules},
   form_meaning.specs.Finish.{within_limits},
-  label_methods.proofs.ResetTableLaws.{range_rows, renumbered_beyond, renumbered_made},
+  label_methods.proofs.ResetTableLaws.{renumbered_made},
 }
 use Rattle.label_methods.proofs.axis_names.renumber.Goals as goal
-
-pub returns-then-not-within_limits : goal.returns-then-not-within_limits
-returns-then-not-within_limits = grind (arith, renumbered_beyond)
-
-pub table_under_axis-requires-clause-rows : goal.table_under_axis-requires-clause-rows
-table_under_axis-requires-clause-rows = grind (arith, range_rows)
 
 pub returns : goal.returns
 returns c = λ texts settled.

@@ -1,5 +1,5 @@
 use Rattle.{
-  std.proofs.{Common.{◌<◌, length, refl, arith}, lemmas.List.{take_all, length-set}},
+  std.proofs.{Common.{◌<◌, length, refl, arith}, lemmas.List.{length-set}},
   label_methods.{specs.Levels.{row_labels}, proofs.{UnderLaws.{one_more_name}, IndexingLaws.{label_at, labels_count}}},
 }
 use Rattle.label_methods.proofs.indexing.row_tuple.Goals as goal
@@ -14,6 +14,3 @@ loop-level-preserved c =
       so_far = one_more_name _ _ _ _ _ c.label_of.result room inside
           (search label_at) c.loop-level.invariant.so_far refl;
     }
-
-pub returns : goal.returns
-returns = grind (arith, labels_count, take_all)

@@ -1,7 +1,7 @@
 use Rattle.{
   std.proofs.{Common.{◌∙◌, ◌++◌, ◌∷◌, [], ap, arith}, lemmas.{List.Elements.{All-append}, Result.{err_from_is_err_and}}},
   frame_store.specs.Parts.{IsSingle, single_block, table_column},
-  label_methods.proofs.LevelColumnLaws.{level_step, level_refused, levels_end},
+  label_methods.proofs.LevelColumnLaws.{level_step, level_refused},
 }
 use Rattle.label_methods.proofs.level_columns.level_columns.Goals as goal
 
@@ -18,6 +18,3 @@ loop-level-preserved c =
       single = rw more (All-append IsSingle c.loop-level.blocks (single_block (table_column new) ∷ []) c.loop-level.invariant.single (grind arith));
       columns = λ texts. level_step _ c.args.axis.now _ _ _ new (omega arith) more (c.in_ok-column.ensures texts) (c.loop-level.invariant.columns texts);
     }
-
-pub returns-clause-columns : goal.returns-clause-columns
-returns-clause-columns c = grind (arith, levels_end)

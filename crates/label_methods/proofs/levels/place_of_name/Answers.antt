@@ -1,6 +1,6 @@
 use Rattle.{
-  std.proofs.{Common.{◌≡◌, ◌<◌, length, ap, true, false, arith, rules}, lemmas.Option.{get_or_from_slice_get}},
-  selections.proofs.PlaceLaws.{heading_settled, place_met, place_passed},
+  std.proofs.{Common.{◌≡◌, ◌<◌, length, ap, true, arith, rules}, lemmas.Option.{get_or_from_slice_get}},
+  selections.proofs.PlaceLaws.{heading_settled, place_met},
 }
 use Rattle.label_methods.proofs.levels.place_of_name.Goals as goal
 
@@ -14,9 +14,3 @@ returns-then-same_heading-clause-place c =
     let lt : c.loop-level.level < length names = omega (arith, (ap (λ a. length a.names) c.axis-axis.ensures)) in
     let so : c.same_heading.result ≡ true = search rules in
     place_met _ names c.args.name _ c.name.result _ _ lt (grind (arith, get_or_from_slice_get)) c.same_heading.ensures so c.loop-level.invariant
-
-pub loop-level-preserved : goal.loop-level-preserved
-loop-level-preserved c =
-    let lt : c.loop-level.level < length c.args.on.now.level_names = omega (arith, (ap (λ a. length a.names) c.axis-axis.ensures)) in
-    let so : c.same_heading.result ≡ false = search rules in
-    place_passed _ _ _ _ _ _ _ lt (grind (arith, get_or_from_slice_get)) c.same_heading.ensures so c.loop-level.invariant

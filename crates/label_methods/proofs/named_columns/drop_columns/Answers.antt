@@ -5,9 +5,6 @@ use Rattle.{
 }
 use Rattle.label_methods.proofs.named_columns.drop_columns.Goals as goal
 
-pub places_besides-requires : goal.places_besides-requires
-places_besides-requires = grind arith
-
 pub columns_of-requires-clause-columns : goal.columns_of-requires-clause-columns
 columns_of-requires-clause-columns c =
     grind (arith, others_inside c.args.places.now c.in_ok-kept.kept c.columns.result)

@@ -1,11 +1,10 @@
 use Rattle.{
-  std.proofs.Common.{arith, ap, sym, ◌∷◌, [], option_map},
-  meaning.specs.{Cell.{datum}, Operator.{cell_label}},
+  std.proofs.Common.{arith, option_map},
+  meaning.specs.Cell.{datum},
   table_meaning.specs.Value.{scalar_in},
-  form_meaning.specs.Select.{column_places},
-  frame_store.specs.{Objects.{tables, table_or}, World.{world}},
+  frame_store.specs.{Objects.{tables}, World.{world}},
   signatures.proofs.{ScalarLaws.{items_settled, scalars_are}, ToldLaws.{told_settled, some_same}},
-  label_methods.proofs.{AnswerLaws.{known_table}, NamedLaws.{found_at, label_named}},
+  label_methods.proofs.{AnswerLaws.{known_table}, NamedLaws.{found_at}},
 }
 use Rattle.label_methods.proofs.named_columns.named_places.Goals as goal
 
@@ -17,13 +16,6 @@ pub place_of-requires-clause-cell : goal.place_of-requires-clause-cell
 place_of-requires-clause-cell c = λ more.
     some_same _ _
     (grind (arith, c.in-Some.is, told_settled c.args.bound.now 0 scalar_in (λ _ ts. option_map (datum ts) c.scalar_or_none.result) (tables c.args.store.now) c.args.dict.now c.scalar_or_none.ensures c.requires.names.given more))
-
-pub returns-in-Some : goal.returns-in-Some
-returns-in-Some c =
-    found_at _ _ _ _ (λ t. column_places t (cell_label (datum (world c.args.store.now c.args.dict.now).texts c.in-Some.cell) ∷ [])) _
-    (sym (ap table_or c.read-source.ensures.table))
-    (grind (arith, label_named))
-    c.place_of.ensures
 
 -- a list
 pub places_of-requires-clause-known : goal.places_of-requires-clause-known

@@ -1,6 +1,6 @@
 use Rattle.{
   std.proofs.{Common.{◌<◌, ap, length, arith, None}, lemmas.{List.{length-set}, Option.{get_or_from_slice_get}}},
-  label_methods.proofs.UnderLaws.{one_more_name, all_names},
+  label_methods.proofs.UnderLaws.{one_more_name},
 }
 use Rattle.label_methods.proofs.reindexing.axis_like.Goals as goal
 
@@ -15,6 +15,3 @@ loop-level-preserved c =
       size = grind (arith, length-set);
       names = one_more_name _ _ _ _ _ None inside lt (grind (arith, get_or_from_slice_get)) c.loop-level.invariant.names (ap (λ a. a.names) c.set_name.ensures);
     }
-
-pub returns : goal.returns
-returns = grind (arith, all_names)

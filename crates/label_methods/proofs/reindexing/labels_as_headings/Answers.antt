@@ -1,6 +1,6 @@
 use Rattle.{
-  std.proofs.Common.{◌<◌, ◌≤◌, [], sym, length, arith},
-  multi_index.proofs.SideLaws.{one_row_more, every_row, label_there},
+  std.proofs.Common.{◌<◌, [], sym, length, arith},
+  multi_index.proofs.SideLaws.{one_row_more, label_there},
   label_methods.proofs.ReindexLaws.{heading_there},
 }
 use Rattle.label_methods.proofs.reindexing.labels_as_headings.Goals as goal
@@ -11,8 +11,3 @@ loop-row-preserved c =
     let row = c.loop-row.row in
     let lt : row < length axis.tuples = omega arith in
     one_row_more _ _ _ [] _ [] _ _ lt (sym (heading_there _ _ (c.requires.alike row [] lt) (label_there axis row 0 _ lt c.label.ensures))) c.loop-row.invariant c.in_ok-push.ensures.items
-
-pub returns : goal.returns
-returns c =
-    let end : length c.args.axis.now.tuples ≤ c.loop-row.row = omega arith in
-    every_row _ _ _ [] _ end c.loop-row.invariant

@@ -8,7 +8,7 @@ pub same_heading-requires-clause-b : goal.same_heading-requires-clause-b
 same_heading-requires-clause-b c = search label_settled
 
 pub returns-then-same_heading : goal.returns-then-same_heading
-returns-then-same_heading c = grind (arith, label_met)
+returns-then-same_heading = grind (arith, label_met)
 
 pub loop-place-preserved : goal.loop-place-preserved
-loop-place-preserved c = grind (arith, label_passed)
+loop-place-preserved = grind (arith, label_passed)

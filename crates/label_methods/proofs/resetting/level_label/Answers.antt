@@ -1,7 +1,7 @@
 use Rattle.{
   std.proofs.Common.{arith, ◌≡◌, refl, Some, slice_get},
   form_parts.proofs.LabelLaws.{heading_label},
-  label_methods.proofs.ResetLaws.{level_named, name_settled},
+  label_methods.proofs.ResetLaws.{name_settled},
 }
 use Rattle.label_methods.proofs.resetting.level_label.Goals as goal
 
@@ -9,9 +9,3 @@ pub returns-in-Some-clause-given : goal.returns-in-Some-clause-given
 returns-in-Some-clause-given c =
     let at : slice_get c.args.on.now.level_names c.args.level ≡ Some (Some c.in-Some.name) = grind (arith, slice_get) in
     heading_label _ _ _ refl (search (name_settled c.args.dict.now))
-
-pub returns-in-Some-clause-label : goal.returns-in-Some-clause-label
-returns-in-Some-clause-label = grind (arith, slice_get, level_named)
-
-pub returns-in-None-clause-label : goal.returns-in-None-clause-label
-returns-in-None-clause-label = grind (arith, slice_get, level_named)

@@ -2,7 +2,7 @@ use Rattle.{
   std.proofs.{lemmas.List.{map-append}, Common.{arith}},
   frame_store.proofs.Settling.{seen_later, longer_twice},
   selections.proofs.PickedLaws.{one_more_place},
-  label_methods.proofs.ResetLaws.{one_more_given, all_levels},
+  label_methods.proofs.ResetLaws.{one_more_given},
 }
 use Rattle.label_methods.proofs.resetting.level_labels.Goals as goal
 
@@ -15,6 +15,3 @@ loop-level-preserved c =
       given = grind (arith, one_more_given old);
       labels = grind (arith, map-append, seen_later, one_more_place);
     }
-
-pub returns-clause-labels : goal.returns-clause-labels
-returns-clause-labels = grind (arith, all_levels)

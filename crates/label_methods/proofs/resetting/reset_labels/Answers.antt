@@ -1,7 +1,6 @@
 use Rattle.{
-  std.proofs.Common.{arith},
   frame_store.proofs.Settling.{settled_later},
-  label_methods.proofs.ResetLaws.{labels_given, labels_meant},
+  label_methods.proofs.ResetLaws.{labels_given},
 }
 use Rattle.label_methods.proofs.resetting.reset_labels.Goals as goal
 
@@ -9,6 +8,3 @@ pub returns-clause-given : goal.returns-clause-given
 returns-clause-given c =
     labels_given _ c.args.on.now _ _ c.in_ok-labels.ensures.given
     (search settled_later) c.in_ok-push_headings.ensures
-
-pub returns-clause-labels : goal.returns-clause-labels
-returns-clause-labels c = grind (arith, labels_meant c.args.dict.now)

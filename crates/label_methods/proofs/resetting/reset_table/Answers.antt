@@ -1,15 +1,9 @@
 use Rattle.{
-  std.proofs.{Common.{arith, ◌≡◌, ◌∙◌, true, length, rules}, lemmas.Result.{err_from_is_err_and}},
+  std.proofs.Common.{arith, ◌≡◌, ◌∙◌, true, length, rules},
   form_meaning.specs.Finish.{within_limits},
-  label_methods.proofs.ResetTableLaws.{parts_whole, parts_repeated, parts_beyond, parts_made},
+  label_methods.proofs.ResetTableLaws.{parts_whole, parts_made},
 }
 use Rattle.label_methods.proofs.resetting.reset_table.Goals as goal
-
-pub returns-in_err-headings : goal.returns-in_err-headings
-returns-in_err-headings = grind (arith, err_from_is_err_and, parts_repeated)
-
-pub returns-then-not-within_limits : goal.returns-then-not-within_limits
-returns-then-not-within_limits = grind (arith, parts_beyond)
 
 pub new-requires-clause-whole : goal.new-requires-clause-whole
 new-requires-clause-whole c =
@@ -19,6 +13,4 @@ new-requires-clause-whole c =
 pub returns : goal.returns
 returns c =
     let within : within_limits (length c.args.on.now.labels) (length c.args.blocks) ≡ true = search rules in
-    parts_made _ _ _ _ _ _ c.len.ensures.distinct c.requires.known.given c.requires.given c.requires.columns
-    c.in_ok-headings.ensures.different within c.rows-2.ensures
-    (grind arith)
+    parts_made _ _ c.len.ensures.distinct c.requires.given _ _ c.in_ok-headings.ensures.different _ _ c.requires.known.given c.requires.columns within c.rows-2.ensures (grind arith)

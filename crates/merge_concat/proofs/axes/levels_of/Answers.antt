@@ -1,5 +1,5 @@
 use Rattle.{
-  std.proofs.{Common.{◌∙◌, length, ap, arith}, lemmas.List.{take_all}},
+  std.proofs.Common.{◌∙◌, length, ap},
   merge_concat.proofs.AxisLaws.{levels_more},
 }
 use Rattle.merge_concat.proofs.axes.levels_of.Goals as goal
@@ -9,6 +9,3 @@ loop-axis-preserved c =
     let axes = c.args.axes.now in
     let here = c.levels-levels.ensures.count ∙ ap (λ a. length a.now.names) c.axis-item.is ∙ c.requires.alike _ _ c.loop-axis-test.true in
     search levels_more
-
-pub returns-clause-alike : goal.returns-clause-alike
-returns-clause-alike = grind (arith, take_all)

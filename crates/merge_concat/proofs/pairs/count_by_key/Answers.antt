@@ -1,6 +1,6 @@
 use Rattle.{
   std.proofs.{Common.{arith}, lemmas.Bool.{cases_lt}},
-  merge_concat.proofs.CountLaws.{counted_more, counted_within},
+  merge_concat.proofs.CountLaws.{counted_within},
 }
 use Rattle.merge_concat.proofs.pairs.count_by_key.Goals as goal
 
@@ -19,6 +19,3 @@ returns-in_default-2 c =
     let n = c.loop-code.code in
     let within = counted_within n c.args.left.now.count left right (omega arith) in
     grind (arith, cases_lt)
-
-pub loop-code-preserved : goal.loop-code-preserved
-loop-code-preserved = grind (arith, counted_more)

@@ -6,9 +6,6 @@ use Rattle.merge_concat.proofs.pairs.pairs_by_key.Goals as goal
 
 pub loop-code-preserved : goal.loop-code-preserved
 loop-code-preserved c =
-    subst (AreListed c.push_key.new.out) (sym (outer_more _ c.args.left.now.codes.now c.args.right.now.codes.now))
+    subst (AreListed c.push_key.new.out) (sym (outer_more _ c.args.left.now.codes.now _))
     (pairs_more _ _ _ _ c.loop-code.invariant
     (grind arith))
-
-pub returns : goal.returns
-returns = grind arith

@@ -1,5 +1,5 @@
 use Rattle.{
-  std.proofs.{Common.{◌<◌, ◌∙◌, ap, length, map, nat_eq, Some, arith}, lemmas.List.{take_all}},
+  std.proofs.Common.{◌<◌, ◌∙◌, ap, length, map, nat_eq, Some, arith},
   join_meaning.specs.Pairs.{pair, partners},
   row_keys.specs.Buckets.{rows_of_code},
   merge_concat.proofs.PairLaws.{from_more, pairs_more},
@@ -13,6 +13,3 @@ loop-row-preserved c =
     let lt : c.loop-row.row < length left = omega arith in
     rw (from_more nat_eq c.args.stays right left c.loop-row.row 0 lt) (pairs_more _ _ _ _ c.loop-row.invariant
     (rw (← ap (λ rows. map (pair (Some c.loop-row.row)) (partners c.args.stays rows)) (c.rows_of.ensures ∙ ap (λ code. rows_of_code code right) c.code.ensures.code)) c.in_ok-push_row.ensures))
-
-pub returns : goal.returns
-returns = grind (arith, nat_eq, take_all)

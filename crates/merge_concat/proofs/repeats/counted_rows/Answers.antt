@@ -1,5 +1,5 @@
 use Rattle.{
-  std.proofs.{Common.{◌≡◌, ◌∙◌, ◌<◌, ◌+◌, length, slice_index, min, ap, arith}, lemmas.List.{take_all, get_or_read}},
+  std.proofs.{Common.{◌≡◌, ◌∙◌, ◌<◌, ◌+◌, length, slice_index, min, ap, arith}, lemmas.List.{get_or_read}},
   merge_concat.proofs.CodeLaws.{counts_more},
 }
 use Rattle.merge_concat.proofs.repeats.counted_rows.Goals as goal
@@ -14,6 +14,3 @@ loop-row-preserved c =
     let read : c.index.result.now ≡ slice_index counts code = search get_or_read in
     counts_more _ _ _ _ _ _ lt c.code-code.ensures.code c.code-code.ensures.below
     (c.saturating_add.ensures ∙ ap (λ n. min (n + 1) 255) read) c.loop-row.invariant
-
-pub returns : goal.returns
-returns = grind (arith, take_all)

@@ -1,7 +1,7 @@
 use Rattle.{
   std.proofs.{Common.{arith}, lemmas.List.{map-append}},
   form_parts.proofs.GapLaws.{block_on, single_on},
-  merge_forms.proofs.ColumnLaws.{one_more_at},
+  merge_forms.proofs.TableLaws.{one_more_at},
 }
 use Rattle.merge_forms.proofs.columns.columns_met.Goals as goal
 

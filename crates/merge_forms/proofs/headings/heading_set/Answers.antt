@@ -1,4 +1,4 @@
-use Rattle.merge_forms.proofs.HeadingLaws.{one_more_among}
+use Rattle.merge_forms.proofs.KeyLaws.{one_more_among}
 use Rattle.merge_forms.proofs.headings.heading_set.Goals as goal
 
 pub loop-k-preserved : goal.loop-k-preserved

@@ -1,7 +1,7 @@
 use Rattle.{
   table_meaning.specs.Table.{Table},
   frame_store.proofs.Settling.{longer_twice},
-  merge_forms.{specs.Headings.{label_beside}, proofs.HeadingLaws.{one_more_given, one_more_label}},
+  merge_forms.{specs.Headings.{label_beside}, proofs.KeyLaws.{one_more_given, one_more_label}},
 }
 use Rattle.merge_forms.proofs.headings.labels_beside.Goals as goal
 

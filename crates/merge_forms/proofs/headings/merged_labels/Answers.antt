@@ -1,9 +1,7 @@
 use Rattle.{
-  std.proofs.Common.{◌∙◌, ap, map},
-  table_meaning.specs.Table.{table_value},
   label_methods.proofs.NamedLaws.{others_inside, others_meant, all_are},
   selections.proofs.PickedLaws.{places_inside},
-  merge_forms.{specs.Headings.{label_beside}, proofs.{HeadingLaws.{labels_meant, labels_given}, TableLaws.{rights_inside}}},
+  merge_forms.proofs.{KeyLaws.{labels_meant, labels_given}, TableLaws.{rights_inside}},
 }
 use Rattle.merge_forms.proofs.headings.merged_labels.Goals as goal
 
@@ -27,7 +25,7 @@ returns-clause-given c =
 pub returns-clause-labels : goal.returns-clause-labels
 returns-clause-labels c =
     labels_meant _ _ _ _ _ _ c.len.ensures.distinct c.requires.left.given c.requires.right.given
-    _ _ _ _ _ _ _ _
+    _ _ _ _ _ _ _ _ _
     c.in_ok-of_right.ensures c.in_ok-of_left.ensures (others_meant _ c.args.l.now _ _ _ c.in_ok-lefts.ensures c.columns-2.ensures) c.requires.rights (all_are _ c.args.l.now _ _ c.in_ok-all.ensures c.columns.ensures)
-    c.in_ok-labels.ensures.longer c.in_ok-own.ensures.longer c.in_ok-labels.ensures.given c.in_ok-labels.ensures.labels (c.in_ok-own.ensures.labels ∙ (ap (λ keys. map (label_beside (table_value c.labels_beside.new.dict c.args.r.now) c.args.r.now keys _ c.in_ok-of_left.of_left.keys) c.args.rights.now) c.new-none.ensures))
+    c.in_ok-labels.ensures c.in_ok-own.ensures c.new-none.ensures
     (cc (c.in_ok-extend_from_slice.ensures.items, c.as_slice.ensures.value))

@@ -1,14 +1,10 @@
 use Rattle.{
-  std.{proofs.{Common.{◌≡◌, ◌∙◌, ◌<◌, ap, sym, subst, length, true, false, arith, rules, filter}, lemmas.List.{take_all, length-map}}, specs.{Prelude.{filter_map}, List.{list_any}}},
-  table_meaning.specs.{Table.{heading_value}, Settled.{IsSettled}},
-  frame_store.{specs.Shown.{headings_value}, proofs.Settling.{headings_part}},
-  selections.{specs.Headings.{same_heading}, proofs.{PickedLaws.{places_inside}, PlaceLaws.{heading_settled}}},
-  merge_forms.proofs.{KeyLaws.{is_common, labels_of_some, common_by, cell_given, one_more_common, no_more_common}, keys.common_labels.Goals.{then-contains+in_ok-push, else-contains}},
+  std.proofs.Common.{◌≡◌, ◌∙◌, ◌<◌, sym, length, true, false, arith, rules},
+  frame_store.proofs.Settling.{headings_part},
+  selections.proofs.PlaceLaws.{heading_settled},
+  merge_forms.proofs.{KeyLaws.{common_by, cell_given, one_more_common, no_more_common}, keys.common_labels.Goals.{then-contains+in_ok-push, else-contains}},
 }
 use Rattle.merge_forms.proofs.keys.common_labels.Goals as goal
-
-pub heading_set-requires-clause-places : goal.heading_set-requires-clause-places
-heading_set-requires-clause-places = grind (arith, places_inside)
 
 pub loop-place-preserved : goal.loop-place-preserved
 loop-place-preserved c =
@@ -16,15 +12,12 @@ loop-place-preserved c =
     let lt : c.loop-place.place < length l.headings = omega (arith, c.requires.left.whole.headed) in
     let h = c.heading.result in
     let given = heading_settled _ _ _ h c.heading.ensures.value (headings_part _ l c.requires.left.given) in
-    let there =
-    c.contains.ensures
-    ∙ ap (λ x. list_any (same_heading x) c.in_ok-others.others.keys) (sym c.in-Some.is)
-    ∙ common_by _ l c.args.r.now _ _ _ c.len.ensures.distinct c.requires.left.given c.requires.right.given c.requires.right.whole c.in_ok-places_below.ensures c.columns.ensures c.in_ok-others.ensures h given in
+    let there = c.contains.ensures ∙ common_by _ l c.args.r.now _ _ _ c.len.ensures.distinct c.requires.left c.requires.right c.in_ok-places_below.ensures c.columns.ensures c.in_ok-others.ensures h _ given c.in-Some.is in
     elim c.if-contains.branch [
       | then-contains+in_ok-push w ↦
           let yes : c.contains.result ≡ true = search rules in
           record {
-            given = cell_given _ _ _ _ (subst (IsSettled heading_value c.args.dict.now) c.in-Some.is given) (grind arith) c.loop-place.invariant.given;
+            given = cell_given _ _ _ _ (rw c.in-Some.is at given) (grind arith) c.loop-place.invariant.given;
             labels = one_more_common _ _ _ _ h lt c.heading.ensures.value _ _ _ c.in-Some.is (sym there ∙ yes) (grind arith) c.loop-place.invariant.labels;
           }
       | else-contains w ↦
@@ -35,10 +28,3 @@ loop-place-preserved c =
             labels = cc (no_more_common _ _ _ _ h lt c.heading.ensures.value _ (sym there ∙ no) c.loop-place.invariant.labels);
           }
     ]
-
-pub returns-clause-labels : goal.returns-clause-labels
-returns-clause-labels c =
-    let hs = headings_value c.args.dict.now c.args.l.now.headings in
-    let count : length hs ≡ length c.args.l.now.headings = search length-map in
-    sym (labels_of_some _)
-    ∙ ap (filter_map (λ h. h)) (c.loop-place.invariant.labels ∙ ap (filter (is_common (headings_value c.args.dict.now c.args.r.now.headings))) (take_all _ hs (omega (arith, count, c.requires.left.whole.headed))))

@@ -1,9 +1,9 @@
 use Rattle.{
-  std.proofs.{Common.{arith, ◌∙◌, ap, option_map}, lemmas.Result.{err_from_is_err_and}},
+  merge_forms.proofs.CallLaws.{rows_answered, told_given, told_some, shape_read, right_shape, keys_refused},
+  std.proofs.{Common.{arith, ◌∙◌, ap}, lemmas.Result.{err_from_is_err_and}},
   method_meaning.specs.Merge.{validate_in},
   frame_store.specs.{Objects.{tables}, World.{world}},
   label_methods.proofs.AnswerLaws.{known_table},
-  merge_forms.{specs.Keys.{keys_seen, cell_labels}, proofs.CallLaws.{told_given, told_some, read_is, shape_read, right_shape, keys_refused}},
 }
 use Rattle.merge_forms.proofs.merging.merged.Goals as goal
 
@@ -35,18 +35,10 @@ merged_rows-requires-clause-frames c =
 
 pub returns-in_err-keys-clause-answer : goal.returns-in_err-keys-clause-answer
 returns-in_err-keys-clause-answer c =
-    let w = world c.args.store.now c.args.dict.now in
-    let dict = c.args.dict.now in
     let p = err_from_is_err_and c.from_residual-in_err-keys.result c.from_residual-in_err-keys.ensures.1 in
-    rw (p.1, p.2) (keys_refused keys_seen dict _ _ _ _
-    (read_is w c.args.bound.now c.requires.call c.args.on c.frame.result c.read-l.result c.read-r.result c.text.result.now c.how_named-how.result c.once_in-once.result (option_map (cell_labels dict) c.in_ok-told.told) c.read-l.ensures.table c.read-r.ensures.table (c.frame.ensures.table w.tables w.texts) (c.text.ensures w.tables) c.how_named-how.ensures
-    (c.in_ok-told.ensures w.tables w.texts) (grind arith)) c.in_err-keys.ensures.answer)
+    rw (p.1, p.2) (keys_refused (world c.args.store.now c.args.dict.now) _ c.requires.call _ _ _ _ c.read-l.ensures.table c.read-r.ensures.table c.frame.ensures.table _ c.text.ensures _ c.how_named-how.ensures _ c.in_ok-told.ensures _ c.in_err-keys.ensures.answer)
 
 pub returns-clause-answer : goal.returns-clause-answer
 returns-clause-answer c =
-    let w = world c.args.store.now c.args.dict.now in
-    rw (
-      read_is w _ c.requires.call _ _ _ _ _ _ _ _ c.read-l.ensures.table c.read-r.ensures.table (c.frame.ensures.table w.tables w.texts) (c.text.ensures w.tables) c.how_named-how.ensures
-          (c.in_ok-told.ensures w.tables w.texts) (c.once_in-once.ensures ∙ ap validate_in (c.text_or_none.ensures.value w.tables)),
-      c.in_ok-keys.ensures.answer,
-    ) c.merged_rows.ensures.answer
+    rows_answered (world c.args.store.now c.args.dict.now) _ c.requires.call _ _ _ _ c.read-l.ensures.table c.read-r.ensures.table c.frame.ensures.table _ c.text.ensures _ c.how_named-how.ensures _ c.in_ok-told.ensures
+    _ (c.once_in-once.ensures ∙ ap validate_in (c.text_or_none.ensures.value (tables c.args.store.now))) _ c.in_ok-keys.ensures.answer _ _ c.merged_rows.ensures.answer

@@ -1,16 +1,9 @@
 use Rattle.{
-  std.proofs.Common.{arith, ◌∙◌},
-  key_columns.proofs.KeyLaws.{keys_are, keys_counted},
-  merge_forms.proofs.RowLaws.{both_fit, joins_meet, joins_inside},
+  std.proofs.Common.{◌∙◌},
+  key_columns.proofs.KeyLaws.{keys_are},
+  merge_forms.proofs.RowLaws.{joins_meet, joins_inside},
 }
 use Rattle.merge_forms.proofs.rows.rows_met.Goals as goal
-
-pub join_rows-requires : goal.join_rows-requires
-join_rows-requires c =
-    let fit = both_fit _ _ _ _ _
-    (keys_counted c.args.l.now _ _ (cc (c.of-left.ensures.columns, c.deref-of_left.ensures.value, c.in_ok-lefts.ensures.columns)))
-    (keys_counted c.args.r.now _ _ (grind arith) ∙ c.requires.keys.paired.same) c.requires.keys.few in
-    record { alike = fit.0; few = fit.1 }
 
 pub returns : goal.returns
 returns c =

@@ -1,7 +1,6 @@
 use Rattle.{
   std.proofs.{Common.{◌<◌, ◌≤◌, ◌∷◌, [], length, arith}, lemmas.List.{map-append}},
-  index_core.specs.Labels.{labels_at},
-  multi_index.{specs.Axes.{single_tuples}, proofs.SideLaws.{one_row_more, every_row, label_there}},
+  multi_index.proofs.SideLaws.{one_row_more, every_row, label_there},
 }
 use Rattle.multi_index.proofs.levels.labels_of.Goals as goal
 
@@ -9,11 +8,11 @@ pub loop-row-preserved : goal.loop-row-preserved
 loop-row-preserved c =
     let axis = c.args.axis.now in
     let lt : c.loop-row.row < length axis.tuples = omega arith in
-    one_row_more (λ tuple. labels_at tuple (c.args.level ∷ [])) axis.tuples c.loop-row.row [] (c.label.result ∷ []) [] (single_tuples c.loop-row.labels.items) (single_tuples c.push.new.self.items) lt
+    one_row_more _ _ _ [] (c.label.result ∷ []) [] _ _ lt
     (cc (label_there axis c.loop-row.row c.args.level c.label.result lt c.label.ensures)) c.loop-row.invariant
     (grind (arith, map-append))
 
 pub returns : goal.returns
 returns c =
     let end : length c.args.axis.now.tuples ≤ c.loop-row.row = omega arith in
-    every_row (λ tuple. labels_at tuple (c.args.level ∷ [])) c.args.axis.now.tuples c.loop-row.row [] (single_tuples c.loop-row.labels.items) end c.loop-row.invariant
+    every_row _ _ _ [] _ end c.loop-row.invariant

@@ -1,6 +1,6 @@
 use Rattle.{
-  std.proofs.{Common.{◌≡◌, ◌<◌, ◌≤◌, ◌+◌, [], length, slice_index_or, arith}, lemmas.List.{get_or_default}},
-  multi_index.{specs.Axes.{first_of}, proofs.{AddedLaws.{next_written, end_written}, SideLaws.{label_there}}},
+  std.proofs.{lemmas.List.{take_all, get_or_default}, Common.{◌≡◌, ◌<◌, ◌≤◌, ◌+◌, [], length, slice_index_or, arith}},
+  multi_index.{proofs.{AddedLaws.{all_written, next_written}, SideLaws.{label_there}}, specs.Axes.{first_of}},
 }
 use Rattle.multi_index.proofs.levels.tuple_with.Goals as goal
 
@@ -11,8 +11,8 @@ loop-level-preserved c =
     let lt : c.loop-level.level < length tuple = omega arith in
     let few : length tuple ≤ 3 = omega (arith, c.levels-levels.ensures.count, c.requires.few) in
     let at : c.first_place-first.result + c.loop-level.level ≡ first_of c.args.outer + c.loop-level.level = omega (arith, c.first_place-first.ensures) in
-    let there = label_there c.args.axis.now c.args.row c.loop-level.level c.label.result c.requires.row c.label.ensures in
+    let there = label_there c.args.axis.now _ _ _ c.requires.row c.label.ensures in
     grind (arith, next_written, get_or_default)
 
 pub returns : goal.returns
-returns = grind (arith, end_written)
+returns = grind (arith, take_all, all_written)

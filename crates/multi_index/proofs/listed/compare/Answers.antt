@@ -2,7 +2,7 @@ use Rattle.{
   std.proofs.{Common.{◌≡◌, slice_index_or, arith}, lemmas.Option.{get_or_from_slice_get}},
   cell_core.specs.declared.cell.Label.TheVariants.{Na},
   index_core.specs.Labels.{order_in},
-  multi_index.proofs.ListedLaws.{stands_on, stands_apart, stands_short, stands_equal},
+  multi_index.proofs.ListedLaws.{stands_on, stands_apart, stands_short},
 }
 use Rattle.multi_index.proofs.listed.compare.Goals as goal
 
@@ -12,7 +12,7 @@ returns-then-ne c =
     let tuple = c.args.tuple.now in
     let bound = c.args.bound.now in
     let read : order_in dict (slice_index_or tuple c.loop-level.level Na) (slice_index_or bound c.loop-level.level Na) ≡ order_in dict c.at.result c.at-in-loop-level.result
-    = λ j. order_in dict (get_or_from_slice_get tuple c.loop-level.level c.at.result Na c.at.ensures j) (get_or_from_slice_get bound c.loop-level.level c.at-in-loop-level.result Na c.at-in-loop-level.ensures j) in
+    = λ j. order_in dict (get_or_from_slice_get tuple _ c.at.result Na c.at.ensures j) (get_or_from_slice_get bound _ _ Na c.at-in-loop-level.ensures j) in
     grind (arith, stands_apart)
 
 pub loop-level-preserved : goal.loop-level-preserved
@@ -21,11 +21,8 @@ loop-level-preserved c =
     let tuple = c.args.tuple.now in
     let bound = c.args.bound.now in
     let read : order_in dict (slice_index_or tuple c.loop-level.level Na) (slice_index_or bound c.loop-level.level Na) ≡ order_in dict c.at.result c.at-in-loop-level.result
-    = λ j. order_in dict (get_or_from_slice_get tuple c.loop-level.level c.at.result Na c.at.ensures j) (get_or_from_slice_get bound c.loop-level.level c.at-in-loop-level.result Na c.at-in-loop-level.ensures j) in
+    = λ j. order_in dict (get_or_from_slice_get tuple _ c.at.result Na c.at.ensures j) (get_or_from_slice_get bound _ _ Na c.at-in-loop-level.ensures j) in
     grind (arith, stands_on)
-
-pub returns : goal.returns
-returns c = stands_equal (order_in c.args.dict.now) c.args.tuple.now c.args.bound.now c.loop-level.level _ (omega arith) c.loop-level.invariant
 
 pub returns-then-level-len : goal.returns-then-level-len
 returns-then-level-len = grind (arith, stands_short)

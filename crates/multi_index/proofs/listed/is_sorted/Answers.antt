@@ -15,7 +15,7 @@ loop-row-preserved c =
     order_goes_on cmp tuples row [] _ c.loop-row.auto.row (omega arith) (grind arith) c.loop-row.invariant
 
 pub returns : goal.returns
-returns c = order_kept (leading_cmp (order_in c.args.dict.now)) c.args.tuples.now c.loop-row.row _ (omega arith) c.loop-row.invariant
+returns = grind (arith, order_kept)
 
 pub returns-then-is_lt : goal.returns-then-is_lt
 returns-then-is_lt c =

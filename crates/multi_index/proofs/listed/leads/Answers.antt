@@ -2,7 +2,7 @@ use Rattle.{
   std.proofs.{Common.{◌≡◌, true, false, slice_index_or, arith, rules}, lemmas.Option.{get_or_from_slice_get}},
   cell_core.specs.declared.cell.Label.TheVariants.{Na},
   index_core.specs.Labels.{same_number},
-  multi_index.proofs.ListedLaws.{leads_more, leads_not, leads_all, leads_short},
+  multi_index.proofs.ListedLaws.{leads_more, leads_not},
 }
 use Rattle.multi_index.proofs.listed.leads.Goals as goal
 
@@ -12,7 +12,7 @@ returns-then-ne c =
     let tuple = c.args.tuple.now in
     let apart : same_number c.at.result c.at-in-loop-level.result ≡ false = search rules in
     let read : same_number (slice_index_or key c.loop-level.level Na) (slice_index_or tuple c.loop-level.level Na) ≡ same_number c.at.result c.at-in-loop-level.result
-    = (λ j. same_number (get_or_from_slice_get key c.loop-level.level c.at.result Na c.at.ensures j) (get_or_from_slice_get tuple c.loop-level.level c.at-in-loop-level.result Na c.at-in-loop-level.ensures j)) in
+    = (λ j. same_number (get_or_from_slice_get key _ c.at.result Na c.at.ensures j) (get_or_from_slice_get tuple c.loop-level.level _ Na c.at-in-loop-level.ensures j)) in
     grind (arith, leads_not)
 
 pub loop-level-preserved : goal.loop-level-preserved
@@ -21,11 +21,5 @@ loop-level-preserved c =
     let tuple = c.args.tuple.now in
     let same : same_number c.at.result c.at-in-loop-level.result ≡ true = search rules in
     let read : same_number (slice_index_or key c.loop-level.level Na) (slice_index_or tuple c.loop-level.level Na) ≡ same_number c.at.result c.at-in-loop-level.result
-    = (λ j. same_number (get_or_from_slice_get key c.loop-level.level c.at.result Na c.at.ensures j) (get_or_from_slice_get tuple c.loop-level.level c.at-in-loop-level.result Na c.at-in-loop-level.ensures j)) in
+    = (λ j. same_number (get_or_from_slice_get key _ c.at.result Na c.at.ensures j) (get_or_from_slice_get tuple c.loop-level.level _ Na c.at-in-loop-level.ensures j)) in
     grind (arith, leads_more)
-
-pub returns : goal.returns
-returns = grind (arith, leads_all)
-
-pub returns-then-len : goal.returns-then-len
-returns-then-len c = leads_short same_number c.args.leading.now c.args.tuple.now (omega arith)

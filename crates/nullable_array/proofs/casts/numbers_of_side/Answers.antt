@@ -9,8 +9,8 @@ use Rattle.nullable_array.proofs.casts.numbers_of_side.Goals as goal
 
 pub returns-clause-answer : goal.returns-clause-answer
 returns-clause-answer g c = λ texts.
-    cast_answer texts Int64 Int64 refl Boolean truth_cell number_cell (total_cast number_of_truth) (grind arith) _ (g.A.Source.row_of c.args.a) (Ok c.column.result)
+    cast_answer _ Int64 Int64 refl Boolean truth_cell number_cell (total_cast number_of_truth) (grind arith) _ (g.A.Source.row_of c.args.a) (Ok c.column.result)
     (grind (arith, made_column, rows_written))
 
 pub returns-clause-given : goal.returns-clause-given
-returns-clause-given g c = λ texts. given-plain texts Int64 number_cell _ _ c.column.result (number_given texts) c.column.ensures
+returns-clause-given g c = λ texts. given-plain _ _ _ _ _ _ (number_given _) c.column.ensures

@@ -23,5 +23,5 @@ loop-row-preserved g c =
       places = grind (arith, common_steps);
       so_far = more;
       written = rw (c.push_reserved.ensures.items, c.push_reserved-in-loop-row.ensures.items, c.unwrap_or.ensures, c.is_some.ensures)
-          (row_pushed (λ k. Some (running_row step row k)) i c.loop-row.values.items c.loop-row.present.items c.kept-value.result c.args.blank so_far.written so_far.values so_far.present (ap Some value));
+          (row_pushed _ i _ _ _ _ so_far.written so_far.values so_far.present (ap Some value));
     }

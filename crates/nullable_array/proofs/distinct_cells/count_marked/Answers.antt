@@ -11,12 +11,12 @@ byte = grind arith
 pub loop-row-preserved : goal.loop-row-preserved
 loop-row-preserved g c =
     let so_far = c.loop-row.invariant in
-    let row = g.A.Source.row_of c.args.a.now in
-    let one = c.from-count.ensures ∙ byte c.in_ok-added.added in
-    let step = marked_step _ c.loop-row.marks c.mark.new.marks row c.loop-row.row c.loop-row.count c.from-count.result c.get.result c.in_ok-added.added c.in_ok-added.ensures c.get.ensures so_far.marked so_far.count one in
+    let row = g.A.Source.row_of _ in
+    let one = c.from-count.ensures ∙ byte _ in
+    let step = marked_step _ _ _ row _ _ _ _ _ c.in_ok-added.ensures c.get.ensures so_far.marked so_far.count one in
     search one_at_most
 
 pub returns : goal.returns
 returns g c =
     let all : c.loop-row.row ≡ g.A.Source.count_of c.args.a.now = omega arith in
-    all_counted (g.A.Source.row_of c.args.a.now) _ c.loop-row.row c.loop-row.count all c.loop-row.invariant.count
+    all_counted _ _ _ _ all c.loop-row.invariant.count

@@ -1,11 +1,8 @@
 use Rattle.{
   std.proofs.Common.{◌≡◌, arith},
-  nullable_array.proofs.{FoldLaws.{folded_more}, DistinctLaws.{each_value_once}},
+  nullable_array.proofs.DistinctLaws.{each_value_once},
 }
 use Rattle.nullable_array.proofs.distinct_cells.few_values.Goals as goal
-
-pub loop-row-preserved : goal.loop-row-preserved
-loop-row-preserved = grind (arith, folded_more)
 
 pub returns : goal.returns
 returns g c =

@@ -1,11 +1,8 @@
 use Rattle.{
   std.proofs.Common.{◌≡◌, arith},
-  nullable_array.proofs.{FoldLaws.{folded_more}, OrderedLaws.{values_kept}},
+  nullable_array.proofs.OrderedLaws.{values_kept},
 }
 use Rattle.nullable_array.proofs.distinct_cells.present_numbers.Goals as goal
-
-pub loop-row-preserved : goal.loop-row-preserved
-loop-row-preserved = grind (arith, folded_more)
 
 pub returns : goal.returns
 returns g c =

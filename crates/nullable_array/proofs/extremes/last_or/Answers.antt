@@ -11,7 +11,7 @@ loop-row-preserved g c =
     let row = c.loop-row.row in
     let best = c.loop-row.best in
     let blank = c.args.blank in
-    let cmp = g.K.Order.cmp c.args.order.now in
+    let cmp = g.K.Order.cmp _ in
     let x = c.value.result in
     let best_fits : FitsSigned w64 best = search rules in
     let x_fits : FitsSigned w64 x = search rules in
@@ -21,5 +21,5 @@ loop-row-preserved g c =
     let next = if g.A.Side.flag_at a row then x else blank in
     let same_next : c.or_blank.result ≡ next = grind (arith, to_z, of_z, to_z-of_z) in
     let so_far : best ≡ unwrap_or (folded (greatest_step cmp) None row (g.A.Source.row_of a)) blank = grind (arith, unwrap_or, to_z-of_z) in
-    let more = last_more cmp blank (g.A.Source.row_of a) row best (g.A.Side.flag_at a row) x so_far (g.met.A.Side.row_at a row x c.value.ensures) (c.requires.first best best_fits) (c.requires.alone x x_fits) in
+    let more = last_more cmp _ (g.A.Source.row_of a) row _ _ x so_far (g.met.A.Side.row_at a row x c.value.ensures) (c.requires.first best best_fits) (c.requires.alone x x_fits) in
     grind (arith, to_z-of_z, to_z, of_z, unwrap_or)

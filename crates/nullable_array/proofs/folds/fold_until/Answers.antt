@@ -4,9 +4,6 @@ use Rattle.{
 }
 use Rattle.nullable_array.proofs.folds.fold_until.Goals as goal
 
-pub loop-row-preserved : goal.loop-row-preserved
-loop-row-preserved = grind (arith, folded_more)
-
 pub returns-then-so_far-start : goal.returns-then-so_far-start
 returns-then-so_far-start g c =
     let step = g.F.Fold.step_of c.args.fold.now in

@@ -15,7 +15,7 @@ returns-in-Min-clause-answer c =
     let row = lane_row a.values.now a.present.now a.start a.stride a.back in
     let cmp = λ (x y : TextId). slice_cmp nat_cmp (text_of texts x) (text_of texts y) in
     let back = λ (r : Reduction) (is : c.args.op ≡ r). ap (λ o. reduce_column (reduction_of o) (column_value texts (column_with string text_cell n row))) is in
-    back _ c.in-Min.is ∙ ap Ok (least_seen texts text_cell cmp refl (λ x. refl) (λ b x. refl) (λ x y. refl) n row ∙ sym (grind arith))
+    back _ c.in-Min.is ∙ ap Ok (least_seen _ text_cell cmp refl (λ x. refl) (λ b x. refl) (λ x y. refl) n row ∙ sym (grind arith))
 
 pub returns-in-Min-clause-given : goal.returns-in-Min-clause-given
 returns-in-Min-clause-given c =
@@ -34,16 +34,15 @@ returns-in-Max-clause-answer c =
     let row = lane_row a.values.now a.present.now a.start a.stride a.back in
     let cmp = λ (x y : TextId). slice_cmp nat_cmp (text_of texts x) (text_of texts y) in
     let back = λ (r : Reduction) (is : c.args.op ≡ r). ap (λ o. reduce_column (reduction_of o) (column_value texts (column_with string text_cell n row))) is in
-    back _ c.in-Max.is ∙ ap Ok (greatest_seen texts text_cell cmp refl (λ x. refl) (λ b x. refl) (λ x y. refl) n row ∙ sym (grind arith))
+    back _ c.in-Max.is ∙ ap Ok (greatest_seen _ text_cell cmp refl (λ x. refl) (λ b x. refl) (λ x y. refl) n row ∙ sym (grind arith))
 
 pub returns-in-Max-clause-given : goal.returns-in-Max-clause-given
 returns-in-Max-clause-given c =
     let texts = c.args.dict.now in
     let a = c.args.a.now in
     let n = a.count in
-    let row = lane_row a.values.now a.present.now a.start a.stride a.back in
     let cmp = λ (x y : TextId). slice_cmp nat_cmp (text_of texts x) (text_of texts y) in
-    subst (λ x. IsGiven texts x) (grind arith) (greatest_kept (λ o. IsGiven texts (text_cell o)) tt cmp n row (λ k lt. given-row texts n (λ j. text_cell (row j)) c.requires k lt))
+    subst (λ x. IsGiven texts x) (grind arith) (greatest_kept (λ o. IsGiven texts (text_cell o)) tt cmp n (lane_row a.values.now a.present.now a.start a.stride a.back) (λ k lt. given-row _ n _ c.requires k lt))
 
 pub returns-in-Count-clause-answer : goal.returns-in-Count-clause-answer
 returns-in-Count-clause-answer c =

@@ -1,5 +1,5 @@
 use Rattle.{
-  std.proofs.{Common.{rules, ◌<◌, length, arith}, lemmas.List.{take_all}},
+  std.proofs.Common.{◌<◌, length, arith},
   row_keys.proofs.{DistinctLaws.{get_is}, PairLaws.{greatest_more}},
 }
 use Rattle.row_keys.proofs.codes.greatest.Goals as goal
@@ -9,6 +9,3 @@ loop-row-preserved g c =
     let keys = g.R.KeyRows.keys c.args.rows.now in
     let lt : c.loop-row.row < length keys = omega arith in
     search (greatest_more, get_is)
-
-pub returns : goal.returns
-returns = search (rules, take_all)

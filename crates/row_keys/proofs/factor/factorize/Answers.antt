@@ -1,6 +1,6 @@
 use Rattle.{
-  row_keys.proofs.{DistinctLaws.{unseen, unseen-nil, get_is}, NotedLaws.{one_noted, added_none, all_seen, all_coded, all_first}, factor.factorize.Goals.{then-new+in_ok-push-2, else-new}},
-  std.proofs.Common.{◌≡◌, ◌<◌, ◌≤◌, ◌++◌, ◌∷◌, [], length, arith, cond},
+  row_keys.proofs.{DistinctLaws.{unseen, unseen-nil, get_is}, NotedLaws.{one_noted, added_none}, factor.factorize.Goals.{then-new+in_ok-push-2, else-new}},
+  std.proofs.Common.{◌≡◌, ◌<◌, ◌++◌, ◌∷◌, [], length, arith, cond},
 }
 use Rattle.row_keys.proofs.factor.factorize.Goals as goal
 
@@ -20,21 +20,3 @@ loop-row-preserved g c =
     ] in
     one_noted _ g.met.K.Eq.laws _ i k _ _ old lt (get_is _ i k c.key.ensures) c.loop-row.invariant
     c.insert_full.new.self.keys _ _ _ _ c.in_ok-code.ensures.keys c.in_ok-code.ensures.added c.in_ok-code.ensures.index c.in_ok-push.ensures.items grown
-
-pub returns-clause-keys : goal.returns-clause-keys
-returns-clause-keys g c =
-    let keys = g.R.KeyRows.keys c.args.rows.now in
-    let end : length keys ≤ c.loop-row.row = omega (arith, c.loop-row-test.false, c.count-count.ensures) in
-    search all_seen
-
-pub returns-clause-codes : goal.returns-clause-codes
-returns-clause-codes g c =
-    let keys = g.R.KeyRows.keys c.args.rows.now in
-    let end : length keys ≤ c.loop-row.row = omega (arith, c.loop-row-test.false, c.count-count.ensures) in
-    search all_coded
-
-pub returns-clause-firsts : goal.returns-clause-firsts
-returns-clause-firsts g c =
-    let keys = g.R.KeyRows.keys c.args.rows.now in
-    let end : length keys ≤ c.loop-row.row = omega (arith, c.loop-row-test.false, c.count-count.ensures) in
-    search all_first

@@ -1,8 +1,8 @@
 use Rattle.{
-  std.{proofs.Common.{◌≡◌, ◌+◌, ◌-◌, ◌<◌, ◌++◌, length, map, arith, All}, specs.List.{zip}},
+  std.proofs.Common.{◌≡◌, ◌+◌, ◌-◌, ◌<◌, ◌++◌, length, arith, All},
   cell_core.specs.contracts.cell.LabelEq.TheImpl.Laws.{laws-law},
   index_core.specs.Labels.{same_number},
-  row_keys.{specs.Keys.{label_in}, proofs.RecodeLaws.{last_level, one_level, drop_none}},
+  row_keys.proofs.RecodeLaws.{last_level, one_level, drop_none},
 }
 use Rattle.cell_core.specs.declared.cell.Label.TheVariants as label
 use Rattle.row_keys.proofs.levels.numbered.Goals as goal
@@ -18,12 +18,7 @@ loop-level-init g c =
 
 pub loop-level-preserved : goal.loop-level-preserved
 loop-level-preserved g c =
-    let rows = g.A.LevelRows.tuples c.args.left.now ++ g.B.LevelRows.tuples c.args.right.now in
-    let here = c.loop-level.level - 1 in
-    let next : c.loop-level.level ≡ here + 1 = omega (arith, c.loop-level-test.true) in
-    let seen : zip c.deref-in-loop-level.result.now c.deref-in-loop-level-2.result.now ≡ zip (map (label_in here) rows) c.loop-level.numbers.codes.items
-    = grind arith in
-    let all : All (λ t. here < length t) rows = grind arith in
+    let all : All (λ t. (c.loop-level.level - 1) < length t) (g.A.LevelRows.tuples c.args.left.now ++ g.B.LevelRows.tuples c.args.right.now) = grind arith in
     record {
       inside = omega (arith, c.loop-level.invariant.inside);
       numbered = one_level same_number laws-law label.Na _ _ c.loop-level.numbers.codes.items _ _ all

@@ -1,11 +1,8 @@
 use Rattle.{
-  std.proofs.Common.{arith, nat_eq, rules},
-  row_keys.{specs.Numbers.{AreLeaders}, proofs.{StandLaws.{codes_stand}, LeaderLaws.{leaders_stand, leaders_back}}},
+  std.proofs.Common.{nat_eq, rules},
+  row_keys.{specs.Numbers.{AreLeaders}, proofs.{StandLaws.{codes_stand}, LeaderLaws.{leaders_stand}}},
 }
 use Rattle.row_keys.proofs.numbers.codes_by_number.Goals as goal
-
-pub codes_by_leader-requires : goal.codes_by_leader-requires
-codes_by_leader-requires = grind (arith, leaders_back)
 
 pub returns-clause-codes : goal.returns-clause-codes
 returns-clause-codes c =

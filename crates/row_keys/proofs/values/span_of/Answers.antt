@@ -1,5 +1,5 @@
 use Rattle.{
-  std.proofs.{Common.{rules, ◌<◌, length, arith}, lemmas.List.{take_all}},
+  std.proofs.Common.{◌<◌, length, arith},
   row_keys.proofs.{DistinctLaws.{get_is}, ValueLaws.{spanned_more}},
 }
 use Rattle.row_keys.proofs.values.span_of.Goals as goal
@@ -8,6 +8,3 @@ pub loop-row-preserved : goal.loop-row-preserved
 loop-row-preserved g c =
     let lt : c.loop-row.row < length (g.R.KeyRows.keys c.args.rows.now) = omega arith in
     spanned_more _ _ _ _ _ _ _ _ lt (search get_is) c.in_ok-span.ensures.low c.in_ok-span.ensures.high c.in_ok-span.ensures.label c.loop-row.invariant
-
-pub returns : goal.returns
-returns = search (rules, take_all)

@@ -1,5 +1,5 @@
 use Rattle.{
-  std.proofs.Common.{drop, ◌*◌, ◌+◌, ◌++◌, max},
+  std.proofs.Common.{◌*◌, ◌+◌, ◌++◌, max},
   language_meaning.specs.{Tree.{arg_list, named_args, arg_pairs}, Depth.{depth, step_depth, sub_depth, optional_sub_depth, optional_arg_depth, arg_depth, list_depth, args_depth, pairs_depth}},
   script_meaning.specs.Expression.{parts_of as parts_given, named_of, pairs_of},
   script_tree.specs.View.{expr_of, step_of, sub_of, arg_of, optional_arg, parts_of, named_parts_of, pair_parts_of},
@@ -12,19 +12,19 @@ use Rattle.script_evaluation.proofs.evaluating.+evaluating.Given as goal
 abbrev pub invariant-arguments-loop-i : goal.invariant-arguments-loop-i
 invariant-arguments-loop-i g l = let F = g.F.Files in let at = moment F.seen in record {
   known : AreKnownArguments (world_of l.work) l.arguments.items.items;
-  gathers : Gathers l.names (λ a b. a ++ b) (λ fs s. named_of fs s (named_args (named_parts_of l.args))) (λ fs s. named_of fs s (named_args (drop l.i (named_parts_of l.args)))) (arguments_in (world_of l.work) l.arguments) (at l.fn.work l.fn.files) (at l.work l.files);
+  gathers : Gathers l.names (λ a b. a ++ b) (λ fs s xs. named_of fs s (named_args xs)) (named_parts_of l.args) l.i (arguments_in (world_of l.work) l.arguments) (at l.fn.work l.fn.files) (at l.work l.files);
 }
 
 abbrev pub invariant-entries-loop-i : goal.invariant-entries-loop-i
 invariant-entries-loop-i g l = let F = g.F.Files in let at = moment F.seen in record {
   known : AreKnownPairs (world_of l.work) l.entries.pairs.items;
-  gathers : Gathers l.names join_pairs (λ fs s. pairs_of fs s (arg_pairs (pair_parts_of l.pairs))) (λ fs s. pairs_of fs s (arg_pairs (drop l.i (pair_parts_of l.pairs)))) (pairs_in (world_of l.work) l.entries) (at l.fn.work l.fn.files) (at l.work l.files);
+  gathers : Gathers l.names join_pairs (λ fs s xs. pairs_of fs s (arg_pairs xs)) (pair_parts_of l.pairs) l.i (pairs_in (world_of l.work) l.entries) (at l.fn.work l.fn.files) (at l.work l.files);
 }
 
 abbrev pub invariant-items-loop-i : goal.invariant-items-loop-i
 invariant-items-loop-i g l = let F = g.F.Files in let at = moment F.seen in record {
   known : AreKnownItems (world_of l.work) l.items.items.items;
-  gathers : Gathers l.names join_parts (λ fs s. parts_given fs s (arg_list (parts_of l.parts))) (λ fs s. parts_given fs s (arg_list (drop l.i (parts_of l.parts)))) (items_in (world_of l.work) l.items) (at l.fn.work l.fn.files) (at l.work l.files);
+  gathers : Gathers l.names join_parts (λ fs s xs. parts_given fs s (arg_list xs)) (parts_of l.parts) l.i (items_in (world_of l.work) l.items) (at l.fn.work l.fn.files) (at l.work l.files);
 }
 
 abbrev pub decreases-evaluate : goal.decreases-evaluate

@@ -1,20 +1,17 @@
 use Rattle.{
-  std.{proofs.{Common.{arith, refl}, lemmas.Result.{IfErr-weaker, err_from_is_err_and, on_ok_weaker}}, specs.FinMap.{empty}},
-  script_session.specs.Session.{texts_of},
-  script_steps.{specs.Ends.{outside}, proofs.{ErrorLaws.{leaves_warnings, warns_same, warns_line, given_files, says_unread, leaves_cut, leaves_fault}, RunLaws.{goes_on, stops_input, stops_memory, stops_refused, stops_showing, stops_warning}}},
+  std.{proofs.{Common.{arith, refl}, lemmas.Result.{IfErr-weaker, on_ok_weaker}}, specs.FinMap.{empty}},
+  script_steps.{specs.Ends.{outside}, proofs.{ErrorLaws.{warns_line, given_files, leaves_fault}, RunLaws.{goes_on, stops_input, stops_memory, stops_refused, stops_showing, stops_warning}}},
 }
 use Rattle.script_steps.proofs.advancing.advance.Goals as goal
 
 pub returns-in_err-warn-in-Ok-clause-stops : goal.returns-in_err-warn-in-Ok-clause-stops
 returns-in_err-warn-in-Ok-clause-stops g c =
-    let p = err_from_is_err_and c.from_residual.result c.from_residual.ensures.1 in
-    rw (p.1, p.2) (stops_warning c.in-Ok.ensures.answers _ _ _ _ c.in_err-warn-in-Ok.ensures.status refl c.in_err-warn-in-Ok.ensures.part)
+    stops_warning c.in-Ok.ensures.answers _ _ _ _ _ (search) c.in_err-warn-in-Ok.ensures.status refl c.in_err-warn-in-Ok.ensures.part
 
 pub returns-in_err-warn-in-Err-Refused-clause-stops : goal.returns-in_err-warn-in-Err-Refused-clause-stops
 returns-in_err-warn-in-Err-Refused-clause-stops g c =
-    let p = err_from_is_err_and c.from_residual-in_err-warn-in-Err-Refused.result c.from_residual-in_err-warn-in-Err-Refused.ensures.1 in
     let answers = rw c.in-Err-Refused.field-0-is at c.in-Err-Refused.ensures.answers in
-    rw (p.1, p.2) (stops_warning (λ held. (answers held).0) _ _ _ _ c.in_err-warn-in-Err-Refused.ensures.status refl c.in_err-warn-in-Err-Refused.ensures.part)
+    stops_warning (λ held. (answers held).0) _ _ _ _ _ (search) c.in_err-warn-in-Err-Refused.ensures.status refl c.in_err-warn-in-Err-Refused.ensures.part
 
 pub returns-in_ok-warn-in-Ok-clause-on : goal.returns-in_ok-warn-in-Ok-clause-on
 returns-in_ok-warn-in-Ok-clause-on g c =
@@ -42,20 +39,9 @@ returns-in-Err-Input-clause-input g c =
 pub returns-in-Err-NoMemory-clause-stops : goal.returns-in-Err-NoMemory-clause-stops
 returns-in-Err-NoMemory-clause-stops g c = stops_memory _ _ _ (outside (g.F.Files.seen c.args.files.now) (g.O.Sink.seen c.args.out.now) (g.E.Sink.seen c.args.err.now))
 
-pub returns-in_err-warn-in-Ok-clause-errors : goal.returns-in_err-warn-in-Ok-clause-errors
-returns-in_err-warn-in-Ok-clause-errors = grind (arith, leaves_cut, leaves_warnings, warns_same)
-
-pub returns-in_err-warn-in-Err-Refused-clause-errors : goal.returns-in_err-warn-in-Err-Refused-clause-errors
-returns-in_err-warn-in-Err-Refused-clause-errors = grind (arith, leaves_cut, leaves_warnings, warns_same)
-
-pub returns-in_ok-warn-in-Ok-clause-warned : goal.returns-in_ok-warn-in-Ok-clause-warned
-returns-in_ok-warn-in-Ok-clause-warned g c = on_ok_weaker c.show.result (λ shown. warns_line _ _ _ _ c.in_ok-warn-in-Ok.ensures.shown) c.show.ensures.shown
-
 pub returns-in_ok-warn-in-Err-Refused-clause-errors : goal.returns-in_ok-warn-in-Err-Refused-clause-errors
 returns-in_ok-warn-in-Err-Refused-clause-errors g c =
     let answers = rw c.in-Err-Refused.field-0-is at c.in-Err-Refused.ensures.answers in
-    leaves_fault _ _ _ _ _ _ _ _ _ (warns_line _ _ _ _ c.in_ok-warn-in-Err-Refused.ensures.shown) (given_files (texts_of c.step.new.self) _ (g.F.Files.seen c.args.files.now) (g.F.Files.seen c.step.new.files) c.in-Err-Refused.code (answers empty).1)
+    let caused = (answers empty).1 in
+    leaves_fault _ _ _ _ _ _ _ _ _ (warns_line _ _ _ _ c.in_ok-warn-in-Err-Refused.ensures.shown) (search given_files)
     (rw c.texts.ensures at c.end_at_fault.ensures.ended)
-
-pub returns-in-Err-Input-clause-errors : goal.returns-in-Err-Input-clause-errors
-returns-in-Err-Input-clause-errors g c = search says_unread

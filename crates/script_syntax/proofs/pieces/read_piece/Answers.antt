@@ -14,13 +14,13 @@ returns-then-is_blank c =
 
 pub returns-in-Ok-statement : goal.returns-in-Ok-statement
 returns-in-Ok-statement c =
-    let lexes = lexes_of _ _ (λ ts. tokens_of ts.items) _ _ _ c.in-Some.is c.in_ok-tokens.ensures.found c.in-Ok.ensures.cases.0 in
+    let lexes = lexes_of _ _ _ _ _ _ c.in-Some.is c.in_ok-tokens.ensures.found c.in-Ok.ensures.cases.0 in
     let read = subst (λ ts. form_read (tokens_of ts) ≡ Some (form_of c.in-Ok-statement.form)) c.deref.ensures.value c.in-Ok-statement.ensures in
     one_statement _ _ _ c.in-Ok.ensures.cases.1
     (search filled_of) lexes read
 
 pub returns-in-Err-Syntax : goal.returns-in-Err-Syntax
 returns-in-Err-Syntax c =
-    let lexes = lexes_of _ _ (λ ts. tokens_of ts.items) _ _ _ c.in-Some.is c.in_ok-tokens.ensures.found c.in-Ok.ensures.cases.0 in
+    let lexes = lexes_of _ _ _ _ _ _ c.in-Some.is c.in_ok-tokens.ensures.found c.in-Ok.ensures.cases.0 in
     let none = subst (λ ts. form_read (tokens_of ts) ≡ None) c.deref.ensures.value (grind arith) in
     search (filled_of, no_statement)

@@ -1,5 +1,5 @@
 use Rattle.{
-  std.proofs.Common.{◌≡◌, ◌<◌, ◌+◌, ◌-◌, length, arith},
+  std.proofs.Common.{◌<◌, ◌-◌, length, arith},
   selections.proofs.HeadingLaws.{first_places_more},
 }
 use Rattle.selections.proofs.headings.first_places.Goals as goal
@@ -9,6 +9,5 @@ loop-place-preserved c =
     let hs = c.args.on.now.headings in
     let p = c.loop-place.place - 1 in
     let lt : p < length hs = omega arith in
-    let same : c.loop-place.place ≡ p + 1 = omega arith in
     first_places_more hs p _ _ _ _ lt c.heading.ensures.value (λ q. c.in_ok-insert.ensures.updates.0 q)
     (grind arith)

@@ -10,7 +10,6 @@ loop-place-preserved-then-not-branch c =
     let hs = c.args.headings.now in
     let p = c.loop-place.place - 1 in
     let lt : p < length hs = omega arith in
-    let same : c.loop-place.place ≡ p + 1 = omega arith in
     let later : (q : Option Label) → list_any (same_heading q) c.loop-place.later.keys ≡ list_any (same_heading q) (drop (p + 1) hs) = grind arith in
     record {
       later = λ q. later_step hs _ _ p _ q lt later c.in_ok-insert.ensures.keys;
@@ -22,7 +21,6 @@ loop-place-preserved c =
     let hs = c.args.headings.now in
     let p = c.loop-place.place - 1 in
     let lt : p < length hs = omega arith in
-    let same : c.loop-place.place ≡ p + 1 = omega arith in
     let later : (q : Option Label) → list_any (same_heading q) c.loop-place.later.keys ≡ list_any (same_heading q) (drop (p + 1) hs) = grind arith in
     record {
       later = λ q. later_step hs _ _ p _ q lt later c.in_ok-insert.ensures.keys;

@@ -2,15 +2,9 @@ use Rattle.{
   std.{proofs.Common.{arith, ◌∙◌, ap, subst}, specs.List.{range_with_len}},
   table_meaning.specs.{Table.{NumberedTable, table_value}, Valid.{IsWhole}},
   frame_store.specs.Objects.{tables, table_at},
-  selections.{specs.Plans.{rows_in, TakesAll}, proofs.{PickedLaws.{places_inside, places_count, read_is}, PlanLaws.{without_none}, TakenLaws.{taken_seen}, CutLaws.{whole_chosen}}},
+  selections.{specs.Plans.{rows_in, TakesAll}, proofs.{PickedLaws.{read_is}, PlanLaws.{without_none}, TakenLaws.{taken_seen}, CutLaws.{whole_chosen}}},
 }
 use Rattle.selections.proofs.new_objects.headed_by.Goals as goal
-
-pub cut_within-requires-clause-taken : goal.cut_within-requires-clause-taken
-cut_within-requires-clause-taken c =
-    let t = table_at (tables c.args.store.now) c.args.on.0 in
-    let at = read_is _ _ c.read-source.ensures.table in
-    grind (arith, places_inside, places_count)
 
 pub returns-clause-settled : goal.returns-clause-settled
 returns-clause-settled c = (c.cut_within.ensures c.args.dict.now c.requires.settled (c.requires.name, c.requires.labels)).2
@@ -21,6 +15,4 @@ returns-clause-answers c =
     let t = table_at (tables c.args.store.now) c.args.on.0 in
     let at = read_is _ _ c.read-source.ensures.table in
     let all = subst (λ (n : NumberedTable). TakesAll n c.all_rows-rows.result) at c.all_rows-rows.ensures in
-    let made = table_value dict (search) in
-    let columns = c.in_ok-columns.ensures ∙ ap (range_with_len 0) (grind arith) in
-    grind (arith, taken_seen dict c.args.shape c.args.headings c.all_rows-rows.result c.in_ok-columns.columns t, all.lost, without_none made, whole_chosen c.args.shape c.args.headings (rows_in c.all_rows-rows.result) c.in_ok-columns.columns t (subst IsWhole at c.read-source.ensures.whole) all.rows columns)
+    grind (arith, taken_seen dict c.args.shape c.args.headings c.all_rows-rows.result c.in_ok-columns.columns t, all.lost, without_none (table_value dict (search)), whole_chosen c.args.shape c.args.headings (rows_in c.all_rows-rows.result) c.in_ok-columns.columns t (subst IsWhole at c.read-source.ensures.whole) all.rows (c.in_ok-columns.ensures ∙ ap (range_with_len 0) (grind arith)))

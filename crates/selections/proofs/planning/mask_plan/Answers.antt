@@ -13,6 +13,3 @@ returns-clause-plan c =
     (reach_frame c.args.dict.now c.args.on.now (mask_pick (table_value c.args.dict.now c.args.on.now) (object_value (tables c.args.store.now) c.args.dict.now c.args.mask)) c.in_ok-rows.rows c.in_ok-columns.columns c.in_ok-rows.ensures.rows
     c.in_ok-columns.ensures.places c.in_ok-columns.ensures.single c.in_ok-columns.ensures.sliced c.requires.shape)
     (grind arith)
-
-pub returns-clause-whole : goal.returns-clause-whole
-returns-clause-whole = grind arith

@@ -1,12 +1,9 @@
 use Rattle.{
   std.proofs.Common.{arith, length},
   frame_store.{specs.Arguments.{subscript_of}, proofs.Settling.{headings_part}},
-  selections.proofs.{SeenKeys.{range_below}, ReachLaws.{axis_given, columns_found, axis_count}},
+  selections.proofs.ReachLaws.{axis_given, columns_found, axis_count},
 }
 use Rattle.selections.proofs.reaching.loc_columns.Goals as goal
-
-pub columns_axis-requires-clause-places : goal.columns_axis-requires-clause-places
-columns_axis-requires-clause-places = grind (arith, range_below)
 
 pub labelled-requires-clause-given : goal.labelled-requires-clause-given
 labelled-requires-clause-given c = rw c.in_ok-axis.ensures (axis_given _ _ _ (search headings_part))

@@ -12,7 +12,6 @@ mask_rows-requires-clause-mask c = rw c.in-Some.is at (c.object_of.ensures.live 
 pub returns-clause-rows : goal.returns-clause-rows
 returns-clause-rows c =
     let live = tables c.args.store.now in
-    let count = c.levels-levels.ensures.count ∙ ap (λ (a : AxisValue). length a.names) c.axis-axis.ensures in
-    loc_found _ c.args.on.now _ _ (λ texts. subscript_of live texts c.args.key.now) _ _ count c.axis-axis.ensures
+    loc_found _ c.args.on.now _ _ (λ texts. subscript_of live texts c.args.key.now) _ _ (c.levels-levels.ensures.count ∙ ap (λ (a : AxisValue). length a.names) c.axis-axis.ensures) c.axis-axis.ensures
     (grind arith)
     (c.in_ok-key.ensures.key live) c.requires.key.given c.labelled.ensures.rows

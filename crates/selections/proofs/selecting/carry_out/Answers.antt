@@ -3,24 +3,17 @@ use Rattle.{
   table_meaning.specs.Table.{table_value},
   select_meaning.specs.Select.{cut, row_result},
   frame_store.{specs.Objects.{tables}, proofs.Settling.{longer_self, object_settled}},
-  selections.{specs.Plans.{has_single_row}, proofs.{PickedLaws.{read_is}, PlanLaws.{only_place}, CarryLaws.{row_inside, plan_meant, cell_made}}},
+  selections.{specs.Plans.{has_single_row}, proofs.{PlanLaws.{only_place}, CarryLaws.{plan_meant, cell_made}}},
 }
 use Rattle.selections.specs.declared.planning.Form.TheVariants as answer
 use Rattle.selections.proofs.selecting.carry_out.Goals as goal
 
-pub cell-cell-requires-clause-row : goal.cell-cell-requires-clause-row
-cell-cell-requires-clause-row = grind (arith, read_is, row_inside)
-
 pub row_series-series-requires-clause-known : goal.row_series-series-requires-clause-known
 row_series-series-requires-clause-known c = search object_settled
 
-pub row_series-series-requires-clause-row : goal.row_series-series-requires-clause-row
-row_series-series-requires-clause-row = grind (arith, read_is, row_inside)
-
 pub returns-in-Cell : goal.returns-in-Cell
 returns-in-Cell c =
-    let plan = c.args.plan in
-    cell_made _ c.args.store.now _ _ plan _ _ _ c.read.ensures.table c.requires.settled c.in-Cell.is
+    cell_made _ c.args.store.now _ _ c.args.plan _ _ _ c.read.ensures.table c.requires.settled c.in-Cell.is
     c.first.ensures (c.requires.plan.whole_row (ap has_single_row c.in-Cell.is)) (grind (arith, only_place)) c.cell-cell.ensures
 
 pub returns-in-Row : goal.returns-in-Row
@@ -31,8 +24,4 @@ returns-in-Row c =
 
 pub returns-in-Column : goal.returns-in-Column
 returns-in-Column c =
-    let dict = c.args.dict.now in
-    rw c.in-Column.is (c.take_column.ensures dict c.requires.settled)
-
-pub returns : goal.returns
-returns = grind arith
+    rw c.in-Column.is (c.take_column.ensures c.args.dict.now c.requires.settled)

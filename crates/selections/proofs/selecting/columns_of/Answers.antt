@@ -7,16 +7,10 @@ use Rattle.{
 }
 use Rattle.selections.proofs.selecting.columns_of.Goals as goal
 
-pub take_frame-requires-clause-plan : goal.take_frame-requires-clause-plan
-take_frame-requires-clause-plan = grind arith
-
 pub returns : goal.returns
 returns c =
     let dict = c.args.dict.now in
     let t = table_at (tables c.args.store.now) c.args.on.0 in
     let plan = c.whole_columns-plan.result in
     let at = read_is _ _ c.read.ensures.table in
-    let all = subst (λ (n : NumberedTable). TakesAll n plan.rows) at c.whole_columns-plan.ensures.rows in
-    let taken = cut (table_value dict t) (rows_in plan.rows) plan.columns in
-    let below = subst (λ (l : List ℕ). All (λ place. place < length t.columns) l) (search) c.requires.columns in
-    grind (arith, without_none taken, all_rows_cut dict t (rows_in plan.rows) plan.columns (subst IsWhole at c.read.ensures.whole) below all.rows)
+    grind (arith, without_none (cut (table_value dict t) (rows_in plan.rows) plan.columns), all_rows_cut dict t (rows_in plan.rows) plan.columns (subst IsWhole at c.read.ensures.whole) (subst (λ (l : List ℕ). All (λ place. place < length t.columns) l) (search) c.requires.columns) (subst (λ (n : NumberedTable). TakesAll n plan.rows) at c.whole_columns-plan.ensures.rows).rows)

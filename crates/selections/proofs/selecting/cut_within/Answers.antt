@@ -15,4 +15,4 @@ returns-in_err-id c = λ texts settled given.
 pub returns : goal.returns
 returns c = λ texts settled given.
     let within : within_limits (length (rows_in c.args.rows.now)) (length c.args.columns.now) ≡ true = search rules in
-    taken_answers texts c.args.store.now c.make_taken.new.store c.args.on.0 c.in_ok-id.id c.args.shape c.args.headings c.args.rows.now _ c.requires.live c.in_ok-id.ensures.fresh c.in_ok-id.ensures.ok within settled given
+    taken_answers texts c.args.store.now c.make_taken.new.store c.args.on.0 _ c.args.shape _ _ _ c.requires.live c.in_ok-id.ensures.fresh c.in_ok-id.ensures.ok within settled given

@@ -1,12 +1,11 @@
 use Rattle.{
   std.{specs.Prelude.{◌≢◌}, proofs.Common.{rules, ◌≡◌, ◌<◌, length, arith}},
-  selections.proofs.RowLaws.{first_kind, kinds_refused, kinds_more, kind_later, other_kind, same_next, first_is, kinds_done, have_kind},
+  selections.proofs.RowLaws.{first_kind, kinds_refused, kinds_more, kind_later, other_kind, same_next, first_is, kinds_done},
 }
 use Rattle.selections.proofs.selecting.kind_across.Goals as goal
 
 pub returns-then-ne-clause-kind : goal.returns-then-ne-clause-kind
 returns-then-ne-clause-kind c = λ texts.
-    let t = c.args.on.now in
     let places = c.args.columns.now in
     let lt : c.loop-k.k < length places = omega arith in
     let some : 0 < c.loop-k.k = search in
@@ -20,8 +19,3 @@ pub returns-clause-kind : goal.returns-clause-kind
 returns-clause-kind c = λ texts.
     let end : c.loop-k.k ≡ length c.args.columns.now = omega arith in
     kinds_done _ _ _ _ _ end c.loop-k.invariant.kind c.loop-k.invariant.all
-
-pub returns-clause-each : goal.returns-clause-each
-returns-clause-each c =
-    let end : c.loop-k.k ≡ length c.args.columns.now = omega arith in
-    search have_kind

@@ -14,5 +14,4 @@ returns-then-levels-eq1 c = λ texts.
 
 pub returns-else-levels-eq1 : goal.returns-else-levels-eq1
 returns-else-levels-eq1 c = λ texts.
-    let alike = subst (λ (a : AxisValue). HaveLevels c.levels.result a.tuples) c.axis-axis.ensures c.levels.ensures.alike in
     name_of_several texts _ (λ one. c.if-levels-eq1.false (grind arith))

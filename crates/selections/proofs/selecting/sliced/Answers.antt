@@ -12,18 +12,13 @@ use Rattle.selections.proofs.selecting.sliced.Goals as goal
 pub cut_within-requires-clause-taken : goal.cut_within-requires-clause-taken
 cut_within-requires-clause-taken c =
     let t = table_at (tables c.args.store.now) c.args.on.0 in
-    let at = read_is _ _ c.read-source.ensures.table in
     let own : c.in_ok-headings.headings ≡ own_headings t = grind arith in
-    let all = c.in_ok-columns.ensures ∙ ap (range_with_len 0) (grind arith) in
-    all_taken _ t _ _ _ (grind arith) (grind arith) c.requires.rows own all
+    all_taken _ t _ _ _ (grind arith) (grind arith) c.requires.rows own (c.in_ok-columns.ensures ∙ ap (range_with_len 0) (grind arith))
 
 pub returns : goal.returns
 returns c = λ texts settled.
     let t = table_at (tables c.args.store.now) c.args.on.0 in
-    let at = read_is _ c.read-source.result c.read-source.ensures.table in
     let own : c.in_ok-headings.headings ≡ own_headings t = grind arith in
-    let all = c.in_ok-columns.ensures ∙ ap (range_with_len 0) (grind arith) in
-    let same = c.shape-shape.ensures ∙ ap (λ (n : NumberedTable). n.shape) at in
     subst (λ (v : Table). Forms c.cut_within.result (limited v) (world c.args.store.now texts) (world c.cut_within.new.store texts))
-    (ap (λ (s : Shape). table_value texts (chosen s c.in_ok-headings.headings (rows_of c.args.rows) c.in_ok-columns.columns t)) same ∙ chosen_rows _ _ _ _ t own all)
-    (c.cut_within.ensures texts settled (own_given texts t c.in_ok-headings.headings own (table_is_settled _ _ _ c.requires.live settled)))
+    (ap (λ (s : Shape). table_value texts (chosen s c.in_ok-headings.headings (rows_of c.args.rows) c.in_ok-columns.columns t)) (c.shape-shape.ensures ∙ ap (λ (n : NumberedTable). n.shape) (read_is _ _ c.read-source.ensures.table)) ∙ chosen_rows _ _ _ _ t own (c.in_ok-columns.ensures ∙ ap (range_with_len 0) (grind arith)))
+    (c.cut_within.ensures texts settled (own_given _ t _ own (table_is_settled _ _ _ c.requires.live settled)))

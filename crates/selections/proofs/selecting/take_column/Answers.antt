@@ -1,23 +1,11 @@
 use Rattle.{
-  std.proofs.Common.{arith, rules, ◌≡◌, ◌<◌, ◌∷◌, [], subst, sym, length, All, None},
-  table_meaning.specs.Table.{NumberedTable, Table},
+  std.proofs.Common.{rules, ◌≡◌, ◌∷◌, [], subst, None},
+  table_meaning.specs.Table.{Table},
   form_meaning.specs.Finish.{limited},
   frame_store.specs.{Objects.{tables, table_at}, World.{world, Forms}},
-  selections.proofs.{AnswerLaws.{table_is_settled}, PickedLaws.{read_is}, PlanLaws.{only_place}, TakeLaws.{place_inside}, CutLaws.{series_shown, series_given}, CarryLaws.{single_heading}},
+  selections.proofs.{AnswerLaws.{table_is_settled}, PickedLaws.{read_is}, PlanLaws.{only_place}, CutLaws.{series_shown, series_given}, CarryLaws.{single_heading}},
 }
 use Rattle.selections.proofs.selecting.take_column.Goals as goal
-
-pub at-requires : goal.at-requires
-at-requires = grind arith
-
-pub heading-requires : goal.heading-requires
-heading-requires c =
-    let columns = c.args.plan.now.columns in
-    let below = subst (λ (t : NumberedTable). All (λ place. place < length t.columns) columns) (sym (read_is _ _ c.read-source.ensures.table)) c.requires.plan.columns in
-    place_inside _ _ 0 _ below (grind arith) c.at.ensures
-
-pub cut_within-requires-clause-taken : goal.cut_within-requires-clause-taken
-cut_within-requires-clause-taken = grind arith
 
 pub returns : goal.returns
 returns c = λ texts settled.
@@ -25,6 +13,6 @@ returns c = λ texts settled.
     let t = table_at (tables c.args.store.now) c.args.on.0 in
     let one = c.requires.plan.one_column c.requires.single in
     let made : c.push.new.self ≡ record { columns_name = None; labels = c.heading.result ∷ [] } = search rules in
-    let headed = single_heading c.read-source.result t plan.columns _ _ c.push.new.self (search read_is) (search only_place) c.heading.ensures.value made in
-    subst (λ (v : Table). Forms c.cut_within.result (limited v) (world c.args.store.now texts) (world c.cut_within.new.store texts)) (series_shown texts plan.rows plan.columns t c.push.new.self headed)
+    let headed = single_heading c.read-source.result t _ _ _ _ (search read_is) (search only_place) c.heading.ensures.value made in
+    subst (λ (v : Table). Forms c.cut_within.result (limited v) (world c.args.store.now texts) (world c.cut_within.new.store texts)) (series_shown _ plan.rows _ t c.push.new.self headed)
     (c.cut_within.ensures texts settled (series_given _ t _ _ headed (table_is_settled _ _ _ c.requires.live settled)))

@@ -4,44 +4,26 @@ use Rattle.{
   meaning.specs.Fault.{FaultValue},
   table_meaning.specs.Value.{Entry},
   frame_store.{specs.{Objects.{tables, table_at}, World.{world, Forms}}, proofs.Settling.{headings_part}},
-  selections.{specs.Headings.{NamesRepeated, repeated_heading}, proofs.{AnswerLaws.{table_is_settled}, PickedLaws.{read_is}, CutLaws.{frame_taken, frame_given, frame_meant, frame_refused}, CarryLaws.{gathered, gathered_with}}},
+  selections.{specs.Headings.{NamesRepeated, repeated_heading}, proofs.{AnswerLaws.{table_is_settled}, PickedLaws.{read_is}, CutLaws.{frame_given, frame_meant, frame_refused}, CarryLaws.{gathered, gathered_with}}},
 }
 use Rattle.selections.proofs.selecting.take_frame.Goals as goal
 
-pub headings_at-requires : goal.headings_at-requires
-headings_at-requires = grind arith
-
 pub returns-in_err-headings : goal.returns-in_err-headings
 returns-in_err-headings c =
-    let dict = c.args.dict.now in
-    let plan = c.args.plan.now in
     let t = table_at (tables c.args.store.now) c.args.on.0 in
-    let labels = gathered c.read-source.result t plan.columns c.deref.result.now _ (search read_is) c.deref.ensures.value c.in_ok-labels.ensures in
-    let settled = headings_part dict t (table_is_settled _ _ _ c.requires.live c.requires.settled) in
     let why = c.in_err-headings.field-0.0 in
-    let named = subst (λ (l : List (Option Label)). NamesRepeated why (repeated_heading l)) labels c.in_err-headings.ensures.refused in
     let p = err_from_is_err_and c.from_residual-in_err-headings.result c.from_residual-in_err-headings.ensures.1 in
-    rw (p.1, p.2) (frame_refused dict c.args.store.now t _ _ plan.columns why c.len.ensures.distinct settled named c.requires.settled)
-
-pub cut_within-requires-clause-taken : goal.cut_within-requires-clause-taken
-cut_within-requires-clause-taken c =
-    let plan = c.args.plan.now in
-    let t = table_at (tables c.args.store.now) c.args.on.0 in
-    let at = read_is _ _ c.read-source.ensures.table in
-    let labels = gathered _ t _ _ _ at c.deref.ensures.value c.in_ok-labels.ensures in
-    let headed = gathered_with _ t _ _ _ _ at c.columns_name.ensures labels c.in_ok-headings.ensures.made in
-    frame_taken t _ _ _ (grind arith) (grind arith) c.requires.plan.rows c.requires.plan.columns headed
-    (grind arith)
+    rw (p.1, p.2) (frame_refused _ c.args.store.now t _ _ _ why c.len.ensures.distinct (headings_part _ t (table_is_settled _ _ _ c.requires.live c.requires.settled)) (subst (λ (l : List (Option Label)). NamesRepeated why (repeated_heading l)) (gathered c.read-source.result t _ _ _ (search read_is) c.deref.ensures.value c.in_ok-labels.ensures) c.in_err-headings.ensures.refused) c.requires.settled)
 
 pub returns : goal.returns
 returns c =
     let dict = c.args.dict.now in
     let plan = c.args.plan.now in
     let t = table_at (tables c.args.store.now) c.args.on.0 in
-    let at = read_is _ c.read-source.result c.read-source.ensures.table in
+    let at = read_is _ _ c.read-source.ensures.table in
     let labels = gathered _ t _ _ _ at c.deref.ensures.value c.in_ok-labels.ensures in
     let headed = gathered_with _ t _ _ _ _ at c.columns_name.ensures labels c.in_ok-headings.ensures.made in
-    let settled = table_is_settled dict (tables c.args.store.now) c.args.on.0 c.requires.live c.requires.settled in
+    let settled = table_is_settled _ _ _ c.requires.live c.requires.settled in
     subst (λ (m : Result Entry FaultValue). Forms c.cut_within.result m (world c.args.store.now dict) (world c.cut_within.new.store dict))
     (grind (arith, frame_meant))
     (c.cut_within.ensures dict c.requires.settled (search frame_given))

@@ -1,25 +1,16 @@
 use Rattle.{
-  std.proofs.{Common.{arith, length, refl, sym, subst, All}, lemmas.{List.{length-map}, Result.{err_from_is_err_and}}},
+  std.proofs.Common.{arith, length, refl, sym, subst, All},
   column_core.specs.{Columns.{CellColumn}, Moves.{IsPlaceOf}},
   meaning.specs.Cell.{AreGiven},
-  settings.proofs.{AlignLaws.{refused_then, taken_given}, PutCases.{column_is_given, has_column, taken_column}},
+  settings.proofs.{AlignLaws.{taken_given}, PutCases.{column_is_given, has_column, taken_column}},
 }
 use Rattle.settings.proofs.aligning.aligned_cells.Goals as goal
-
-pub returns-in_err-rows-clause-cells : goal.returns-in_err-rows-clause-cells
-returns-in_err-rows-clause-cells = grind (arith, err_from_is_err_and, refused_then)
-
-pub cells_at-requires : goal.cells_at-requires
-cells_at-requires = grind arith
 
 pub returns-clause-cells : goal.returns-clause-cells
 returns-clause-cells c =
     let column = c.column.result in
     let made : CellColumn = record { kind = column.kind; cells = c.in_ok-cells_at.field-0 } in
     grind (arith, c.in_ok-rows.ensures.rows, taken_column c.args.dict.now c.args.series.now c.in_ok-rows.rows column made c.column.ensures.column refl c.in_ok-cells_at.ensures)
-
-pub returns-clause-count : goal.returns-clause-count
-returns-clause-count = grind (arith, length-map)
 
 pub returns-clause-given : goal.returns-clause-given
 returns-clause-given c =

@@ -1,6 +1,6 @@
 use Rattle.{
-  settings.proofs.{PutCases.{as_many, first_column, column_is_given, has_column, own_cells, series_column, taken_column}, AlignLaws.{own_column, refused_then, taken_given}},
-  std.proofs.{Common.{arith, ◌≡◌, ◌∙◌, length, true, ap, sym, subst, Ok, All}, lemmas.{List.{length-map}, Result.{err_from_is_err_and}}},
+  settings.proofs.{PutCases.{first_column, column_is_given, has_column, own_cells, series_column, taken_column}, AlignLaws.{own_column, taken_given}},
+  std.proofs.{Common.{arith, ◌≡◌, ◌∙◌, length, true, ap, sym, subst, Ok, All}, lemmas.List.{length-map}},
   column_core.specs.Moves.{IsPlaceOf},
   meaning.specs.Cell.{AreGiven},
   form_meaning.specs.Infix.{same_tuples},
@@ -17,26 +17,14 @@ returns-then-same_rows-clause-column c =
     own_column _ _ (table_value texts s) same (search (first_column, length-map, own_cells))
     ∙ ap Ok (series_column _ s _ _ c.column.ensures.column c.in_ok-to_column.ensures)
 
-pub returns-then-same_rows-clause-count : goal.returns-then-same_rows-clause-count
-returns-then-same_rows-clause-count = grind (arith, length-map, as_many)
-
 pub returns-then-same_rows-clause-given : goal.returns-then-same_rows-clause-given
 returns-then-same_rows-clause-given c =
     let s = c.args.series.now in
     column_is_given _ s 0 _ _ c.requires.series.given (has_column s c.requires.series.whole c.requires.single) c.column.ensures.column c.in_ok-to_column.ensures
 
-pub returns-in_err-rows-clause-column : goal.returns-in_err-rows-clause-column
-returns-in_err-rows-clause-column = grind (arith, err_from_is_err_and, refused_then)
-
-pub take-requires : goal.take-requires
-take-requires = grind arith
-
 pub returns-clause-column : goal.returns-clause-column
 returns-clause-column c =
     grind (arith, c.in_ok-rows.ensures.rows, taken_column c.args.dict.now c.args.series.now c.in_ok-rows.rows c.column-2.result c.in_ok-take.field-0 c.column-2.ensures.column c.in_ok-take.ensures.kind c.in_ok-take.ensures.cells)
-
-pub returns-clause-count : goal.returns-clause-count
-returns-clause-count = grind (arith, length-map)
 
 pub returns-clause-given : goal.returns-clause-given
 returns-clause-given c =

@@ -10,9 +10,6 @@ use Rattle.settings.proofs.assigning.assign.Goals as goal
 pub setting_for-requires-clause-known : goal.setting_for-requires-clause-known
 setting_for-requires-clause-known c = search object_settled
 
-pub carry_out-requires-clause-ends : goal.carry_out-requires-clause-ends
-carry_out-requires-clause-ends = grind arith
-
 pub returns-in_err-carry_out : goal.returns-in_err-carry_out
 returns-in_err-carry_out c =
     let texts = c.args.dict.now in

@@ -15,4 +15,4 @@ loop-k-preserved c = λ texts.
     kind_passed _ _ _ _ _ lt c.at.ensures c.in-None.ensures.first (c.loop-k.invariant texts)
 
 pub returns : goal.returns
-returns c = λ texts. no_kind texts _ c.loop-k.k _ (omega arith) (c.loop-k.invariant texts)
+returns c = λ texts. no_kind _ _ c.loop-k.k _ (omega arith) (c.loop-k.invariant texts)

@@ -18,4 +18,4 @@ loop-k-preserved c = λ texts.
     test_passed _ _ _ _ _ _ _ lt c.at.ensures (c.holds.ensures texts) is_so (c.loop-k.invariant texts)
 
 pub returns : goal.returns
-returns c = λ texts. tests_done _ texts _ c.loop-k.k _ (omega arith) (c.loop-k.invariant texts)
+returns c = λ texts. tests_done _ _ _ c.loop-k.k _ (omega arith) (c.loop-k.invariant texts)

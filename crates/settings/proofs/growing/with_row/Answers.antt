@@ -8,6 +8,3 @@ use Rattle.settings.proofs.growing.with_row.Goals as goal
 pub new-requires-clause-whole : goal.new-requires-clause-whole
 new-requires-clause-whole c =
     subst IsWhole (grind arith) (row_is_whole _ c.args.label c.requires.table.known.whole)
-
-pub returns : goal.returns
-returns = grind arith

@@ -34,7 +34,7 @@ pub returns-in_ok-column-in-Listed-clause-change : goal.returns-in_ok-column-in-
 returns-in_ok-column-in-Listed-clause-change c =
     let texts = c.args.dict.now in
     let t = c.args.on.now in
-    let l = label_datum texts c.args.label in
+    let l = label_datum texts _ in
     changes_so _ t _ _ _
     (sym (ap (λ v. column_set (table_value texts t) l (value_in (tables c.args.store.now) texts v)) c.in-Listed.is
     ∙ ap (λ r. then_value r (list_set (table_value texts t) l)) (c.in_ok-column-in-Listed.ensures.answer texts)))

@@ -18,11 +18,8 @@ returns-in_err-place-clause-change c =
     let p = err_from_is_err_and c.from_residual.result c.from_residual.ensures.1 in
     rw (p.1, p.2)
     (changes_so _ t (Err c.in_err-place.field-0.0) _ _
-    (rows_put _ t _ _ _ _ _ c.requires.known.whole (count ∙ default_rows n) ∙ sym (list_rows _ t (label_datum c.args.dict.now _) _ none some))
+    (rows_put _ t _ _ _ _ _ c.requires.known.whole (count ∙ default_rows n) ∙ sym (list_rows _ t _ _ none some))
     (grind (arith, part_refused, put_there)))
-
-pub rows_change-requires-clause-rows : goal.rows_change-requires-clause-rows
-rows_change-requires-clause-rows = grind (arith, range_count)
 
 pub returns-then-count-gt0-clause-change : goal.returns-then-count-gt0-clause-change
 returns-then-count-gt0-clause-change c =

@@ -4,7 +4,7 @@ use Rattle.{
   table_meaning.specs.Table.{table_value},
   select_meaning.specs.Set.{put_result, with_rows},
   frame_store.{specs.{Parts.{axis_of}, Shown.{labels_value, headings_value}}, proofs.Settling.{labels_part, level_names_part}},
-  settings.proofs.{PutCases.{column_is_given, has_column, rows_given, rows_meant, series_aligned, series_column, series_rows}, SetLaws.{changes_so}, putting.series_change.Goals.{else-rows-eq0-via-then-rows-eq0+else-rows-gt0}},
+  settings.proofs.PutCases.{column_is_given, has_column, rows_given, rows_meant, series_column, series_rows},
 }
 use Rattle.settings.proofs.putting.series_change.Goals as goal
 
@@ -26,6 +26,3 @@ returns-then-rows-gt0-clause-change c =
           (rw copied (level_names_part _ s c.requires.series.given)) c.requires.label
           (column_is_given _ s 0 _ _ c.requires.series.given (has_column s c.requires.series.whole c.requires.single) c.column.ensures.column c.in_ok-column.ensures) made,
     )
-
-pub returns-clause-change : goal.returns-clause-change
-returns-clause-change = grind (arith, else-rows-eq0-via-then-rows-eq0+else-rows-gt0, changes_so, series_aligned)

@@ -1,9 +1,9 @@
 use Rattle.{
-  std.proofs.{Common.{arith, ◌≡◌, rules}, lemmas.Result.{err_from_is_err_and}},
+  std.proofs.{Common.{◌≡◌, rules}, lemmas.Result.{err_from_is_err_and}},
   cell_core.specs.declared.grid.Shape.TheVariants.{Frame},
   select_meaning.specs.Set.{removal_result},
   frame_store.{specs.{Arguments.{entry_of}, Objects.{tables}}, proofs.Settling.{headings_part, object_settled}},
-  settings.proofs.SetLaws.{entry_label_settled, removal_set, removed_headed, set_left},
+  settings.proofs.SetLaws.{entry_label_settled, removal_set, set_left},
 }
 use Rattle.settings.proofs.removing.remove.Goals as goal
 
@@ -13,9 +13,6 @@ column_place-requires-clause-settled c =
 
 pub column_place-requires-clause-label : goal.column_place-requires-clause-label
 column_place-requires-clause-label c = search entry_label_settled
-
-pub remove_column-requires-clause-headings : goal.remove_column-requires-clause-headings
-remove_column-requires-clause-headings = grind (arith, removed_headed)
 
 pub returns-in_err-remove_column : goal.returns-in_err-remove_column
 returns-in_err-remove_column c =
@@ -27,4 +24,4 @@ pub returns : goal.returns
 returns c =
     let frame : c.read-source.result.shape ≡ Frame = search rules in
     removal_set _ _ _ _ _ _ _ _ _ _
-    c.in-Object-Scalar.is-0 c.in-Object-Scalar.is-1 c.read-source.ensures.table frame (c.label_of.ensures.seen c.args.dict.now) c.requires.settled c.in_ok-place.ensures.answer c.in_ok-remove_column.ensures.ok
+    c.in-Object-Scalar.is-0 c.in-Object-Scalar.is-1 c.read-source.ensures.table frame (c.label_of.ensures.seen _) c.requires.settled c.in_ok-place.ensures.answer c.in_ok-remove_column.ensures.ok

@@ -27,4 +27,4 @@ returns-clause-fresh c = λ live settled.
 
 pub returns-clause-given : goal.returns-clause-given
 returns-clause-given c = λ live settled.
-    c.picked_or_added.ensures.given c.args.dict.now (label_settled _ _ _ _ _ c.label_to_add.ensures settled)
+    c.picked_or_added.ensures.given _ (label_settled _ _ _ _ _ c.label_to_add.ensures settled)

@@ -12,6 +12,3 @@ returns-in-None-clause-reached c = λ texts tuples pick many makes tells.
 pub returns-in_ok-added-in-Some-clause-given : goal.returns-in_ok-added-in-Some-clause-given
 returns-in_ok-added-in-Some-clause-given c = λ texts settled.
     added_settled _ _ _ _ _ c.in-Some.is c.in_ok-added-in-Some.ensures settled
-
-pub returns-in_ok-added-in-Some-clause-own : goal.returns-in_ok-added-in-Some-clause-own
-returns-in_ok-added-in-Some-clause-own = grind arith

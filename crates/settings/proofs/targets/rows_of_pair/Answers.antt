@@ -2,7 +2,6 @@ use Rattle.{
   std.proofs.Common.{arith},
   frame_store.specs.Objects.{tables},
   selections.proofs.ReachLaws.{joined_settled},
-  settings.proofs.TargetLaws.{pair_reached},
 }
 use Rattle.settings.proofs.targets.rows_of_pair.Goals as goal
 
@@ -13,6 +12,3 @@ rows_reached-requires-clause-key c =
       live = c.in_ok-key.ensures.live live;
       given = grind (arith, joined_settled);
     }
-
-pub returns-clause-rows : goal.returns-clause-rows
-returns-clause-rows = grind (arith, pair_reached)

@@ -13,7 +13,3 @@ pub returns-in_ok-columns-in-Some-clause-given : goal.returns-in_ok-columns-in-S
 returns-in_ok-columns-in-Some-clause-given c =
     let known : IsKnownSubscript (world c.args.store.now c.args.dict.now) c.in-Some.key.now = search rules in
     target_settled _ _ _ c.in_ok-rows-in-Some.ensures.given (c.in_ok-columns-in-Some.ensures.given (tables c.args.store.now) known.given)
-
-pub returns-in_ok-all_columns-in-Some-2-clause-given : goal.returns-in_ok-all_columns-in-Some-2-clause-given
-returns-in_ok-all_columns-in-Some-2-clause-given c =
-    target_settled _ _ _ c.in_ok-rows-in-Some-2.ensures.given (search picked_settled)

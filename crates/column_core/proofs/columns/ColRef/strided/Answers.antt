@@ -1,8 +1,7 @@
 use Rattle.{
+  column_core.{proofs.{CellRows.{range-same}, MoveLaws.{get_or-tabulate}, ColumnLaws.{length-column}}, specs.Views.{borrowed_column}},
   std.proofs.Common.{arith, ap, sym, ◌∙◌},
   cell_core.specs.Grids.{AreRowsBelow},
-  meaning.specs.Block.{strided},
-  column_core.{specs.{Lanes.{lane_row}, Columns.{number_cell, truth_cell, text_cell}, Views.{borrowed_column}}, proofs.{ColumnLaws.{length-column}, StrideLaws.{strided_seen}}},
 }
 use Rattle.column_core.proofs.columns.ColRef.strided.Goals as goal
 
@@ -13,7 +12,7 @@ pub returns-in-Ints-clause-cells : goal.returns-in-Ints-clause-cells
 returns-in-Ints-clause-cells c =
     let a = c.in-Ints.lane in
     let below : AreRowsBelow c.args.rows a.count = rw (length-column _ _ _ _ (ap borrowed_column (sym c.in-Ints.is) ∙ c.self.view_is)) c.requires in
-    grind (arith, strided_seen number_cell a.count (lane_row a.values.now a.present.now a.start a.stride a.back) c.args.rows _ _ below c.strided.ensures.count c.strided.ensures.rows, c.in-Ints.is, c.self.view_is)
+    grind (arith, range-same, get_or-tabulate, c.in-Ints.is, c.self.view_is)
 
 pub strided-requires-in-Truths : goal.strided-requires-in-Truths
 strided-requires-in-Truths c = rw (length-column _ _ _ _ (ap borrowed_column (sym c.in-Truths.is) ∙ c.self.view_is)) c.requires
@@ -22,7 +21,7 @@ pub returns-in-Truths-clause-cells : goal.returns-in-Truths-clause-cells
 returns-in-Truths-clause-cells c =
     let a = c.in-Truths.lane in
     let below : AreRowsBelow c.args.rows a.count = rw (length-column _ _ _ _ (ap borrowed_column (sym c.in-Truths.is) ∙ c.self.view_is)) c.requires in
-    grind (arith, strided_seen truth_cell a.count (lane_row a.values.now a.present.now a.start a.stride a.back) c.args.rows _ _ below c.strided-in-Truths.ensures.count c.strided-in-Truths.ensures.rows, c.in-Truths.is, c.self.view_is)
+    grind (arith, range-same, get_or-tabulate, c.in-Truths.is, c.self.view_is)
 
 pub strided-requires-in-Texts : goal.strided-requires-in-Texts
 strided-requires-in-Texts c = rw (length-column _ _ _ _ (ap borrowed_column (sym c.in-Texts.is) ∙ c.self.view_is)) c.requires
@@ -31,4 +30,4 @@ pub returns-in-Texts-clause-cells : goal.returns-in-Texts-clause-cells
 returns-in-Texts-clause-cells c =
     let a = c.in-Texts.lane in
     let below : AreRowsBelow c.args.rows a.count = rw (length-column _ _ _ _ (ap borrowed_column (sym c.in-Texts.is) ∙ c.self.view_is)) c.requires in
-    grind (arith, strided_seen text_cell a.count (lane_row a.values.now a.present.now a.start a.stride a.back) c.args.rows _ _ below c.strided-in-Texts.ensures.count c.strided-in-Texts.ensures.rows, c.in-Texts.is, c.self.view_is)
+    grind (arith, range-same, get_or-tabulate, c.in-Texts.is, c.self.view_is)

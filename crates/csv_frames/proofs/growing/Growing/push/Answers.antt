@@ -1,22 +1,17 @@
 use Rattle.{
   std.proofs.Common.{arith, ◌≡◌, false, rules},
   csv_meaning.specs.CsvRead.{is_missing},
-  csv_frames.proofs.GrowingLaws.{missing_grown, mixed_grown, kept_grown},
+  csv_frames.proofs.GrowingLaws.{missing_grown, kept_grown},
 }
 use Rattle.csv_frames.proofs.growing.Growing.push.Goals as goal
 
 pub returns-in_ok-first_value-in-Missing-clause-grown : goal.returns-in_ok-first_value-in-Missing-clause-grown
 returns-in_ok-first_value-in-Missing-clause-grown c = λ fields count grown.
     let value : is_missing c.args.field.now ≡ false = search rules in
-    missing_grown c.args.dict.now c.first_value.new.dict fields c.args.field.now c.args.named c.args.self.now c.args.rows c.in_ok-first_value-in-Missing.field-0 c.in-Missing.is value c.in_ok-first_value-in-Missing.ensures.first count grown
-
-pub returns-then-is_none-clause-grown : goal.returns-then-is_none-clause-grown
-returns-then-is_none-clause-grown c = λ fields count grown.
-    mixed_grown c.args.dict.now c.push_field.new.dict fields c.args.field.now c.args.named c.args.self.now c.in-Cells.column c.in_ok-fits-in-Cells.fits c.in-Cells.is c.in_ok-fits-in-Cells.ensures.fits grown
-    (search) (search rules)
+    missing_grown _ _ _ _ c.args.named _ _ _ c.in-Missing.is value c.in_ok-first_value-in-Missing.ensures.first count grown
 
 pub returns-else-not-fits-clause-grown : goal.returns-else-not-fits-clause-grown
 returns-else-not-fits-clause-grown c = λ fields count grown.
-    kept_grown c.args.dict.now c.push_field.new.dict fields c.args.field.now c.args.named c.args.self.now c.in-Cells.column c.in_ok-fits-in-Cells.fits c.in-Cells.is c.in_ok-fits-in-Cells.ensures.fits grown c.push_field.new.column
+    kept_grown _ _ _ _ _ _ _ _ c.in-Cells.is c.in_ok-fits-in-Cells.ensures.fits grown c.push_field.new.column
     (grind arith)
     c.in_ok-fits-in-Cells.ensures.grown

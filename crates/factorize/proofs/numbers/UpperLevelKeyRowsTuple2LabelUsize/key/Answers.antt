@@ -1,6 +1,6 @@
 use Rattle.{
-  std.proofs.{Common.{arith, [], slice_index_or}, lemmas.Option.{slice_get-get_or}},
-  row_keys.{specs.Keys.{label_in}, proofs.ZipLaws.{zip_right, row_of_zip, zip_get_map}},
+  std.proofs.{Common.{arith}, lemmas.Option.{slice_get-get_or}},
+  row_keys.proofs.ZipLaws.{zip_right, row_of_zip, zip_get_map},
 }
 use Rattle.factorize.proofs.numbers.UpperLevelKeyRowsTuple2LabelUsize.key.Goals as goal
 
@@ -11,7 +11,4 @@ pub bounds-self-row : goal.bounds-self-row
 bounds-self-row g c = search zip_right
 
 pub returns : goal.returns
-returns g c =
-    let keys = g.R.KeyLevels.keys c.args.self.now.rows.now in
-    zip_get_map (label_in c.args.self.now.level) keys c.args.self.now.codes.now c.args.row (slice_index_or keys c.args.row []) c.label.result c.requires
-    (search (slice_get-get_or, row_of_zip)) c.label.ensures
+returns g c = search (zip_get_map, slice_get-get_or, row_of_zip)

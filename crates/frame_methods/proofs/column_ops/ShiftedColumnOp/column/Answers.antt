@@ -9,14 +9,14 @@ use Rattle.frame_methods.proofs.column_ops.ShiftedColumnOp.column.Goals as goal
 pub returns-clause-given : goal.returns-clause-given
 returns-clause-given c =
     let fits : to_z w64 (of_z w64 c.args.self.now.periods) ≡ c.args.self.now.periods = search rules in
-    shifted_given c.args.self.now.periods c.args.dict.now c.args.a c.in_ok-shift.field-0 c.requires.cells (c.in_ok-shift.ensures.cells ∙ ap (shifted Na c.args.a.cells) fits)
+    shifted_given _ _ c.args.a c.in_ok-shift.field-0 c.requires.cells (c.in_ok-shift.ensures.cells ∙ ap (shifted Na c.args.a.cells) fits)
 
 pub returns-clause-rows : goal.returns-clause-rows
 returns-clause-rows c =
     let fits : to_z w64 (of_z w64 c.args.self.now.periods) ≡ c.args.self.now.periods = search rules in
-    shifted_rows c.args.self.now.periods c.args.a c.in_ok-shift.field-0 (c.in_ok-shift.ensures.cells ∙ ap (shifted Na c.args.a.cells) fits)
+    shifted_rows _ c.args.a c.in_ok-shift.field-0 (c.in_ok-shift.ensures.cells ∙ ap (shifted Na c.args.a.cells) fits)
 
 pub returns-clause-answer : goal.returns-clause-answer
 returns-clause-answer c =
     let fits : to_z w64 (of_z w64 c.args.self.now.periods) ≡ c.args.self.now.periods = search rules in
-    shifted_answer c.args.self.now.periods c.args.dict.now c.args.a c.in_ok-shift.field-0 c.in_ok-shift.ensures.kind (c.in_ok-shift.ensures.cells ∙ ap (shifted Na c.args.a.cells) fits)
+    shifted_answer _ _ _ _ c.in_ok-shift.ensures.kind (c.in_ok-shift.ensures.cells ∙ ap (shifted Na c.args.a.cells) fits)

@@ -13,9 +13,9 @@ returns-clause-value g c = λ cells was.
     let totals = g.met.N.Amount.totals in
     c.added.ensures.value dict (total_of amount cells) (was ∙ totals cells)
     ∙ ap (λ o. int_cell (plus (total_of amount cells) o)) (c.amount.ensures dict)
-    ∙ total_more amount cells (datum dict c.args.cell)
-    ∙ sym (totals (cells ++ datum dict c.args.cell ∷ []))
+    ∙ total_more _ cells _
+    ∙ sym (totals (cells ++ datum dict _ ∷ []))
 
 pub returns-clause-held : goal.returns-clause-held
 returns-clause-held g c = λ kind far here.
-    subst (λ (k : CellKind). IsCellOf c.args._dict.now k c.added.result) (sym (g.met.N.Amount.numbers kind)) (c.added.ensures.held c.args._dict.now (grind arith))
+    subst (λ (k : CellKind). IsCellOf c.args._dict.now k c.added.result) (sym (g.met.N.Amount.numbers kind)) (c.added.ensures.held _ (grind arith))

@@ -16,4 +16,4 @@ pub returns-in_default : goal.returns-in_default
 returns-in_default = grind (arith, more_found)
 
 pub returns-in_default-2 : goal.returns-in_default-2
-returns-in_default-2 c = none_found c.self.inside.labels.now c.args.self.now c.args.label c.self.view_is (grind arith)
+returns-in_default-2 = grind (arith, none_found)

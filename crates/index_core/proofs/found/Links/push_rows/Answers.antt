@@ -10,7 +10,7 @@ loop-rest-init c =
     let is = c.copied-first.ensures ∙ c.get.ensures.value ∙ c.self.invariant.first c.args.label ∙ ap (position_from (same_number c.args.label) 0) c.self.view_is in
     record {
       walked = search rows_from_first;
-      has = label_there c.args.self.now c.args.label 0 c.copied-first.result is;
+      has = label_there _ _ 0 _ is;
     }
 
 pub loop-rest-smaller : goal.loop-rest-smaller
@@ -18,7 +18,7 @@ loop-rest-smaller c =
     let labels = c.args.self.now in
     let links = subst (λ l. HaveNextRows c.self.inside.next.items l 0) c.self.view_is c.self.invariant.next in
     let has : HasLabel labels c.args.label (Some c.in-Some.row) = grind arith in
-    let next = read_next labels c.args.label c.self.inside.next.items c.in-Some.row c.index-rest.result.now links has c.index-rest.ensures in
+    let next = read_next _ _ _ _ _ links has c.index-rest.ensures in
     grind (arith, rows_left, fewer_left)
 
 pub loop-rest-preserved : goal.loop-rest-preserved
@@ -26,14 +26,14 @@ loop-rest-preserved c =
     let labels = c.args.self.now in
     let links = subst (λ l. HaveNextRows c.self.inside.next.items l 0) c.self.view_is c.self.invariant.next in
     let has : HasLabel labels c.args.label (Some c.in-Some.row) = grind arith in
-    let next = read_next labels c.args.label c.self.inside.next.items c.in-Some.row c.index-rest.result.now links has c.index-rest.ensures in
+    let next = read_next _ _ _ _ _ links has c.index-rest.ensures in
     record {
-      walked = pushed_row labels c.args.label c.in-Some.row c.index-rest.result.now c.loop-rest.rows c.push.new.self _ next c.in_ok-push.ensures.ok
+      walked = pushed_row _ _ _ _ _ _ _ next c.in_ok-push.ensures.ok
           (grind (arith, rest_from));
       has = search label_there;
     }
 
 pub returns-clause-some : goal.returns-clause-some
 returns-clause-some c =
-    let is = c.copied-first.ensures ∙ c.get.ensures.value ∙ c.self.invariant.first c.args.label ∙ ap (position_from (same_number c.args.label) 0) c.self.view_is in
-    c.is_some.ensures ∙ are_some_from (same_number c.args.label) c.args.self.now c.copied-first.result ∙ ap are_some (search rows_from_first)
+    let is = c.copied-first.ensures ∙ c.get.ensures.value ∙ c.self.invariant.first _ ∙ ap (position_from (same_number c.args.label) 0) c.self.view_is in
+    c.is_some.ensures ∙ are_some_from (same_number c.args.label) c.args.self.now _ ∙ ap are_some (search rows_from_first)

@@ -10,9 +10,6 @@ invariant_of-result c =
       room = search;
       some = omega arith;
       few = omega (arith, c.levels-levels.ensures.few);
-      alike = rw c.in_ok-tuples.ensures (levels_with c.args.outer c.levels-levels.result c.args.labels.now c.args.self.now.tuples c.levels-levels.ensures.alike);
+      alike = rw c.in_ok-tuples.ensures (search levels_with);
       kept = omega (arith, c.levels-levels.ensures.some);
     }
-
-pub returns : goal.returns
-returns = grind arith

@@ -1,6 +1,6 @@
 use Rattle.{
-  std.proofs.Common.{◌≡◌, arith},
-  multi_index.{specs.Views.{kept_tuples}, proofs.{NameLaws.{axis_is_nameless}, axis.Axis.from_tuples.Goals.{then-levels-eq1+in_ok-single_level}}},
+  std.proofs.{lemmas.List.{take-replicate}, Common.{◌≡◌, arith}},
+  multi_index.{specs.Views.{kept_tuples}, proofs.axis.Axis.from_tuples.Goals.{then-levels-eq1+in_ok-single_level}},
 }
 use Rattle.multi_index.proofs.axis.Axis.from_tuples.Goals as goal
 
@@ -8,7 +8,7 @@ same_tuples : (c : goal.Joined-levels-eq1) → kept_tuples c.if-levels-eq1.rows 
 same_tuples = grind (arith, then-levels-eq1+in_ok-single_level)
 
 pub returns : goal.returns
-returns c = search (axis_is_nameless, same_tuples)
+returns c = search (take-replicate, same_tuples)
 
 pub invariant_of-result : goal.invariant_of-result
 invariant_of-result = grind (arith, same_tuples, then-levels-eq1+in_ok-single_level)

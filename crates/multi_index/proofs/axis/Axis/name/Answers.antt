@@ -1,8 +1,8 @@
 use Rattle.{
-  std.proofs.Common.{ap},
-  multi_index.proofs.NameLaws.{name_of_level},
+  multi_index.proofs.NameLaws.{count_of_names},
+  std.proofs.{lemmas.{Option.{slice_get-get_or}, List.{get_or-take}}, Common.{arith}},
 }
 use Rattle.multi_index.proofs.axis.Axis.name.Goals as goal
 
 pub returns : goal.returns
-returns c = name_of_level _ _ _ _ (ap (λ a. a.names) c.self.view_is) c.self.invariant.room c.self.invariant.few c.requires
+returns = grind (arith, count_of_names, slice_get-get_or, get_or-take)

@@ -6,7 +6,7 @@ use Rattle.multi_index.proofs.axis.Axis.same_labels.Goals as goal
 
 pub returns-in-Single-Single : goal.returns-in-Single-Single
 returns-in-Single-Single c =
-    singles_same c.in-Single-Single.a c.in-Single-Single.b _ _ _
+    singles_same _ _ _ _ _
     (grind arith)
     (search)
     c.same_labels.ensures

@@ -13,7 +13,7 @@ taken_tuples c = elim c.match-self.branch [
       let same : single_tuples w.in-Single.index ≡ c.args.self.now.tuples = grind (arith, seen) in
       ap kept_tuples w.rows-is
       ∙ ap single_tuples w.in_ok-take-in-Single.ensures
-      ∙ single_taken w.in-Single.index c.args.places.now (search places_of_single)
+      ∙ single_taken _ _ (search places_of_single)
       ∙ ap (λ ts. tuples_at ts c.args.places.now) same
   | in-Listed+in_ok-taken-in-Listed w ↦ grind (arith, seen)
 ]
@@ -23,11 +23,10 @@ returns = grind (arith, taken_tuples)
 
 pub invariant_of-result : goal.invariant_of-result
 invariant_of-result c =
-    let levels = c.self.inside.levels in
     record {
       room = search;
       some = search;
       few = search;
-      alike = rw (taken_tuples c) (levels_of_taken c.args.self.now.tuples c.args.places.now levels (subst (HaveLevels levels) (seen c) c.self.invariant.alike) c.requires);
+      alike = rw (taken_tuples c) (levels_of_taken _ _ _ (subst (HaveLevels c.self.inside.levels) (seen c) c.self.invariant.alike) c.requires);
       kept = grind (arith, in-Single+in_ok-take-in-Single);
     }

@@ -1,7 +1,7 @@
 use Rattle.{
-  std.proofs.Common.{arith, sym},
-  script_work.{specs.Work.{names_in, tables_in, world_of, state_in}, proofs.{States.{state_swept}, Naming.{live_are_named, named_live}}},
   script_tree.specs.View.{form_of},
+  std.proofs.Common.{arith, sym},
+  script_work.{specs.Work.{tables_in, world_of, state_in}, proofs.{States.{state_swept}, Naming.{live_are_named, named_live}}},
   script_session.proofs.{Answering.{performs_after, refused_kept, live_refused}, Settings.{apart_after}},
 }
 use Rattle.script_session.proofs.session.Session.perform.Goals as goal
@@ -22,10 +22,8 @@ returns-clause-same = grind (arith, refused_kept, state_swept)
 pub returns-clause-objects : goal.returns-clause-objects
 returns-clause-objects g c =
     let s = c.args.self.now.work in
-    let p = c.perform-result.new.work in
-    let w = c.sweep.new.self in
     let e = c.sweep.ensures in
-    live_refused c.perform-result.result (names_in s) (names_in p) (names_in w) (world_of s) (world_of p) (world_of w) c.perform-result.ensures.names c.perform-result.ensures.kept e.names e.texts e.kept e.named c.args.self.now.swept (named_live s.names.values.entries s.names.unique (tables_in s) s.live)
+    live_refused c.perform-result.result _ _ _ _ _ _ c.perform-result.ensures.names c.perform-result.ensures.kept e.names e.texts e.kept e.named c.args.self.now.swept (named_live s.names.values.entries s.names.unique (tables_in s) s.live)
 
 pub returns-clause-live : goal.returns-clause-live
 returns-clause-live g c =

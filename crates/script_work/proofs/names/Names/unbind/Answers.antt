@@ -1,11 +1,8 @@
 use Rattle.{
   std.proofs.Common.{sym, ◌∙◌, ap},
-  script_work.{specs.{Bindings.{uses_of}, Uses.{count_at}}, proofs.UseLaws.{takes_unbound, counted_unbound}},
+  script_work.{specs.{Bindings.{uses_of}, Uses.{count_at}}, proofs.UseLaws.{counted_unbound}},
 }
 use Rattle.script_work.proofs.names.Names.unbind.Goals as goal
-
-pub take-requires : goal.take-requires
-take-requires c = search takes_unbound
 
 pub invariant_of-self-clause-counted : goal.invariant_of-self-clause-counted
 invariant_of-self-clause-counted c = λ id.

@@ -1,14 +1,11 @@
 use Rattle.{
-  std.{proofs.Common.{arith, sym, subst}, specs.Prelude.{IfSome}},
+  std.{proofs.Common.{sym, subst}, specs.Prelude.{IfSome}},
   table_laws.{specs.Validity.{IsHeldCell, IsValidGiven}, proofs.SetLaws.{assign_result_keeps}},
   frame_store.specs.{Objects.{tables}, World.{World}},
   settings.specs.Assigned.{moved_object, without},
   script_work.{specs.Work.{names_in, world_of}, proofs.{Worlds.{live_set, noted_set, given_after}, Binding.{swept_live}, Validity.{object_valid, argument_valid, set_valid}, Spending.{unnamed_spare, spent_valid, spent_keeps, spent_noted, spent_on}}},
 }
 use Rattle.script_work.proofs.work.Work.assign.Goals as goal
-
-pub assign-requires-clause-value : goal.assign-requires-clause-value
-assign-requires-clause-value = grind arith
 
 pub invariant_of-self : goal.invariant_of-self
 invariant_of-self c =
@@ -20,15 +17,12 @@ invariant_of-self c =
     let sets = c.assign.ensures in
     let held = subst (λ o. IfSome o IsHeldCell) (c.scalar-scalar.ensures (tables s.store) s.dict) (c.is_held.ensures.held s.dict) in
     let valid = subst IsValidGiven (sym (n.meant s.dict)) (argument_valid _ c.args.value.now s.valid c.requires.value.live held) in
+    let there = spent_on _ _ spare c.assign.result n.other c.requires.on.live in
     let named = spent_keeps (names_in s) _ _ _ (unnamed_spare (names_in s) _ _ n.spare) in
     record {
       settled = sets.2;
       valid = set_valid _ _ _ _ _ sets (search (assign_result_keeps, object_valid)) (spent_valid _ _ _ _ s.valid);
-      live = live_set old new (names_in s) _ _ _ sets (swept_live _ _ _ named s.live);
+      live = live_set old new _ _ _ there sets (names_in s) (swept_live _ _ _ named s.live);
       given = search given_after;
-      noted = noted_set old new (names_in s) _ _ _ _ (search spent_on) sets
-          (search spent_noted);
+      noted = noted_set old new _ _ _ there sets (names_in s) _ (search spent_noted);
     }
-
-pub returns-clause-sets : goal.returns-clause-sets
-returns-clause-sets = grind arith

@@ -1,11 +1,9 @@
 use Rattle.{
   std.{proofs.Common.{ap, sym, ◌∙◌}, specs.Prelude.{Err}},
   frame_store.specs.Arguments.{arguments_of},
-  form_meaning.specs.declared.Function.TheVariants.{ReadCsv},
   method_meaning.specs.Readers.{read_result},
   script_meaning.specs.Reading.{at_once, then_read, of_file},
-  script_work.{specs.{declared.fault.EvalFault.TheVariants.{Refused}, Reads.{files_in}, Work.{world_of}}, proofs.{Fetching.{refuses_long}, Rides.{goes_same, bytes_by, halts_first, then_gives, serves_self, fault_uncaused}}},
-  fault_laws.proofs.FormFaults.{file_name_of_fault},
+  script_work.{specs.{Reads.{files_in}, Work.{world_of}}, proofs.{Fetching.{refuses_long}, Rides.{bytes_by, then_gives}}},
 }
 use Rattle.script_work.proofs.work.Work.file_of.Goals as goal
 
@@ -21,14 +19,3 @@ returns-in-Ok-clause-reads g c =
     ∙ then_gives Err _ (λ name. of_file fs name (λ bytes. read_result bytes given))
     ∙ ap (λ n. of_file fs n (λ bytes. read_result bytes given)) (sym c.text.ensures))
     (c.file_named.ensures.reads w.texts held (λ bytes. read_result bytes given) (refuses_long given _ is))
-
-pub returns-in-Err-clause-reads : goal.returns-in-Err-clause-reads
-returns-in-Err-clause-reads g c =
-    let w = world_of c.args.self.now in
-    let given = arguments_of w.tables w.texts c.args.args.now.items.items in
-    let here = g.F.Files.seen c.args.files.now in
-    λ held.
-    halts_first _ _ _ _ _ Err (λ name. of_file (files_in c.args.names.now held) name (λ bytes. read_result bytes given)) (Refused c.in-Err.code) (goes_same (ap (λ r. at_once r) c.in-Err.ensures.0), fault_uncaused _ _ here here _ _ (file_name_of_fault ReadCsv given) c.in-Err.ensures.0, c.in-Err.ensures.1)
-
-pub returns-in-Err-clause-serves : goal.returns-in-Err-clause-serves
-returns-in-Err-clause-serves g c = serves_self _

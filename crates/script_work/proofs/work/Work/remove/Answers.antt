@@ -13,7 +13,7 @@ invariant_of-self c =
     record {
       settled = sets.2;
       valid = search (set_valid, removal_result_keeps, object_valid);
-      live = live_set _ new (names_in s) _ _ _ sets s.live;
+      live = live_set _ new _ _ _ c.requires.on.live sets (names_in s) s.live;
       given = s.given;
-      noted = search noted_set;
+      noted = noted_set _ new _ _ _ c.requires.on.live sets (names_in s) _ s.noted;
     }

@@ -1,32 +1,11 @@
 use Rattle.{
-  frame_store.specs.{Objects.{tables}, World.{World}},
-  script_work.{specs.Work.{names_in}, proofs.{Worlds.{form_keeps, live_after, given_after, noted_made, noted_refused}, Validity.{object_valid, form_valid}}},
+  script_work.proofs.Validity.{object_valid, stands_made, stands_refused},
   table_laws.proofs.InfixLaws.{sign_result_keeps},
 }
 use Rattle.script_work.proofs.work.Work.sign.Goals as goal
 
 pub invariant_of-self-in-Break-branch-2 : goal.invariant_of-self-in-Break-branch-2
-invariant_of-self-in-Break-branch-2 c =
-    let s = c.args.self.now in
-    let new : World = record { tables = tables c.invert_or_negate.new.store; texts = c.invert_or_negate.new.dict } in
-    let answers = c.invert_or_negate.ensures in
-    record {
-      settled = answers.2;
-      valid = form_valid _ _ _ _ answers (search (sign_result_keeps, object_valid)) s.valid;
-      live = live_after _ _ _ (form_keeps _ _ _ _ answers) s.live;
-      given = search given_after;
-      noted = noted_refused (names_in s) _ _ _ _ _ _ new c.in_err-made.was answers c.reserve.ensures.items s.noted;
-    }
+invariant_of-self-in-Break-branch-2 c = stands_refused c.args.self.now _ _ _ c.invert_or_negate.ensures (search (sign_result_keeps, object_valid)) c.in_err-made.was c.reserve.ensures.items
 
 pub invariant_of-self-2 : goal.invariant_of-self-2
-invariant_of-self-2 c =
-    let s = c.args.self.now in
-    let new : World = record { tables = tables c.invert_or_negate.new.store; texts = c.invert_or_negate.new.dict } in
-    let answers = c.invert_or_negate.ensures in
-    record {
-      settled = answers.2;
-      valid = form_valid _ _ _ _ answers (search (sign_result_keeps, object_valid)) s.valid;
-      live = live_after _ _ _ (form_keeps _ _ _ _ answers) s.live;
-      given = search given_after;
-      noted = noted_made (names_in s) _ _ _ _ _ _ _ new c.in_ok-made.was answers c.reserve.ensures.items c.note.ensures s.noted;
-    }
+invariant_of-self-2 c = stands_made c.args.self.now _ _ _ c.invert_or_negate.ensures (search (sign_result_keeps, object_valid)) c.in_ok-made.was c.reserve.ensures.items c.note.ensures

@@ -1,0 +1,25 @@
+-- Laws that the goals of functions want, by the name of the first that does.
+use Rattle.{
+  frame_ops.proofs.{Meanings.{columns_seen}, HeadingLaws.{other_rows, label_settled}, JoinedTable.{sides_beyond, meant_of}, NamingLaws.{counted_by, fits_by}, AcrossLaws.{one_unfit, one_more_fits}, SpreadLaws.{one_more_spread, spread_refused, spread_beyond, spread_made}, InfixLaws.{joined_tests, makes_as}, WideLaws.{known_wide, widened_seen}},
+  frame_store.proofs.Settling.{labels_part},
+  std.proofs.lemmas.{List.{length-map}, Bool.Decides.{nat_tests}},
+  form_parts.proofs.GapLaws.{single_on},
+}
+
+pub ruleset infix_columns = columns_seen
+
+pub ruleset are_headings = (other_rows, label_settled, labels_part)
+
+pub ruleset joined_columns = (sides_beyond, meant_of)
+
+pub ruleset joined_infix = (counted_by, length-map, fits_by)
+
+pub ruleset labels_fit = (length-map, one_unfit, one_more_fits)
+
+pub ruleset spread_columns = (one_more_spread, single_on)
+
+pub ruleset spread_frame = (spread_refused, spread_beyond, spread_made)
+
+pub ruleset expect_joined = (joined_tests, nat_tests)
+
+pub ruleset wide_infix = (known_wide, makes_as, widened_seen)

@@ -1,0 +1,28 @@
+-- Laws that the goals of functions want, by the name of the first that does.
+use Rattle.{
+  merge_concat.proofs.{AxisLaws.{one_level, level_more, no_level, lists_of_axes, keys_counted, keyed, tuples_there}, UnitedLaws.{different_at, told_at, none_more}, JoinLaws.{few_left, few_right, refused_left, refused_right}, CountLaws.{too_many, length-outer, few_enough, length-from}, CodeLaws.{bucket_there}},
+  std.proofs.{lemmas.{List.{length-map, take_all, FromFn.{get_or-map-range_with_len}}, Simd.{map-map}}, Common.{nat_eq}},
+  row_keys.proofs.RecodeLaws.{firsts_inside},
+  label_align.proofs.SameLaws.{tuple_decides, tuple_laws},
+  column_core.proofs.CellRows.{range-same},
+}
+
+pub ruleset all_levels = (one_level, level_more, no_level)
+
+pub ruleset axis_below = (lists_of_axes, keys_counted, length-map, keyed)
+
+pub ruleset different = (firsts_inside, tuple_decides, tuple_laws, different_at)
+
+pub ruleset first_repeat = (length-map, told_at, tuples_there, none_more)
+
+pub ruleset with_lane = (range-same)
+
+pub ruleset join_rows = (few_left, few_right, refused_left, refused_right)
+
+pub ruleset joined_by_key = (too_many, length-outer, few_enough)
+
+pub ruleset joined_by_row = (nat_eq, too_many, length-from)
+
+pub ruleset push_left = (take_all, map-map)
+
+pub ruleset rows_of = (bucket_there, get_or-map-range_with_len)

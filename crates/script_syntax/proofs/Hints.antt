@@ -1,0 +1,7 @@
+-- Laws that the goals of functions want, by the name of the first that does.
+use Rattle.{
+  std.proofs.lemmas.{Bool.Decides.{nat_tests}, Result.{err_from_is_err_and}},
+  script_syntax.proofs.ScriptLaws.{reads_first, unsettled, settled, reads_all, no_bytes},
+}
+
+pub ruleset parse_pieces = (nat_tests, reads_first, err_from_is_err_and, unsettled, settled, reads_all, no_bytes)

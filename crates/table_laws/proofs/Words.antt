@@ -1,0 +1,44 @@
+-- Words of the laws.
+use Rattle.{
+  std.{proofs.Common.{◌≡◌, ◌≢◌, ℕ, ◌<◌, List, length}, specs.Prelude.{Option, Result, IfOk, All, AllPairs}},
+  cell_core.specs.declared.grid.Shape.TheVariants.{Series, Frame},
+  meaning.specs.{Cell.{CellValue, LabelValue}, Fault.{FaultValue}},
+  table_meaning.specs.{Table.{ColumnOf, Table}, Value.{Entry}},
+  table_laws.specs.Validity.{IsValidEntry},
+}
+
+abbrev pub Cells : Type 0
+Cells = List CellValue
+
+abbrev pub Column : Type 0
+Column = ColumnOf CellValue
+
+-- the name of a column or of a level, or none
+abbrev pub Name : Type 0
+Name = Option LabelValue
+
+-- the label of a row, on each level
+abbrev pub Tuple : Type 0
+Tuple = List LabelValue
+
+-- an answer that is a value is valid
+abbrev pub Keeps : Result Entry FaultValue → Type 0
+Keeps r = IfOk r IsValidEntry
+
+-- places before an end
+abbrev pub Below : ℕ → List ℕ → Type 0
+Below count places = All (λ place. place < count) places
+
+-- labels on so many levels
+abbrev pub Levelled : ℕ → List Tuple → Type 0
+Levelled count tuples = All (λ tuple. length tuple ≡ count) tuples
+
+-- items that differ
+abbrev pub Apart : {A : Type 0} → List A → Type 0
+Apart xs = AllPairs (λ a b. a ≢ b) xs
+
+abbrev pub IsFrame : Table → Type 0
+IsFrame t = t.shape ≡ Frame
+
+abbrev pub IsSeries : Table → Type 0
+IsSeries t = t.shape ≡ Series
