@@ -1,2 +1,3 @@
 pub mod OneResult
 pub mod FileLaws
+pub mod Hints

@@ -4,7 +4,7 @@ use Rattle.{
   meaning.specs.Text.{Text, Contents},
   language_meaning.specs.Script.{most_bytes},
   script_syntax.{specs.OneReading.{HasOneReading}, proofs.OneReading.{one_reading}},
-  script_meaning.specs.{Reading.{Files}, State.{no_names}, Run.{RunResult, RunWords, IsScriptResult, IsFileResult, IsWordsResult, run_in, statements_result, after_step, fetched, with_line, syntax_line, too_large_line, syntax}},
+  script_meaning.specs.{Reading.{Files}, State.{no_names}, Run.{RunResult, RunWords, IsScriptResult, IsFileResult, IsWordsResult, statements_result, after_step, fetched, with_line, syntax_line, too_large_line, syntax}},
   script_run.specs.OneResult.{IsOne, HasOneResult},
 }
 
@@ -38,11 +38,11 @@ long_one files bytes long = (with_line too_large_line syntax, inl (long, refl), 
     others _ (inr (inr wrong)) = grind arith
 
 pub script_one : (files : Files) (bytes : List ℕ) → IsOne (IsScriptResult files bytes)
-script_one files bytes = elim (few_or_more most_bytes (length bytes)) [ inl long ↦ long_one files bytes long | inr within ↦ search (short_one, one_reading) ]
+script_one _ _ = elim (few_or_more _ _) [ inl long ↦ long_one _ _ long | inr within ↦ search (short_one, one_reading) ]
 
 pub file_one : (files : Files) (path : Text) (bytes : Option (List ℕ)) → IsOne (IsFileResult files path bytes)
 file_one _ _ None = grind arith
-file_one files _ (Some bytes) = script_one files bytes
+file_one _ _ (Some bytes) = script_one _ _
 
 pub words_one : (run : Option RunWords) (held : Contents) → IsOne (IsWordsResult run held)
 words_one None _ = grind arith
@@ -52,4 +52,4 @@ words_one (Some words) held =
 
 -- all words have one result in all contents
 pub run_one : (words : List Text) (held : Contents) → HasOneResult words held
-run_one words held = words_one (run_in words) held
+run_one _ _ = words_one _ _

@@ -54,6 +54,7 @@ const MOST_BYTES: usize = 1 << 20;
 /// Of `Output` this says nothing. For words that are no run `err` gets the usage line, or with `Output` and
 /// `Memory` a front of it. Where `err` doesn't tell what it took, as the error stream of a machine, nothing
 /// is said of its bytes.
+#[tactic(auto, using(crate::proofs::Hints::run))]
 pub fn run<F: Files, O: Sink, E: Sink>(
     alloc: Global,
     words: &Vec<String>,
@@ -130,6 +131,7 @@ fn end_usage<E: Sink>(err: &mut E) -> Status
 }
 
 // Runs the script that the path holds.
+#[tactic(auto, using(crate::proofs::Hints::run_file))]
 fn run_file<F: Files, O: Sink, E: Sink>(
     alloc: Global,
     path: &str,
@@ -212,6 +214,7 @@ fn end_syntax<E: Sink>(alloc: Global, line: u64, err: &mut E) -> Status
 }
 
 // Runs the script that the bytes are.
+#[tactic(auto, using(crate::proofs::Hints::run_bytes))]
 fn run_bytes<F: Files, O: Sink, E: Sink>(
     alloc: Global,
     bytes: &[u8],
@@ -248,6 +251,7 @@ fn run_bytes<F: Files, O: Sink, E: Sink>(
 }
 
 // Does the statements in order, up to the first fault.
+#[tactic(auto, using(crate::proofs::Hints::run_script))]
 fn run_script<F: Files, O: Sink, E: Sink>(
     alloc: Global,
     script: &Script,

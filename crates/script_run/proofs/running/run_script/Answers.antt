@@ -3,21 +3,11 @@ use Rattle.{
   meaning.specs.Text.{Contents},
   script_meaning.specs.{Reading.{Reading}, State.{no_names}, Statement.{Answer, statement_result}, Run.{RunResult, statements_result}},
   script_tree.specs.{View.{form_of, statement_of}, ScriptView.{statements_of}},
-  script_work.{specs.Reads.{files_in, paths_of}, proofs.Rides.{serves_self, serves_both}},
+  script_work.{specs.Reads.{files_in}, proofs.Rides.{serves_both}},
   script_session.specs.Session.{state_of},
-  script_steps.{specs.{Ends.{outside, Ends, Is}, Steps.{ComesTo, GoesOn, Stops}, declared.status.Status.TheVariants.{Done}}, proofs.{Options.{some-always, some-both, some-weaker}, RunLaws.{comes_none, comes_more, ends_come, ends_done, next-result}, ErrorLaws.{warns_none, warns_both, leaves_later}}},
+  script_steps.{specs.{Ends.{outside}, Steps.{Stops}}, proofs.{Options.{some-both, some-weaker}, RunLaws.{comes_more, ends_come, ends_done, next-result}, ErrorLaws.{warns_both, leaves_later}}},
 }
 use Rattle.script_run.proofs.running.run_script.Goals as goal
-
-pub loop-i-init : goal.loop-i-init
-loop-i-init g c =
-    record {
-      told = some-always (g.F.Files.seen c.args.files.now).contents _ (λ held. comes_none _ _ (outside (g.F.Files.seen c.args.files.now) (g.O.Sink.seen c.args.out.now) (g.E.Sink.seen c.args.err.now)) (grind arith));
-      warned = warns_none _;
-      serves = serves_self _;
-      out_faults = omega arith;
-      err_faults = omega arith;
-    }
 
 pub returns-in-Err-clause-told : goal.returns-in-Err-clause-told
 returns-in-Err-clause-told g c =
@@ -25,13 +15,13 @@ returns-in-Err-clause-told g c =
     let i = c.loop-i.i in
     let old = outside (g.F.Files.seen c.args.files.now) (g.O.Sink.seen c.args.out.now) (g.E.Sink.seen c.args.err.now) in
     let mid = outside (g.F.Files.seen c.loop-i.files) (g.O.Sink.seen c.loop-i.out) (g.E.Sink.seen c.loop-i.err) in
-    let new = outside (g.F.Files.seen c.advance.new.files) (g.O.Sink.seen c.advance.new.out) (g.E.Sink.seen c.advance.new.err) in
+    let new = outside (g.F.Files.seen _) (g.O.Sink.seen _) (g.E.Sink.seen _) in
     let status = c.in-Err.status in
     let line = c.statement-statement.result.now.line in
     let whole : Contents → RunResult = λ held. statements_result (files_in c.args.names.now held) no_names ss in
     let rest : Contents → RunResult = λ held. statements_result (files_in c.args.names.now held) (state_of c.loop-i.session) (drop i ss) in
     let answer : Contents → Reading Answer = λ held. statement_result (files_in c.args.names.now held) (state_of c.loop-i.session) (form_of c.statement-statement.result.now.form) in
-    some-both (g.F.Files.seen c.args.files.now).contents (g.F.Files.seen c.loop-i.files).contents (λ held. ComesTo (whole held) (rest held) old mid) (λ held. Stops (answer held) line status mid new) (λ held. Ends (Is (whole held)) status old new)
+    some-both _ _ _ (λ held. Stops (answer held) line status mid new) _
     c.loop-i.invariant.serves.contents c.loop-i.invariant.told c.in-Err.ensures.stops (λ held come stops.
     let next = next-result (files_in c.args.names.now held) ss i (statement_of c.statement-statement.result.now) (state_of c.loop-i.session) c.statement-statement.ensures in
     ends_come (whole held) (rest held) status old mid new come (grind arith))
@@ -44,13 +34,11 @@ loop-i-preserved g c =
     let mid = outside (g.F.Files.seen c.loop-i.files) (g.O.Sink.seen c.loop-i.out) (g.E.Sink.seen c.loop-i.err) in
     let new = outside (g.F.Files.seen c.advance.new.files) (g.O.Sink.seen c.advance.new.out) (g.E.Sink.seen c.advance.new.err) in
     let state = state_of c.advance.new.session in
-    let line = c.statement-statement.result.now.line in
     let whole : Contents → RunResult = λ held. statements_result (files_in c.args.names.now held) no_names ss in
     let rest : Contents → RunResult = λ held. statements_result (files_in c.args.names.now held) (state_of c.loop-i.session) (drop i ss) in
-    let answer : Contents → Reading Answer = λ held. statement_result (files_in c.args.names.now held) (state_of c.loop-i.session) (form_of c.statement-statement.result.now.form) in
     let left : Contents → RunResult = λ held. statements_result (files_in c.args.names.now held) state (drop (i + 1) ss) in
     record {
-      told = some-both (g.F.Files.seen c.args.files.now).contents (g.F.Files.seen c.loop-i.files).contents (λ held. ComesTo (whole held) (rest held) old mid) (λ held. GoesOn (answer held) line state mid new) (λ held. ComesTo (whole held) (left held) old new)
+      told = some-both _ _ _ _ _
           c.loop-i.invariant.serves.contents c.loop-i.invariant.told c.in-Ok.ensures.on (λ held come on.
           let next = next-result (files_in c.args.names.now held) ss i (statement_of c.statement-statement.result.now) (state_of c.loop-i.session) c.statement-statement.ensures in
           comes_more (whole held) (rest held) (left held) on.0 old mid new come (grind arith) on.1);
@@ -63,21 +51,11 @@ loop-i-preserved g c =
 pub returns-clause-told : goal.returns-clause-told
 returns-clause-told g c =
     let ss = statements_of c.args.script.now in
-    let i = c.loop-i.i in
-    let old = outside (g.F.Files.seen c.args.files.now) (g.O.Sink.seen c.args.out.now) (g.E.Sink.seen c.args.err.now) in
-    let mid = outside (g.F.Files.seen c.loop-i.files) (g.O.Sink.seen c.loop-i.out) (g.E.Sink.seen c.loop-i.err) in
     let whole : Contents → RunResult = λ held. statements_result (files_in c.args.names.now held) no_names ss in
-    let rest : Contents → RunResult = λ held. statements_result (files_in c.args.names.now held) (state_of c.loop-i.session) (drop i ss) in
-    some-weaker (g.F.Files.seen c.args.files.now).contents (λ held. ComesTo (whole held) (rest held) old mid) (λ held. Ends (Is (whole held)) Done old mid) c.loop-i.invariant.told (λ held come.
-    ends_done (whole held) (files_in c.args.names.now held) ss i (state_of c.loop-i.session) old mid (omega (arith, c.len-i-end.ensures, c.loop-i-test.false)) come)
+    some-weaker _ _ _ c.loop-i.invariant.told (λ held come.
+    ends_done (whole held) (files_in c.args.names.now held) ss c.loop-i.i (state_of c.loop-i.session) (outside (g.F.Files.seen c.args.files.now) (g.O.Sink.seen c.args.out.now) (g.E.Sink.seen c.args.err.now)) (outside (g.F.Files.seen c.loop-i.files) (g.O.Sink.seen c.loop-i.out) (g.E.Sink.seen c.loop-i.err)) (omega (arith, c.len-i-end.ensures, c.loop-i-test.false)) come)
 
 pub returns-in-Err-clause-errors : goal.returns-in-Err-clause-errors
 returns-in-Err-clause-errors g c =
-    leaves_later (paths_of c.args.names.now) (g.F.Files.seen c.loop-i.files).absences (g.F.Files.seen c.advance.new.files).absences (g.F.Files.seen c.args.files.now).absences c.in-Err.status _ _ _
+    leaves_later _ _ _ (g.F.Files.seen c.args.files.now).absences _ _ _ _
     c.loop-i.invariant.serves.absences c.loop-i.invariant.warned c.in-Err.ensures.errors
-
-pub returns-clause-errors : goal.returns-clause-errors
-returns-clause-errors g c = search
-
-pub returns-in-Err-clause-serves : goal.returns-in-Err-clause-serves
-returns-in-Err-clause-serves g c = serves_both c.loop-i.invariant.serves c.in-Err.ensures.serves

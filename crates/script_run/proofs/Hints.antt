@@ -1,0 +1,14 @@
+-- Laws that the goals of functions want, by the name of the first that does.
+use Rattle.{
+  script_steps.proofs.{RunLaws.{ends_with_line, comes_none}, Options.{some-always, some-weaker}, ErrorLaws.{warns_none, run_leaves, never_usage, run_leaves_line, run_leaves_later, says_unread, absent_said, never_absent}},
+  script_work.proofs.Rides.{serves_self, serves_both},
+  script_run.proofs.FileLaws.{ends_script, ends_syntax, ends_too_large},
+}
+
+pub ruleset run = (ends_with_line, some-always, warns_none, serves_self)
+
+pub ruleset run_bytes = (some-weaker, ends_script, some-always, ends_syntax, ends_with_line, ends_too_large, run_leaves, never_usage, run_leaves_line, warns_none, serves_self)
+
+pub ruleset run_file = (run_leaves_later, run_leaves_line, says_unread, warns_none, absent_said, never_absent, serves_both)
+
+pub ruleset run_script = (some-always, comes_none, warns_none, serves_self, serves_both)
