@@ -1,13 +1,11 @@
 -- Lists in order, and what is made of them.
 use Rattle.{
-  std.{proofs.{Common.{arith, ◌≡◌, ◌∙◌, refl, Bool, true, false, not, cond, List, [], ◌∷◌, ◌++◌, map, filter, All}, lemmas.List.Elements.{All-nil, All-cons, All-head, All-tail, All-filter}}, specs.List.{flat_map}},
+  std.{proofs.{Common.{arith, ◌≡◌, ◌∙◌, refl, Bool, true, false, not, cond, List, [], ◌∷◌, map, filter, All}, lemmas.List.Elements.{All-nil, All-cons, All-head, All-tail, All-filter}}, specs.List.{flat_map}},
   meaning.specs.Reduce.{distinct},
   sorting.specs.Sorting.{put_in, in_order},
 }
-
-pub all_append : {X : Type 0} (P : X → Type 0) (xs ys : List X) → All P xs → All P ys → All P (xs ++ ys)
-all_append P [] _ _ py = py
-all_append P (x ∷ xs) ys px py = All-cons P x (xs ++ ys) (All-head P x xs px) (all_append P xs ys (All-tail P x xs px) py)
+pub use Rattle.std.proofs.lemmas.List.Elements.{All-append as all_append}
+pub use Rattle.sorting.proofs.OrderLaws.{in_order_all as all_in_order}
 
 pub all_flat : {X Y : Type 0} (P : Y → Type 0) (Q : X → Type 0) (f : X → List Y) → ((x : X) → Q x → All P (f x)) → (xs : List X) → All Q xs → All P (flat_map f xs)
 all_flat P Q f _ [] _ = All-nil P
@@ -27,10 +25,6 @@ module _ {X : Type 0} (P : X → Type 0) (less : X → X → Bool) where
         | true ↦ All-cons P y (put_in less x ys) (All-head P y ys all) (all_put_in x ys here (All-tail P y ys all))
         | false ↦ grind arith
       ]
-
-  pub all_in_order : (xs : List X) → All P xs → All P (in_order less xs)
-  all_in_order [] all = all
-  all_in_order (x ∷ xs) all = all_put_in x _ (All-head P x xs all) (all_in_order xs (All-tail P x xs all))
 
 -- and what is made of its elements is in the order that agrees
 module _ {X Y : Type 0} (P : X → Type 0) (f : X → Y) (less : X → X → Bool) (less' : Y → Y → Bool) (below : (x y : X) → P x → P y → less' (f x) (f y) ≡ less x y) where

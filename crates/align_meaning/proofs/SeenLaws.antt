@@ -1,8 +1,8 @@
 -- The same rows meet where keys are seen otherwise, as tuples with their texts.
 use Rattle.{
-  std.{proofs.{Common.{arith, ◌≡◌, ◌∙◌, ap, refl, sym, ℕ, Bool, not, ◌&&◌, cond, List, [], ◌∷◌, ◌++◌, map, filter, All, Option, Some, Result, Ok, Err}, lemmas.List.{length-map, map-append, Elements.{All-head, All-tail}}}, specs.{List.{flat_map}, Option.{option_map}, Cmp.Lexicographic.{pointwise}}},
+  std.{proofs.{Common.{arith, ◌≡◌, ◌∙◌, ap, refl, sym, ℕ, Bool, not, cond, List, [], ◌∷◌, ◌++◌, map, filter, All, Option, Some, Result, Ok, Err}, lemmas.List.{length-map, map-append, Elements.{All-head, All-tail}}}, specs.{List.{flat_map}, Option.{option_map}, Cmp.Lexicographic.{pointwise}}},
   meaning.specs.Reduce.{distinct},
-  pick_meaning.{specs.Rows.{rows_where, only_row}, proofs.RowLaws.{rows_where-map}},
+  pick_meaning.{specs.Rows.{rows_where, only_row}, proofs.{RowLaws.{rows_where-map}, SeenLaws.{pointwise-map}}},
   align_meaning.{proofs.OrderLaws.{all_append, all_distinct, all_in_order, in_order_map}, specs.{Faults.{AlignRefusal, duplicate_labels, too_large}, Targets.{first_where, first_repeated, rows_of_targets, reindexed}, Joins.{Entry, Lists, entry, entries_with, entries_of, keys_in_order, outer_entries, within_limit, outer}}},
 }
 
@@ -30,11 +30,23 @@ module _ {X Y : Type 0} (f : X → Y) where
   gaps_seen (Ok answer) = Ok answer
   gaps_seen (Err refusal) = Err (refusal_seen refusal)
 
-  first_map : (p : X → Bool) (p' : Y → Bool) (P : X → Type 0) → ((x : X) → P x → p' (f x) ≡ p x) → (xs : List X) → All P xs → first_where p' (map f xs) ≡ option_map f (first_where p xs)
-  first_map p _ P _ [] _ = refl
-  first_map p p' P agree (x ∷ xs) all =
-      (λ i. cond (agree x (All-head P x xs all) i) (Some (f x)) (first_map p p' P agree xs (All-tail P x xs all) i))
-      ∙ (grind arith)
+  module _ (P : X → Type 0) where
+    pub first_map : (p : X → Bool) (p' : Y → Bool) → ((x : X) → P x → p' (f x) ≡ p x) → (xs : List X) → All P xs → first_where p' (map f xs) ≡ option_map f (first_where p xs)
+    first_map p _ _ [] _ = refl
+    first_map p p' agree (x ∷ xs) all =
+        (λ i. cond (agree x (All-head P x xs all) i) (Some (f x)) (first_map p p' agree xs (All-tail P x xs all) i))
+        ∙ (grind arith)
+
+    pub filter_map : (p : X → Bool) (p' : Y → Bool) → ((x : X) → P x → p' (f x) ≡ p x) → (xs : List X) → All P xs → filter p' (map f xs) ≡ map f (filter p xs)
+    filter_map p _ _ [] _ = refl
+    filter_map p p' agree (x ∷ xs) all =
+        (λ i. cond (agree x (All-head P x xs all) i) (f x ∷ filter_map p p' agree xs (All-tail P x xs all) i) (filter_map p p' agree xs (All-tail P x xs all) i))
+        ∙ (grind arith)
+
+    pub distinct_map : (same : X → X → Bool) (same' : Y → Y → Bool) → ((x y : X) → P x → P y → same' (f x) (f y) ≡ same x y) → (xs : List X) → All P xs → distinct same' (map f xs) ≡ map f (distinct same xs)
+    distinct_map _ _ _ [] _ = refl
+    distinct_map same same' equal (x ∷ xs) all =
+        cc (distinct_map same same' equal xs (All-tail P x xs all), filter_map (λ q. not (same q x)) (λ q. not (same' q (f x))) (λ q h. ap not (equal q x h (All-head P x xs all))) (distinct same xs) (all_distinct P same xs (All-tail P x xs all)))
 
   rows_map : {R : Type 0} (g : Entry X → R) (g' : Entry Y → R) → ((e : Entry X) → g' (entry_seen e) ≡ g e) → (es : List (Entry X)) → map g' (map entry_seen es) ≡ map g es
   rows_map g _ _ [] = refl
@@ -58,16 +70,6 @@ module _ {X Y : Type 0} (f : X → Y) where
       all (l ∷ ls) = search (with_map, map-append, all ls)
 
   module _ (P : X → Type 0) (same less : X → X → Bool) (same' less' : Y → Y → Bool) (equal : (x y : X) → P x → P y → same' (f x) (f y) ≡ same x y) (below : (x y : X) → P x → P y → less' (f x) (f y) ≡ less x y) where
-    filter_map : (p : X → Bool) (p' : Y → Bool) → ((x : X) → P x → p' (f x) ≡ p x) → (xs : List X) → All P xs → filter p' (map f xs) ≡ map f (filter p xs)
-    filter_map p _ _ [] _ = refl
-    filter_map p p' agree (x ∷ xs) all =
-        (λ i. cond (agree x (All-head P x xs all) i) (f x ∷ filter_map p p' agree xs (All-tail P x xs all) i) (filter_map p p' agree xs (All-tail P x xs all) i))
-        ∙ (grind arith)
-
-    distinct_map : (xs : List X) → All P xs → distinct same' (map f xs) ≡ map f (distinct same xs)
-    distinct_map [] _ = refl
-    distinct_map (x ∷ xs) all = cc (distinct_map xs (All-tail P x xs all), filter_map (λ q. not (same q x)) (λ q. not (same' q (f x))) (λ q h. ap not (equal q x h (All-head P x xs all))) (distinct same xs) (all_distinct P same xs (All-tail P x xs all)))
-
     module _ (left right : List X) (lefts : All P left) (rights : All P right) where
       abbrev of_key : X → List (Entry X)
       of_key key = entries_of key (rows_where (same key) 0 left) (rows_where (same key) 0 right)
@@ -89,14 +91,11 @@ module _ {X Y : Type 0} (f : X → Y) where
       outer_seen =
           let both : All P (left ++ right) = search all_append in
           let keys : keys_in_order same' less' (map f left ++ map f right) ≡ map f (keys_in_order same less (left ++ right))
-          = cc (map-append f left right, distinct_map (left ++ right) both, in_order_map P f less less' below (distinct same (left ++ right)) (all_distinct P same (left ++ right) both)) in
+          = cc (map-append f left right, distinct_map P same same' equal (left ++ right) both, in_order_map P f less less' below (distinct same (left ++ right)) (all_distinct P same (left ++ right) both)) in
           cc (entries_map (keys_in_order same less (left ++ right)) (search (all_in_order, all_distinct)), limit_map (outer_entries same less left right))
 
     same_map : (xs ys : List X) → All P xs → All P ys → pointwise same' (map f xs) (map f ys) ≡ pointwise same xs ys
-    same_map [] [] _ _ = refl
-    same_map [] (y ∷ ys) _ _ = refl
-    same_map (x ∷ xs) [] _ _ = refl
-    same_map (x ∷ xs) (y ∷ ys) px py = λ i. equal x y (All-head P x xs px) (All-head P y ys py) i && same_map xs ys (All-tail P x xs px) (All-tail P y ys py) i
+    same_map = search pointwise-map
 
     module _ (keys : List X) (given : All P keys) where
       rows_of_map : (key : X) → P key → rows_where (same' (f key)) 0 (map f keys) ≡ rows_where (same key) 0 keys

@@ -20,9 +20,8 @@ range-replicate f c a zero h = refl
 range-replicate f c a (suc n) h = search (range-replicate f c (a + 1) n h)
 
 get-replicate : {C : Type 0} (n k : ℕ) (c : C) → slice_index_or (replicate n c) k c ≡ c
-get-replicate zero k c = refl
-get-replicate (suc n) zero c = refl
 get-replicate (suc n) (suc k) c = get-replicate n k c
+get-replicate _ k c = refl
 
 -- a column without values
 pub blank_column : {T : Type 0} (kind : Kind) (cell : Option T → Cell) (n m : ℕ) (row : ℕ → Option T) → cell None ≡ Na → n ≡ m → ((k : ℕ) → row k ≡ None) → column_with kind cell n row ≡ record { kind = kind; cells = replicate m Na }

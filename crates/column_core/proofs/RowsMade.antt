@@ -13,11 +13,9 @@ get-set_same (y ∷ ys) (suc i) x h = get-set_same ys i x (omega arith)
 
 -- what stands elsewhere
 pub get-set_other : {X : Type 0} (xs : List X) (i j : ℕ) (x : X) → j ≢ i → slice_get (slice_set xs i x) j ≡ slice_get xs j
-get-set_other [] i j x h = refl
 get-set_other (y ∷ ys) zero zero x h = absurd (h refl)
-get-set_other (y ∷ ys) zero (suc j) x h = refl
-get-set_other (y ∷ ys) (suc i) zero x h = refl
 get-set_other (y ∷ ys) (suc i) (suc j) x h = search (get-set_other ys)
+get-set_other _ _ _ x h = refl
 
 -- a value and its flag
 pub option-set_same : {T : Type 0} (values : List T) (present : List Bool) (i : ℕ) (o : Option T) (blank : T) → i < length values → i < length present → option_at (slice_set values i (unwrap_or o blank)) (slice_set present i (is_some o)) i ≡ o

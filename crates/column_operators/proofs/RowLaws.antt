@@ -1,6 +1,6 @@
 -- What an operator makes has as many rows as its operands.
 use Rattle.{
-  std.{proofs.{Common.{◌≡◌, ◌∙◌, ℕ, suc, Bool, true, false, List, [], ◌∷◌, length, map, arith, Option, Result, Ok, Err}, lemmas.List.{length-map, length-replicate}}, specs.Prelude.{IfOk}},
+  std.{proofs.{Common.{◌≡◌, ◌∙◌, ℕ, suc, Bool, true, false, List, ◌∷◌, length, map, arith, Option, Result, Ok, Err}, lemmas.List.{length-map, length-replicate}}, specs.Prelude.{IfOk}},
   cell_core.specs.declared.cell.{Kind.{Kind}, Cell.{Cell}},
   meaning.specs.{Text.{Text}, Cell.{CellValue, datum}, Column.{ColumnValue, try_pairs, then_rows, column_if, zero_division}, Operator.{binary_column, scalar_binary, scalar_column}, Symbol.{Binary}},
   nullable_array.specs.{Answers.{Answers}, declared.ops.ArrayFault.{ArrayFault}},
@@ -11,11 +11,9 @@ one_more_row : (row : ℕ) (o : Option CellValue) (r : Result (List CellValue) �
 one_more_row = grind arith
 
 pairs_length : (f : CellValue → CellValue → Option CellValue) (row : ℕ) (xs ys zs : List CellValue) → length xs ≡ length ys → try_pairs f row xs ys ≡ Ok zs → length zs ≡ length xs
-pairs_length f _ [] [] _ same is = search
-pairs_length f _ [] (y ∷ ys) _ same is = search
-pairs_length f _ (x ∷ xs) [] _ same is = search
 pairs_length f row (x ∷ xs) (y ∷ ys) zs same is =
     one_more_row _ _ _ zs xs (λ rest e. let less : length xs ≡ length ys = omega arith in pairs_length f (suc row) xs ys rest less e) is
+pairs_length f _ _ _ _ same is = search
 
 column_length : (texts : List Text) (o : Option Kind) (n : ℕ) (r : Result (List CellValue) ℕ) (c : CellColumn) → ((zs : List CellValue) → r ≡ Ok zs → length zs ≡ n)
     → column_if o zero_division r ≡ Ok (cells_value texts c) → length c.cells ≡ n

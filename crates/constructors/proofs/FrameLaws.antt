@@ -1,5 +1,6 @@
 -- Frames of a dict's pairs.
 use Rattle.{
+  index_core.proofs.NumberLaws.{label_decides},
   std.{proofs.{Common.{◌≡◌, ◌≢◌, ◌∙◌, refl, ℕ, suc, List, [], ◌∷◌, ◌++◌, map, length, Option, Some, None, Result, Ok, Err, Bor, if◌then◌else◌, arith}, lemmas.{List.{length-map, get_or-map, Elements.{All-map}}, Option.{slice_get_cases}, Map.Made.{AllPairs-from_IsDistinct}}}, specs.{List.{list_all, AllPairs, IsDistinct}, Option.{option_map}, Map.{keys_of, values_of}}},
   cell_core.specs.declared.{cell.Label.{Label}, grid.Shape.TheVariants.{Frame}},
   meaning.specs.{Text.{Text}, Cell.{CellValue, LabelValue, label_datum}, Fault.{FaultValue, wrong_kind, then_value}},
@@ -9,7 +10,7 @@ use Rattle.{
   form_meaning.specs.{Binding.{each, is_scalar}, Set.{list_column}, Finish.{try_all}, Make.{index_labels, frame_table, is_scalar_list, cells_given, all_of_length, frame_of, pairs_in}},
   form_parts.{specs.Makes.{MakesBy, blocks_value}, proofs.TableMade.{refused_on}},
   frame_store.specs.{declared.{arguments.{Argument.{Argument, Many}, Item.{Item, One as OneItem}, Value.TheVariants.{Scalar}}, fault.OpFault.{OpFault}}, Arguments.{argument_of, items_of, entries_of}, Objects.{Tables}, Parts.{HeadingList, columns_of, table_of, AreBelow, HaveRows}, Shown.{headings_value, Makes}},
-  constructors.{specs.{Index.{index_given, IsUnnamed}, Pairs.{entries_seen, scalars_in, list_seen, lists_seen, listed_column, key_headings, AreSettledLabels, AreSettledLists}, Made.{axis_labels, same_rows, labels_for, frame_labels, frame_with, frame_from}}, proofs.{MadeLaws.{Rows, Index, limited_labels, indexed_within, labels_then, names_seen}, PairLaws.{Pairs, Places, same_number, number_decides}}},
+  constructors.{specs.{Index.{index_given, IsUnnamed}, Pairs.{entries_seen, scalars_in, list_seen, lists_seen, listed_column, key_headings, AreSettledLabels, AreSettledLists}, Made.{axis_labels, same_rows, labels_for, frame_labels, frame_with, frame_from}}, proofs.{MadeLaws.{Rows, Index, limited_labels, indexed_within, labels_then, names_seen}, PairLaws.{Pairs, Places, same_number}}},
   signatures.proofs.ScalarLaws.{scalars_are},
 }
 use Rattle.form_meaning.specs.Make as make
@@ -26,7 +27,6 @@ abbrev lists_of : List (LabelValue × Given) → List (Option (List CellValue))
 lists_of pairs = map (λ p. scalars_in p.1) pairs
 
 lists_made : (pairs : List (LabelValue × Given)) → (if list_all is_scalar_list pairs then try_all column_of pairs else Err wrong_kind) ≡ try_all listed_column (lists_of pairs)
-lists_made [] = refl
 lists_made ((l, many parts) ∷ rest) = grind (arith, lists_made rest)
 lists_made _ = refl
 
@@ -90,7 +90,7 @@ keys_fit _ _ distinct is =
       single = λ e. cc;
       nameless = λ e. cc;
       labelled = λ e. search All-map;
-      different = λ e. search (some_apart, AllPairs-from_IsDistinct number_decides);
+      different = λ e. search (some_apart, AllPairs-from_IsDistinct label_decides);
     })
 
 -- the columns are those of the keys

@@ -1,6 +1,7 @@
 -- Keys that are given once more.
 use Rattle.{
-  std.{proofs.{Common.{◌≡◌, ◌<◌, ◌+◌, ap, ℕ, suc, Bool, List, [], ◌∷◌, length, drop, get_or, slice_get, All, rules, arith}, Math.Seq.{drop-cons}, lemmas.{Option.{slice_get-get_or}, List.Elements.{All-cons, All-map, All-tail}}}, specs.{Bool.{Decides}, Map.{keys_of, values_of}}},
+  index_core.proofs.NumberLaws.{label_decides},
+  std.{proofs.{Common.{◌≡◌, ◌<◌, ◌+◌, ap, ℕ, suc, Bool, List, [], ◌∷◌, length, drop, get_or, slice_get, All, arith}, Math.Seq.{drop-cons}, lemmas.{Option.{slice_get-get_or}, List.Elements.{All-cons, All-map, All-tail}}}, specs.Map.{keys_of, values_of}},
   indexmap.specs.IndexMap.{insert_entry},
   cell_core.specs.{declared.cell.Label.{Label}, contracts.cell.LabelPartialEq.TheImpl.{eq-value}, Texts.{AreDistinct}},
   meaning.specs.{Text.{Text}, Cell.{LabelValue, label_datum}},
@@ -20,9 +21,6 @@ Places = List (Label × ℕ)
 abbrev pub same_number : Label → Label → Bool
 same_number a b = eq-value.it a b
 
-pub number_decides : (a b : Label) → Decides (same_number a b) (a ≡ b)
-number_decides = search rules
-
 -- a key that was given, and a place within the pairs
 abbrev pub IsKey : List Text → ℕ → Label × ℕ → Type 0
 IsKey texts count e = (e.1 < count) × IsSettled label_datum texts e.0
@@ -37,7 +35,7 @@ inserted_seen : (live : Tables) (texts : List Text) (pairs : Pairs) (count : ℕ
     → value_in live texts (slice_get pairs i) ≡ v → entries_seen live texts pairs (insert_entry same_number es k i) ≡ with_pair (entries_seen live texts pairs es) (label_datum texts k) v
 inserted_seen _ _ _ _ [] k i v distinct all given is = cc
 inserted_seen live texts pairs count (e ∷ es) k i v distinct all given is =
-    grind (arith, inserted_seen live texts pairs count es k i v distinct (All-tail (IsKey texts count) e es all) given is, same_by_number texts k e.0 (same_number k e.0) distinct given (all 0 e (omega arith)).1 (number_decides k e.0))
+    grind (arith, inserted_seen live texts pairs count es k i v distinct (All-tail (IsKey texts count) e es all) given is, same_by_number texts k e.0 (same_number k e.0) distinct given (all 0 e (omega arith)).1 (label_decides k e.0))
 
 -- one pair more
 module _ (texts : List Text) (pairs : Pairs) (es es' : Places) (i : ℕ) (d : Label × Argument) (all : All (IsKey texts (length pairs)) es) (lt : i < length pairs) (given : AreSettledKeys texts pairs) (is : es' ≡ insert_entry same_number es (get_or pairs i d).0 i) where

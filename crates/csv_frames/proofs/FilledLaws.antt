@@ -1,8 +1,8 @@
 -- Columns that have a label of their own, and a cell for each row.
 use Rattle.{
-  std.{proofs.{Common.{◌≡◌, ℕ, suc, refl, ap, List, [], ◌∷◌, length, All, AllPairs, slice_index_or, Option, Bool, true, false, ◌<◌, ◌≢◌, arith}, lemmas.{List.{length-map, get_or-map}, Map.Keys.{apart_from_distinct}, Slice.Eq.{bytes_eq-Decides}}}, specs.List.{IsDistinct}},
+  std.{proofs.{Common.{◌≡◌, ℕ, suc, refl, ap, List, [], ◌∷◌, length, All, AllPairs, slice_index_or, Option, ◌<◌, ◌≢◌, arith}, lemmas.{List.{length-map, get_or-map}, Map.Keys.{apart_from_distinct}, Slice.Eq.{bytes_eq-Decides}}}, specs.List.{IsDistinct}},
   cell_core.specs.declared.cell.{Kind.{Kind}, Label.{Label}},
-  meaning.specs.{Text.{Text, same_text}, Cell.{LabelValue, text}},
+  meaning.specs.{Text.{Text, same_text}, Cell.{text}},
   column_core.specs.Columns.{CellColumn},
   table_meaning.specs.Table.{tuple_value},
   csv_meaning.specs.CsvRead.{columns_from},
@@ -21,10 +21,10 @@ module _ (texts : List Text) (rows : List (List Text)) where
   count_columns _ (k ∷ ks) (c ∷ cs) read = ap suc (count_columns _ ks cs (ap others read))
 
   pub filled : (place : ℕ) (kinds : List (Option Kind)) (columns : List CellColumn) → columns_seen texts columns ≡ columns_from place kinds rows → All (λ (c : CellColumn). length c.cells ≡ length rows) columns
+  filled place (k ∷ ks) (c ∷ cs) read = grind (arith, length-map, filled (suc place) ks cs (ap others read))
   filled _ [] [] read = grind arith
   filled _ [] (c ∷ cs) read = Prim.cc
-  filled _ (k ∷ ks) [] read = Prim.cc
-  filled place (k ∷ ks) (c ∷ cs) read = grind (arith, length-map, filled (suc place) ks cs (ap others read))
+  filled _ (k ∷ ks) [] read = grind arith
 
 pub count_tuples : (texts : List Text) (labels : List Text) (tuples : List (List Label)) → tuples_seen texts tuples ≡ label_tuples labels → length tuples ≡ length labels
 count_tuples = grind (arith, length-map)
@@ -33,19 +33,7 @@ count_tuples = grind (arith, length-map)
 pub tuples_differ : (texts : List Text) (labels : List Text) (tuples : List (List Label)) → tuples_seen texts tuples ≡ label_tuples labels → IsDistinct same_text labels → AllPairs (λ a b. a ≢ b) tuples
 tuples_differ texts labels tuples read distinct i j d lt below alike =
     let size = count_tuples _ _ _ read in
-    let first = label_at i (omega arith) in
-    let second = label_at j below in
-    let one : slice_index_or labels i [] ≡ slice_index_or labels j [] = cc in
-    let other = apart_from_distinct _ _ i j [] distinct lt (omega arith) in
-    both _ ((bytes_eq-Decides _ _).1 one) other
-  where
-    text_in : List LabelValue → Text
-    text_in (text t ∷ ls) = t
-    text_in ls = []
-
-    label_at : (k : ℕ) → k < length tuples → tuple_value texts (slice_index_or tuples k d) ≡ text (slice_index_or labels k []) ∷ []
-    label_at k within = cc (get_or-map (tuple_value texts) tuples k d [] within, get_or-map (λ l. text l ∷ []) labels k [] [] (omega (arith, count_tuples texts labels tuples read)))
-
-    both : {P : Type 0} (b : Bool) → b ≡ true → b ≡ false → P
-    both true e f = Prim.cc
-    both false e f = Prim.cc
+    let label_at : (k : ℕ) → k < length tuples → tuple_value texts (slice_index_or tuples k d) ≡ text (slice_index_or labels k []) ∷ []
+    = λ k within. cc (get_or-map (tuple_value texts) tuples k d [] within, get_or-map (λ l. text l ∷ []) labels k [] [] (omega (arith, size))) in
+    let one : slice_index_or labels i [] ≡ slice_index_or labels j [] = cc (label_at i (omega arith), label_at j below) in
+    grind (arith, apart_from_distinct same_text labels i j [] distinct lt, bytes_eq-Decides)

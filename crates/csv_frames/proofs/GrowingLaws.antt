@@ -16,12 +16,9 @@ pub grown_by : (old new : List Text) (before after : CellColumn) (field : Text) 
     → IsGrownBy old new field before after
 grown_by old new before after _ c longer is settled made before_settled =
     let cells_settled : IsSettled cells_seen old before.cells = λ more. grind (arith, before_settled more) in
-    let pushed : after.cells ≡ before.cells ++ c ∷ [] = cc in
-    let more = settled_more datum old new _ _ c longer cells_settled pushed settled in (
+    let more = settled_more datum old new _ _ c longer cells_settled (ap (λ (w : CellColumn). w.cells) is) settled in (
       λ further i. record { kind = after.kind; cells = more further i },
-      (λ i. column_seen new (is i))
-          ∙ (λ i. record { kind = before.kind; cells = map-append (datum new) before.cells (c ∷ []) i })
-          ∙ (λ i. record { kind = before.kind; cells = seen_later cells_seen old new _ longer cells_settled i ++ made i ∷ [] }),
+      grind (arith, map-append (datum new) before.cells (c ∷ []), seen_later cells_seen old new before.cells longer cells_settled),
     )
 
 -- the number of a field is its cell
@@ -36,10 +33,7 @@ column_kept kind cell rows = column_with kind cell (length rows.values.items) (o
 pub put_grown : {U E T : Type 0} (r : Result U E) (old new : List Text) (field : Text) (kind : Kind) (cell : Option T → Cell) (o : Option T) (rows rows' : Owned T) (before : CellColumn) → IsLonger old new → column_kept kind cell rows ≡ before
     → IsSettled datum new (cell o) → datum new (cell o) ≡ cell_of_field kind field → OnOk r (IsPut o rows rows') → OnOk r (IsGrownBy old new field before (column_kept kind cell rows'))
 put_grown (Ok u) old new field kind cell o _ _ _ longer was settled seen put =
-    grown_by old new _ _ field _ longer
-    (pushed_column _ cell _ _ o _ _ _ put refl ∙ ap (λ (w : CellColumn). record { kind = w.kind; cells = w.cells ++ cell o ∷ [] }) was)
-    settled
-    (grind arith)
+    grown_by old new _ _ field _ longer (pushed_column _ cell _ _ o _ _ _ put refl ∙ ap (λ (w : CellColumn). record { kind = w.kind; cells = w.cells ++ cell o ∷ [] }) was) settled (grind arith)
 put_grown (Err e) _ _ _ _ cell o _ _ _ _ _ _ _ put = put
 
 pub text_grown : {U E : Type 0} (r : Result U E) (old new : List Text) (field : Text) (rows rows' : Owned TextId) (before : CellColumn) → IsLonger old new → column_kept string text_cell rows ≡ before → OnOk r (IsTextPut new field rows rows')
@@ -51,9 +45,7 @@ module _ (old new : List Text) (fields : List Text) (field : Text) where
   -- a column whose kind stays
   pub cells_grown : (named : Option Kind) (before after : CellColumn) → IsGrownBy old new field before after → Grown old named fields (growing.Cells before)
       → unwrap_or named (kind_of_fields (fields ++ field ∷ [])) ≡ unwrap_or named (kind_of_fields fields) → Grown new named (fields ++ field ∷ []) (growing.Cells after)
-  cells_grown _ _ _ by grown same =
-      let more = by grown.0 in
-      grind (arith, map-append, value_stays)
+  cells_grown _ _ _ by grown same = grind (arith, by grown.0, map-append, value_stays)
 
   -- the first value
   pub first_grown : (rows : ℕ) (column : CellColumn) → length fields ≡ rows → list_all is_missing fields ≡ true → is_missing field ≡ false → IsFirst new rows field column → Grown new None (fields ++ field ∷ []) (growing.Cells column)
@@ -88,7 +80,7 @@ na_seen texts (suc n) = cc (na_seen texts n)
 -- missing cells and a first value
 pub first_is : (old new : List Text) (kind : Kind) (rows : ℕ) (field : Text) (before after : CellColumn) → kind ≡ kind_of_fields (field ∷ []) → before ≡ record { kind = kind; cells = replicate rows cell.Na } → IsGrownBy old new field before after → IsFirst new rows field after
 first_is old _ kind rows field before _ is made by =
-    let all_seen : (texts : List Text) → column_seen texts before ≡ record { kind = kind; cells = replicate rows na_cell } = λ texts. ap (column_seen texts) made ∙ (λ i. record { kind = kind; cells = na_seen texts rows i }) in
+    let all_seen : (texts : List Text) → column_seen texts before ≡ record { kind = kind; cells = replicate rows na_cell } = λ texts. cc (made, na_seen texts rows) in
     let more = by (λ further. all_seen (old ++ further) ∙ sym (all_seen old)) in (
       more.0,
       more.1

@@ -1,21 +1,12 @@
 -- Laws of columns that grow record by record.
 use Rattle.{
-  std.{proofs.{Common.{append_assoc, ◌≡◌, ◌∙◌, ◌+◌, ◌<◌, ◌≤◌, ℕ, Bool, true, not, ◌&&◌, nat_le, List, [], ◌∷◌, ◌++◌, length, get_or, set, Option, None, arith, inl, inr}, lemmas.{Bool.{cases_order}, List.{map-append, length-append, length-set, get_or-set_other, Folds.{list_any-append}}, Grind.{get_or-set_at}}}, specs.List.{list_any}},
+  std.proofs.{Common.{append_assoc, ◌≡◌, ◌∙◌, ◌+◌, ◌<◌, ◌≤◌, ℕ, List, [], ◌∷◌, ◌++◌, length, get_or, set, Option, None, arith, inl, inr}, lemmas.{Bool.{cases_order}, List.{map-append, length-append, length-set, get_or-set_other}, Grind.{get_or-set_at}}},
   cell_core.specs.Texts.{IsLonger},
   meaning.specs.{Text.{Text}, Cell.{Kind}},
-  csv_meaning.specs.CsvRead.{field_in, has_misfit, first_long},
+  csv_meaning.specs.CsvRead.{field_in, first_long},
   csv_frames.{specs.{Views.{column_fields, column_seen}, Growing.{Grown}, declared.growing.Growing.{Growing}}, proofs.SettledLaws.{settled_later, seen_later}},
 }
 use Rattle.csv_frames.specs.declared.growing.Growing.TheVariants as growing
-
-both_true : (a b : Bool) → a && b ≡ true → (a ≡ true) × (b ≡ true)
-both_true = grind arith
-
-three : (a b c a' c' : Bool) → (a ≡ true → a' ≡ true) → (c ≡ true → c' ≡ true) → a && b && c ≡ true → a' && b && c' ≡ true
-three = grind arith
-
-fewer : (a b m : ℕ) → a ≤ b → nat_le b m ≡ true → nat_le a m ≡ true
-fewer = grind arith
 
 -- a column stays what it is where further texts get numbers
 pub grown_later : (old new : List Text) (named : Option Kind) (fields : List Text) (g : Growing) → IsLonger old new → Grown old named fields g → Grown new named fields g
@@ -48,11 +39,7 @@ module _ (kinds : List (Option Kind)) (before : List (List Text)) (row : List Te
       here = grind (arith, map-append, get_or-set_at)
 
       moved : (k : ℕ) → (k ≡ place → ⊥) → (fields : List Text) → Grown old (get_or kinds k None) fields (get_or columns k growing.Missing) → Grown new (get_or kinds k None) fields (get_or (set columns place g) k growing.Missing)
-      moved k other fields grown = search (get_or-set_other, grown_later)
-
-module _ (kinds : List (Option Kind)) where
-  no_more : (misfits : Bool) (rows : List (List Text)) (row : List Text) → misfits ≡ list_any (has_misfit kinds) rows → (not misfits && not (has_misfit kinds row)) ≡ not (list_any (has_misfit kinds) (rows ++ row ∷ []))
-  no_more = grind (arith, list_any-append)
+      moved = search (get_or-set_other, grown_later)
 
 module _ (width : ℕ) (file before rows rest : List (List Text)) (row : List Text) (next : rows ≡ row ∷ rest) where
   -- the records so far and those after them

@@ -1,18 +1,18 @@
 -- Files whose tables are too large.
 use Rattle.{
-  std.{proofs.{Common.{rules, ◌≡◌, ℕ, suc, ap, refl, List, [], ◌∷◌, length, map, Bool, false, ◌&&◌, ◌<◌, ◌^◌, nat_le, arith}, lemmas.Bool.Decides.{nat_tests}}, specs.{Prelude.{Err}, List.{list_any}}},
-  cell_core.specs.{Texts.{with_text}, declared.cell.Kind.{Kind}},
+  csv_frames.proofs.NumberedLaws.{after_count},
+  std.{proofs.{Common.{rules, ◌≡◌, ℕ, suc, ap, refl, List, [], ◌∷◌, length, map, false, ◌<◌, ◌^◌, nat_le, arith}, lemmas.Bool.Decides.{nat_tests}}, specs.{Prelude.{Err}, List.{list_any}}},
+  cell_core.specs.declared.cell.Kind.{Kind},
   meaning.specs.Text.{Text},
   table_meaning.specs.Valid.{within_limits},
-  csv_meaning.specs.CsvRead.{beyond_limits, has_misfit, named_kind, labels_named, labels_after, labels_of, columns_under},
+  csv_meaning.specs.CsvRead.{beyond_limits, has_misfit, named_kind, labels_named, labels_of, columns_under},
 }
 
 -- where no kind is named, no field is of another one
 no_misfit : (labels fields : List Text) → has_misfit (map (named_kind []) labels) fields ≡ false
-no_misfit [] [] = refl
-no_misfit [] (f ∷ fs) = refl
-no_misfit (l ∷ ls) [] = refl
 no_misfit (l ∷ ls) (f ∷ fs) = no_misfit ls fs
+no_misfit [] fields = search
+no_misfit labels [] = search
 
 no_misfits : (labels : List Text) (rows : List (List Text)) → list_any (has_misfit (map (named_kind []) labels)) rows ≡ false
 no_misfits _ [] = refl
@@ -23,12 +23,8 @@ count_named : (place : ℕ) (labels : List Text) → length (labels_named place 
 count_named _ [] = refl
 count_named _ (l ∷ ls) = ap suc (count_named _ ls)
 
-count_after : (columns : ℕ) (before taken labels : List Text) → length (labels_after columns before taken labels) ≡ length labels
-count_after _ _ _ [] = refl
-count_after _ before _ (l ∷ ls) = ap suc (count_after _ (with_text before l) _ ls)
-
 pub count_labels : (header : List Text) → length (labels_of header) ≡ length header
-count_labels = search (count_after, count_named)
+count_labels = search (after_count, count_named)
 
 large : (header : List Text) (rows : List (List Text)) → within_limits (length rows) (length header) ≡ false → columns_under [] header rows ≡ Err beyond_limits
 large = grind (arith, no_misfits, count_labels)
@@ -37,9 +33,6 @@ large = grind (arith, no_misfits, count_labels)
 pub no_kinds : (kinds : List (Text × Kind)) → length kinds ≡ 0 → kinds ≡ []
 no_kinds [] _ = refl
 no_kinds (k ∷ ks) none = search
-
-not_within : (a b c : Bool) → b ≡ false → a && b && c ≡ false
-not_within = grind arith
 
 -- a header that is too wide for a table
 pub wide : (kinds : List (Text × Kind)) (count : ℕ) (header : List Text) (rows : List (List Text)) → count ≡ length kinds → count ≡ 0 → 2 ^ 16 < length header → columns_under kinds header rows ≡ Err beyond_limits

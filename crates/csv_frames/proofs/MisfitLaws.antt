@@ -1,6 +1,6 @@
 -- Laws of records with a field of another kind than the one that is named.
 use Rattle.{
-  std.proofs.{Common.{rules, ◌≡◌, ◌+◌, ◌<◌, ◌≤◌, ℕ, refl, List, [], ◌∷◌, length, drop, get_or, arith, Option, None, Bool, true, false, ◌||◌, min}, lemmas.List.{drop_more, drop_all, get_or_past}},
+  std.proofs.{Common.{rules, ◌≡◌, ◌+◌, ◌<◌, ◌≤◌, ℕ, refl, List, [], ◌∷◌, length, drop, get_or, arith, Option, None, Bool, false, ◌||◌, min}, lemmas.List.{drop_more, drop_all, get_or_past}},
   cell_core.specs.declared.cell.Kind.{Kind},
   meaning.specs.Text.{Text},
   csv_meaning.specs.CsvRead.{field_in, is_misfit, has_misfit},
@@ -11,25 +11,14 @@ no_fields [] = refl
 no_fields (k ∷ ks) = refl
 
 module _ (kinds : List (Option Kind)) (fields : List Text) (place : ℕ) (before : has_misfit (drop place kinds) (drop place fields) ≡ has_misfit kinds fields) where
-  module _ (named : Option Kind) (field : Text) (misfit : Bool) (lt : place < length kinds) (within : place < length fields) (is : named ≡ get_or kinds place None) (read : field ≡ field_in place fields) (test : misfit ≡ is_misfit named field) where
-    pub misfit_found : misfit ≡ true → true ≡ has_misfit kinds fields
-    misfit_found = grind (arith, drop_more)
-
-    pub misfit_passed : misfit ≡ false → has_misfit (drop (place + 1) kinds) (drop (place + 1) fields) ≡ has_misfit kinds fields
-    misfit_passed = grind (arith, drop_more)
-
   -- no kind or no field is left
   pub misfit_done : min (length kinds) (length fields) ≤ place → false ≡ has_misfit kinds fields
   misfit_done = grind (arith, drop_all, no_fields)
 
--- an empty field is a missing cell, which is of every kind
-empty_fits : (named : Option Kind) → is_misfit named [] ≡ false
-empty_fits = grind arith
-
 -- the field at a place, which is empty in a record that is too short, and those after it
 misfit_at : (kinds : List (Option Kind)) (fields : List Text) (place : ℕ) → place < length kinds
     → has_misfit (drop place kinds) (drop place fields) ≡ (is_misfit (get_or kinds place None) (field_in place fields) || has_misfit (drop (place + 1) kinds) (drop (place + 1) fields))
-misfit_at = search (rules, drop_more, drop_all, no_fields, get_or_past, empty_fits)
+misfit_at = search (rules, drop_more, drop_all, no_fields, get_or_past)
 
 module _ (kinds : List (Option Kind)) (fields : List Text) (place : ℕ) (so_far : Bool) (before : (so_far || has_misfit (drop place kinds) (drop place fields)) ≡ has_misfit kinds fields) where
   -- one field more

@@ -7,9 +7,6 @@ use Rattle.{
   csv_frames.specs.Numbered.{has_text, AreNumbered},
 }
 
-some_is : (x y : Text) → Some x ≡ Some y → x ≡ y
-some_is x y h = cc
-
 -- the same texts, in whatever order and however often
 abbrev Alike : List Text → List Text → Type 0
 Alike xs ys = (q : Text) → has_text xs q ≡ has_text ys q
@@ -19,16 +16,11 @@ put_has = search (rules, list_any-append)
 
 all_alike : (xs ys ls : List Text) → Alike xs ys → Alike (with_texts xs ls) (ys ++ ls)
 all_alike _ _ [] alike q = search append-nil
-all_alike xs ys (l ∷ ls) alike q = search (append_assoc, all_alike (with_text xs l) (ys ++ l ∷ []) ls (grind (arith, put_has, list_any-append)) q)
+all_alike xs ys (l ∷ ls) alike q = grind (arith, append_assoc, all_alike (with_text xs l) (ys ++ l ∷ []) ls (grind (arith, put_has, list_any-append)) q)
 
 -- no smaller number is free
 passed : (taken : List Text) (label : Text) (m n : ℕ) → 1 ≤ n → n < 1 + position_or_len (is_free taken label) (range_with_len 1 m) → has_text taken (with_number label n) ≡ true
-passed taken label m n some lt =
-    let p = is_free taken label in
-    let xs = range_with_len 1 m in
-    let most : position_or_len p xs ≤ length xs = search prefix_len-le-length in
-    let at = get_or-range_with_len 1 m (n - 1) 0 (omega (arith, length-range_with_len 1 m)) in
-    grind (arith, prefix_len_passes)
+passed taken label m n some lt = grind (arith, prefix_len-le-length, get_or-range_with_len 1 m (n - 1) 0, length-range_with_len, prefix_len_passes)
 
 module _ (columns : ℕ) (small : columns < 2 ^ 64) (header : List Text) where
   -- the next column, after columns with these labels
@@ -66,7 +58,7 @@ module _ (columns : ℕ) (small : columns < 2 ^ 64) (header : List Text) where
       (search fair-after) i _ is in
       grind (arith, append_assoc)
 
-after_count : (columns : ℕ) (before taken rest : List Text) → length (labels_after columns before taken rest) ≡ length rest
+pub after_count : (columns : ℕ) (before taken rest : List Text) → length (labels_after columns before taken rest) ≡ length rest
 after_count _ _ _ [] = refl
 after_count _ before _ (l ∷ rest) = ap suc (after_count _ (with_text before l) _ rest)
 

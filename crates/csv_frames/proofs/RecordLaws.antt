@@ -1,7 +1,7 @@
 -- Laws of records that are read one after the other.
 use Rattle.{
-  std.{proofs.Common.{rules, ◌++◌, length-append, length-drop, ◌≡◌, ◌∷◌, [], ap, List, ℕ, Option, Some, None, Bool, true, false, length, zero, suc, ◌<◌, ◌≤◌, ◌+◌, arith, inl, inr}, specs.{Prelude.{if◌then◌else◌, ◌⊎◌, ◌-◌}, Borrow.{Bor}}},
-  csv.{specs.{Machine.{Read, next_record, ends_at_end, step, is_end, in_field, after_end}, declared.{parser.{Action.{Action}, Terminator.{Terminator}, Config.{Config}, State.{State}}, reader.Reader.{Reader}}, Reading.{Reached, Ready, ReadRecord, records_from, records_next, strip_bom}}, proofs.ReadFacts.{rows-more}},
+  std.{proofs.Common.{rules, ◌++◌, length-append, length-drop, ◌≡◌, ◌∷◌, [], ap, List, ℕ, Option, Some, None, Bool, true, false, length, zero, suc, ◌<◌, ◌≤◌, ◌+◌, arith}, specs.{Prelude.{◌-◌}, Borrow.{Bor}}},
+  csv.{specs.{Machine.{fields_after, field_after, Read, next_record, ends_at_end, step, is_end}, declared.{parser.{Action.{Action}, Config.{Config}, State.{State}}, reader.Reader.{Reader}}, Reading.{Reached, Ready, ReadRecord, records_from, records_next, strip_bom}}, proofs.ReadFacts.{rows-more}},
   csv_frames.specs.Rows.{Reads, IsNext, known, rows_left, file_records, file_rows},
 }
 use Rattle.csv.specs.declared.reader.Trim.TheVariants as trim
@@ -9,27 +9,9 @@ use Rattle.csv.specs.declared.reader.Trim.TheVariants as trim
 abbrev Quiet : State × Action → Type 0
 Quiet a = is_end a.1 ≡ true → ends_at_end a.0 ≡ false
 
-quiet-if : (b : Bool) (x y : State × Action) → Quiet x → Quiet y → Quiet (if b then x else y)
-quiet-if = grind arith
-
-no : {P : Type 0} → false ≡ true → P
-no e = absurd (grind arith)
-
-quiet-end : (t : Terminator) (c : ℕ) → ends_at_end (after_end t c) ≡ false
-quiet-end = grind arith
-
-quiet-in : (cfg : Config) (c : ℕ) → Quiet (in_field cfg c)
-quiet-in = search (quiet-if, no, quiet-end)
-
 -- a step that ends a record leaves no record begun
 quiet : (cfg : Config) (s : State) (c : ℕ) → Quiet (step cfg s c)
-quiet = grind (arith, quiet-if, no, quiet-in)
-
-inner : {A : Type 0} (x y : A) → Some x ≡ Some y → x ≡ y
-inner x y e = cc
-
-chosen : {A : Type 0} (b : Bool) (x y z : A) → (if b then x else y) ≡ z → ((b ≡ true) × (x ≡ z)) ⊎ ((b ≡ false) × (y ≡ z))
-chosen = grind arith
+quiet = grind arith
 
 -- a record that was read: from where no record was begun it took a byte, and it leaves none begun
 pub record Took (s : State) (xs : List ℕ) (p : Read) : Type 0 where
@@ -40,11 +22,7 @@ pub record Took (s : State) (xs : List ℕ) (p : Read) : Type 0 where
 took : (cfg : Config) (s : State) (fields : List (List ℕ)) (field xs : List ℕ) (p : Read) → next_record cfg s fields field xs ≡ Some p → Took s xs p
 unfolding next_record
 took _ s _ _ [] p e = grind arith
-took cfg s _ _ (c ∷ rest) p e =
-    elim (chosen (is_end (step cfg s c).1) _ _ _ e) [
-      | inl h ↦ grind (arith, quiet)
-      | inr h ↦ grind (arith, took cfg (step cfg s c).0 _ _ rest p h.1)
-    ]
+took cfg s fields field (c ∷ rest) p e = grind (arith, quiet, took cfg (step cfg s c).0 (fields_after (step cfg s c).1 fields field) (field_after (step cfg s c).1 c field) rest p)
 
 -- a record from where none was begun leaves fewer bytes
 fewer : (cfg : Config) (s : State) (xs : List ℕ) (p : Read) → ends_at_end s ≡ false → next_record cfg s [] [] xs ≡ Some p → length p.2 < length xs

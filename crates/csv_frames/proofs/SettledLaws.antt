@@ -1,6 +1,6 @@
 -- Laws of what is settled.
 use Rattle.{
-  std.proofs.{Common.{rules, ◌≡◌, ◌∙◌, ◌≤◌, ℕ, zero, suc, refl, ap, sym, List, [], ◌∷◌, ◌++◌, length, map, append_assoc, append-nil, slice_index_or, slice_get, take, drop, get_or, ◌-◌, Some, arith}, lemmas.List.{map-append, take_rest}},
+  std.proofs.{lemmas.{Option.{get_or_from_slice_get}, List.{map-append, take_rest}}, Common.{rules, ◌≡◌, ◌≤◌, ℕ, zero, suc, refl, sym, List, [], ◌∷◌, ◌++◌, length, map, append_assoc, append-nil, slice_index_or, slice_get, take, drop, get_or, ◌-◌, Some, arith}},
   cell_core.specs.{Texts.{IsLonger, with_text}, declared.cell.TextId.{TextId}},
   meaning.specs.{Text.{Text}, Cell.{text}},
   table_meaning.specs.{Settled.{IsSettled}, Table.{tuple_value}},
@@ -31,13 +31,7 @@ all_seen view texts xs = map (view texts) xs
 -- one thing more
 module _ {X Y : Type 0} (view : List Text → X → Y) (old new : List Text) (xs xs' : List X) (x : X) (longer : IsLonger old new) (settled : IsSettled (all_seen view) old xs) (is : xs' ≡ xs ++ x ∷ []) where
   pub settled_more : IsSettled view new x → IsSettled (all_seen view) new xs'
-  settled_more here = λ more.
-      ap (all_seen view (new ++ more)) is
-      ∙ map-append (view (new ++ more)) xs (x ∷ [])
-      ∙ ap (λ l. l ++ view (new ++ more) x ∷ []) (settled_later (all_seen view) old new xs longer settled more)
-      ∙ ap (λ y. all_seen view new xs ++ y ∷ []) (here more)
-      ∙ sym (map-append (view new) xs (x ∷ []))
-      ∙ ap (all_seen view new) (sym is)
+  settled_more = grind (arith, map-append, settled_later (all_seen view) old new xs longer settled)
 
   pub seen_more : (y : Y) (rest whole : List Y) → view new x ≡ y → all_seen view old xs ++ y ∷ rest ≡ whole → all_seen view new xs' ++ rest ≡ whole
   seen_more = grind (arith, map-append, append_assoc)
@@ -48,17 +42,12 @@ text_kept [] _ i t given = Prim.cc
 text_kept (u ∷ us) _ zero t given = refl
 text_kept (u ∷ us) _ (suc i) t given = text_kept us _ i t given
 
-text_given : (texts : List Text) (i : ℕ) (t : Text) → slice_get texts i ≡ Some t → slice_index_or texts i [] ≡ t
-text_given [] i t given = Prim.cc
-text_given (u ∷ us) zero t given = cc
-text_given (u ∷ us) (suc i) t given = text_given us i t given
-
 -- a text's label as a tuple of its own
 pub tuple_settled : (texts : List Text) (id : TextId) (t : Text) → slice_get texts id.0 ≡ Some t → IsSettled tuple_value texts (label.Text id ∷ [])
 tuple_settled = search text_kept
 
 pub tuple_seen : (texts : List Text) (id : TextId) (t : Text) → slice_get texts id.0 ≡ Some t → tuple_value texts (label.Text id ∷ []) ≡ text t ∷ []
-tuple_seen = search text_given
+tuple_seen = grind (arith, get_or_from_slice_get)
 
 -- what stands after the first
 abbrev pub after : {X : Type 0} → List X → List X

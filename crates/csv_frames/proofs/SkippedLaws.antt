@@ -1,6 +1,6 @@
 -- Laws of the numbers that were tried for labels.
 use Rattle.{
-  std.{proofs.{Common.{◌≡◌, ◌≢◌, ℕ, zero, suc, ◌+◌, ◌<◌, ◌≤◌, Bool, true, false, not, List, [], ◌∷◌, ◌++◌, length, nat_eq, slice_get, slice_index_or, slice_set, Some, refl, arith, inl, inr, get_or-set_same, get_or-set_other, length-set}, lemmas.{Bool.{cases_eq}, List.{length-append, Sums.{prefix_len-le-length}}, Option.{slice_get-get_or}}, Math.{ListN.{get_or-append}, Seq.{get_or-append_seam}}}, specs.List.{list_any}},
+  std.{proofs.{lemmas.{List.{length-append, Folds.{list_any-append}, Sums.{prefix_len-le-length}}, Bool.{cases_eq}, Option.{slice_get-get_or}}, Common.{◌≡◌, ◌≢◌, ℕ, zero, suc, ◌+◌, ◌<◌, ◌≤◌, Bool, true, false, not, List, [], ◌∷◌, ◌++◌, length, nat_eq, slice_get, slice_index_or, slice_set, Some, refl, arith, get_or-set_same, get_or-set_other, length-set}, Math.{ListN.{get_or-append}, Seq.{get_or-append_seam}}}, specs.List.{list_any}},
   cell_core.specs.Texts.{with_text, number_of},
   meaning.specs.Text.{Text, same_text},
   csv_meaning.specs.CsvRead.{with_number, is_free, free_label, next_label},
@@ -20,38 +20,24 @@ pub label_found : (taken : List Text) (label t : Text) (n columns : ℕ) → 1 �
 label_found _ _ t n _ some lt skipped is free = number_found _ _ t n _ lt is (grind (arith, passed_all)) free
 
 pub label_last : (taken : List Text) (label t : Text) (n columns : ℕ) → 0 < columns → columns ≤ n → IsSkipped taken label n → t ≡ with_number label columns → t ≡ free_label columns taken label
-label_last _ label t n columns some le skipped is =
-    let passed = passed_all _ label columns columns (omega arith) (omega arith) (λ m one lt. skipped m one (omega arith)) in
-    grind arith
+label_last taken label t n columns some le skipped is = grind (arith, passed_all taken label columns columns)
 
 -- what is taken stays so
-any-more : (p : Text → Bool) (texts : List Text) (t : Text) → list_any p texts ≡ true → list_any p (texts ++ t ∷ []) ≡ true
-any-more p [] t any = Prim.cc
-any-more p (u ∷ us) t any = grind (arith, any-more p us t)
-
-not-false : (b : Bool) → not b ≡ false → b ≡ true
-not-false = grind arith
-
-still_taken : (taken taken' : List Text) (t label : Text) (n : ℕ) → taken' ≡ with_text taken t → is_free taken label n ≡ false → is_free taken' label n ≡ false
-still_taken = grind (arith, any-more)
-
 pub skipped_later : (taken taken' : List Text) (t label : Text) (n : ℕ) → taken' ≡ with_text taken t → IsSkipped taken label n → IsSkipped taken' label n
-skipped_later = search still_taken
+skipped_later = grind (arith, list_any-append)
 
 pub number_within : (texts : List Text) (t : Text) (n : ℕ) → n ≡ number_of texts t → n ≢ length texts → n < length texts
 number_within = grind (arith, prefix_len-le-length)
 
-is_old : (b : Bool) (n m : ℕ) → nat_eq n m ≡ not b → n ≢ m → b ≡ true
-is_old = grind arith
+-- whether a text stood before is told by its number
+old_told : (b : Bool) (n m : ℕ) → nat_eq n m ≡ not b → ((n ≢ m) → b ≡ true) × (n ≡ m → b ≡ false)
+old_told = grind arith
 
 pub old_text : (texts : List Text) (t : Text) (n : ℕ) → n ≡ number_of texts t → n ≢ length texts → list_any (same_text t) texts ≡ true
-old_text = search (is_old, new_number)
+old_text texts t n is = (old_told _ n _ (new_number texts t n _ is refl)).0
 
-is_not_new : (b : Bool) (n m : ℕ) → nat_eq n m ≡ not b → n ≡ m → b ≡ false
-is_not_new = grind arith
-
-pub new_text : (texts : List Text) (t : Text) (n : ℕ) → n ≡ number_of texts t → n ≡ length texts → list_any (same_text t) texts ≡ false
-new_text = search (is_not_new, new_number)
+new_text : (texts : List Text) (t : Text) (n : ℕ) → n ≡ number_of texts t → n ≡ length texts → list_any (same_text t) texts ≡ false
+new_text texts t n is = (old_told _ n _ (new_number texts t n _ is refl)).1
 
 kept : (texts texts' : List Text) (t : Text) → texts' ≡ with_text texts t → list_any (same_text t) texts ≡ true → texts' ≡ texts
 kept _ _ t put old = cc
@@ -66,24 +52,9 @@ skipped_new before before' taken taken' next _ label n inv put takes pushed is s
     let more : before' ≡ before ++ label ∷ [] = cc (new_text before label n is same) in
     rw (more, pushed) record {
       count = omega (arith, length-append next (1 ∷ []), length-append before (label ∷ []));
-      some = λ k lt. elim (cases_eq k (length before)) [
-        | inl last ↦ grind (arith, at_end)
-        | inr other ↦ rw (number_before k (below k lt other)) (inv.some k (below k lt other))
-      ];
-      skipped = λ k lt. elim (cases_eq k (length before)) [
-        | inl last ↦ grind (arith, at_end)
-        | inr other ↦ grind (arith, number_before k (below k lt other), get_or-append before (label ∷ []) [] k (below k lt other), skipped_later taken taken' label (slice_index_or before k []) (slice_index_or next k 0) takes (inv.skipped k (below k lt other)))
-      ];
+      some = λ k lt. grind (arith, cases_eq k (length before), length-append before (label ∷ []), get_or-append_seam, get_or-append, inv.some k);
+      skipped = λ k lt. grind (arith, cases_eq k (length before), length-append before (label ∷ []), get_or-append_seam, get_or-append, inv.skipped k, skipped_later taken taken' label (slice_index_or before k []) (slice_index_or next k 0) takes);
     }
-  where
-    at_end : (k : ℕ) → k ≡ length before → slice_index_or (next ++ 1 ∷ []) k 0 ≡ 1
-    at_end k last = grind (arith, get_or-append_seam)
-
-    below : (k : ℕ) → k < length (before ++ label ∷ []) → k ≢ length before → k < length before
-    below k lt other = omega (arith, length-append before (label ∷ []))
-
-    number_before : (k : ℕ) → k < length before → slice_index_or (next ++ 1 ∷ []) k 0 ≡ slice_index_or next k 0
-    number_before k lt = grind (arith, get_or-append)
 
 -- a label that stood before, for which numbers were tried
 pub skipped_old : (before before' taken taken' : List Text) (next : List ℕ) (label t : Text) (n m : ℕ) → AreSkipped before taken next → before' ≡ with_text before label → taken' ≡ with_text taken t
@@ -99,11 +70,8 @@ any_default (x ∷ xs) (suc i) d e lt = any_default xs i d e (omega arith)
 pub next_number_of : (before before' taken : List Text) (next : List ℕ) (label : Text) (n first : ℕ) → AreSkipped before taken next → before' ≡ with_text before label → n ≡ number_of before label → n ≢ length before
     → slice_get before' n ≡ Some label → first ≡ slice_index_or next n first → (1 ≤ first) × IsSkipped taken label first
 next_number_of before before' _ next label n first inv put is other given read =
-    let lt = number_within _ _ n is other in
-    let at : first ≡ slice_index_or next n 0 = grind (arith, any_default) in (
-      grind arith,
-      grind (arith, text_numbered before before' label n put is other given),
-    )
+    let at : first ≡ slice_index_or next n 0 = grind (arith, any_default, number_within) in
+    (grind (arith, number_within), grind (arith, text_numbered before before' label n put is other given, number_within))
 
 -- its label
 pub next_old : (columns : ℕ) (before taken : List Text) (label t : Text) (n : ℕ) → n ≡ number_of before label → n ≢ length before → t ≡ free_label columns taken label → t ≡ next_label columns before taken label

@@ -45,18 +45,6 @@ module _ (texts : List Text) (keys : List (List Label)) (levels : ℕ) (alike : 
   abbrev pub kept : List ℕ
   kept = kept_numbers sorted dropna less holds_na how_many
 
-  pub kept_below : All (λ number. number < how_many) kept
-  kept_below = law.kept_below (seen_rules texts) tuple_laws [] sorted dropna keys _ _ below missing
-
-  pub keys_counted : length (group_keys (seen_rules texts) sorted dropna keys) ≡ length kept
-  keys_counted = law.keys_counted _ tuple_laws [] _ _ _ _ _ below missing
-
-  pub codes_recoded : group_codes (seen_rules texts) sorted dropna keys ≡ recoded (places_of kept how_many) (codes_of same_tuple keys)
-  codes_recoded = law.codes_recoded _ tuple_laws [] _ _ _ _ _ below missing
-
-  pub firsts_kept : map (place_among same_tuple keys) (group_keys (seen_rules texts) sorted dropna keys) ≡ map (first_row firsts) kept
-  firsts_kept = law.firsts_kept _ tuple_laws [] _ _ _ _ _ below missing
-
   -- what is made step by step
   module _ (firsts' : List ℕ) (first : firsts' ≡ firsts) where
     pub count_is : length firsts' ≡ how_many
@@ -70,16 +58,16 @@ module _ (texts : List Text) (keys : List (List Label)) (levels : ℕ) (alike : 
       kept_is = grind (arith, firsts_counted)
 
       pub below_count : All (λ number. number < length firsts') kept'
-      below_count = grind (arith, count_is, kept_is, kept_below)
+      below_count = rw (kept_is, count_is) (law.kept_below (seen_rules texts) tuple_laws [] sorted dropna keys _ _ below missing)
 
       pub groups_counted : length kept' ≡ length (group_keys (seen_rules texts) sorted dropna keys)
-      groups_counted = ap length kept_is ∙ sym keys_counted
+      groups_counted = ap length kept_is ∙ sym (law.keys_counted _ tuple_laws [] _ _ _ _ _ below missing)
 
       pub rows_are : (rows : List ℕ) → rows ≡ map (first_row firsts') kept' → rows ≡ map (place_among same_tuple keys) (group_keys (seen_rules texts) sorted dropna keys)
-      rows_are _ made = search (kept_is, firsts_kept)
+      rows_are _ made = made ∙ (λ i. map (first_row (first i)) (kept_is i)) ∙ sym (law.firsts_kept _ tuple_laws [] _ _ _ _ _ below missing)
 
       pub codes_are : (codes : List ℕ) → codes ≡ codes_of same_tuple keys → (made : List (Option ℕ)) → made ≡ recoded (places_of kept' (length firsts')) codes → made ≡ group_codes (seen_rules texts) sorted dropna keys
-      codes_are codes coded made is = search (kept_is, count_is, codes_recoded)
+      codes_are codes coded made is = is ∙ (λ i. recoded (places_of (kept_is i) (count_is i)) (coded i)) ∙ sym (law.codes_recoded _ tuple_laws [] _ _ _ _ _ below missing)
 
 -- the tuples of groups, and the law of groups for tuples
 module _ (texts : List Text) (keys : List (List Label)) (sorted dropna : Bool) where

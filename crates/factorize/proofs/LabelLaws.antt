@@ -1,6 +1,6 @@
 -- The labels of a row are those of its key.
 use Rattle.{
-  std.{proofs.{Common.{◌≡◌, ◌∙◌, ◌<◌, ◌≤◌, sym, arith, ℕ, List, [], length, slice_get, slice_index_or, Some}, Math.ListN.{get_or-map}, lemmas.{List.{length-map, same_lists, get_or_default, get_or_past, get_or-map as get_or-map-at, Elements.{All-map}, FromFn.{length-map-range_with_len, get_or-map-range_with_len}}, Option.{get_or_from_slice_get}}}, specs.List.{range_with_len}},
+  std.{proofs.{Common.{◌≡◌, ◌<◌, ◌≤◌, arith, ℕ, List, [], length, slice_get, slice_index_or, Some}, Math.ListN.{get_or-map}, lemmas.{List.{length-map, same_lists, get_or_default, get_or_past, get_or-map as get_or-map-at, Elements.{All-map}, FromFn.{length-map-range_with_len, get_or-map-range_with_len}}, Option.{get_or_from_slice_get}}}, specs.List.{range_with_len}},
   cell_core.specs.{declared.cell.{Cell.{Cell}, Label.{Label}}, Values.{label_datum}},
   column_core.specs.Columns.{CellColumn},
   row_groups.specs.Labels.{label_of_cell},
@@ -16,11 +16,7 @@ pub labels_there : (texts : List Text) (keys : List (List Label)) (levels row : 
 labels_there texts keys levels row alike lt =
     let key = slice_index_or keys row [] in
     same_lists (labels_of texts keys levels row) (tuple_seen texts key) (grind (arith, labels_counted, length-map))
-    (λ k d inside.
-    let below : k < levels = omega (arith, labels_counted texts keys levels row, inside) in
-    label_there _ _ _ row k d below
-    ∙ sym (get_or-map (label_datum texts) key k label.Na)
-    ∙ get_or_default (tuple_seen texts key) k (label_datum texts label.Na) d (omega (arith, below, (alike row [] lt), length-map key (label_datum texts))))
+    (λ k d inside. grind (arith, labels_counted, label_there, get_or-map (label_datum texts) key k label.Na, get_or_default (tuple_seen texts key) k (label_datum texts label.Na) d, length-map key (label_datum texts)))
 
 -- the keys of columns
 pub columns_alike : (columns : List CellColumn) (count : ℕ) → HaveLevels (length columns) (column_keys columns count)

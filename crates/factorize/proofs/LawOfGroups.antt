@@ -1,6 +1,6 @@
 -- What factorize answers are groups.
 use Rattle.{
-  std.{proofs.{Common.{rules, ◌≡◌, ◌∙◌, ◌+◌, ◌<◌, ◌≤◌, ◌||◌, ap, refl, arith, ℕ, zero, suc, Bool, true, false, not, cond, List, [], ◌∷◌, filter, length, All, slice_index_or, nat_lt, Option, None}, lemmas.{Bool.{false≢true, true≢false, not-true, not-false, ltb-true, lt-ltb, eqb-true, eq-eqb, cases_lt}, List.{length-map, get_or-map, Elements.{All-cons, All-head, All-tail, All-filter, filter_passes}, Sums.{passes_at_first, position_or_len_is}}}}, specs.{List.{list_any, position_or_len}, Cmp.{IsEquivalence, IsStrictWeakOrder}}},
+  std.{proofs.{Common.{rules, ◌≡◌, ◌+◌, ◌<◌, ◌≤◌, ◌||◌, refl, arith, ℕ, suc, Bool, true, false, not, cond, List, [], ◌∷◌, filter, length, All, slice_index_or, nat_lt, Option, None}, lemmas.{Bool.{false≢true, true≢false, not-true, not-false, ltb-true, lt-ltb, eqb-true, eq-eqb, cases_lt}, List.{length-map, get_or-map, Elements.{All-cons, All-head, All-tail, All-filter, filter_passes}, Sums.{passes_at_first, position_or_len_is}}}}, specs.{List.{list_any, position_or_len}, Cmp.{IsEquivalence, IsStrictWeakOrder}}},
   meaning.specs.Reduce.{distinct},
   sorting.specs.Sorting.{put_in, in_order},
   align_meaning.proofs.OrderLaws.{all_put_in, all_in_order},
@@ -13,9 +13,7 @@ use Rattle.{
 -- none passes, so that the first place is behind the end
 none_at : {X : Type 0} (p : X → Bool) (xs : List X) → All (λ x. p x ≡ false) xs → length xs ≤ position_or_len p xs
 none_at p [] all = omega arith
-none_at p (x ∷ xs) all =
-    let here : position_or_len p (x ∷ xs) ≡ 1 + position_or_len p xs = cc (All-head (λ y. p y ≡ false) x xs all) in
-    omega (arith, here, none_at p xs (All-tail (λ y. p y ≡ false) x xs all))
+none_at p (x ∷ xs) all = grind (arith, All-head (λ y. p y ≡ false) x xs all, none_at p xs (All-tail (λ y. p y ≡ false) x xs all))
 
 any_put_in : {X : Type 0} (p : X → Bool) (less : X → X → Bool) (x : X) (ys : List X) → list_any p (put_in less x ys) ≡ (p x || list_any p ys)
 any_put_in p _ x [] = refl
@@ -28,26 +26,17 @@ any_in_order p less (x ∷ xs) = search (any_put_in, any_in_order p less xs)
 -- an element that passes is left by a filter that keeps all such elements
 any_kept : {X : Type 0} (p r : X → Bool) → ((q : X) → p q ≡ true → r q ≡ true) → (xs : List X) → list_any p (filter r xs) ≡ list_any p xs
 any_kept p r _ [] = refl
-any_kept p r keeps (x ∷ xs) = grind (arith, false≢true, any_kept p r keeps xs)
+any_kept p r keeps (x ∷ xs) = grind (arith, any_kept p r keeps xs)
 
 module _ {K : Type 0} (same : K → K → Bool) (laws : IsEquivalence same) where
   apart_filter : (p : K → Bool) (ks : List K) → Apart same ks → Apart same (filter p ks)
   apart_filter p [] _ = tt
-  apart_filter p (k ∷ ks) apart = elim (p k) as (λ b. Apart same (cond b (k ∷ filter p ks) (filter p ks))) [
-    | true ↦ (All-filter p (λ q. not (same q k) ≡ true) ks apart.0, apart_filter p ks apart.1)
-    | false ↦ apart_filter p ks apart.1
-  ]
+  apart_filter p (k ∷ ks) apart = grind (arith, All-filter p (λ q. not (same q k) ≡ true) ks apart.0, apart_filter p ks apart.1)
 
   module _ (less : K → K → Bool) where
     apart_put_in : (x : K) (ys : List K) → All (λ q. not (same q x) ≡ true) ys → Apart same ys → Apart same (put_in less x ys)
     apart_put_in x [] other _ = (other, tt)
-    apart_put_in x (y ∷ ys) other apart = elim (less y x) as (λ b. Apart same (cond b (y ∷ put_in less x ys) (x ∷ y ∷ ys))) [
-      | true ↦ (
-        all_put_in (λ q. not (same q y) ≡ true) less x ys (ap not (laws.symm x y) ∙ All-head (λ q. not (same q x) ≡ true) y ys other) apart.0,
-        apart_put_in x ys (All-tail (λ q. not (same q x) ≡ true) y ys other) apart.1,
-      )
-      | false ↦ (other, apart)
-    ]
+    apart_put_in x (y ∷ ys) other apart = grind (arith, laws.symm x y, All-head (λ q. not (same q x) ≡ true) y ys other, all_put_in (λ q. not (same q y) ≡ true) less x ys, apart_put_in x ys (All-tail (λ q. not (same q x) ≡ true) y ys other) apart.1)
 
     apart_in_order : (xs : List K) → Apart same xs → Apart same (in_order less xs)
     apart_in_order [] _ = tt
@@ -116,18 +105,12 @@ module _ {X : Type 0} (wrong : X → X → Bool) where
   Rises (x ∷ xs) = All (λ y. wrong y x ≡ false) xs × Rises xs
 
   rises_at : (xs : List X) → Rises xs → (i j : ℕ) (d : X) → i < j → j < length xs → wrong (slice_index_or xs j d) (slice_index_or xs i d) ≡ false
-  rises_at [] up i j = grind arith
-  rises_at (x ∷ xs) up zero zero = grind arith
-  rises_at (x ∷ xs) up zero (suc j) = grind arith
-  rises_at (x ∷ xs) up (suc i) zero = grind arith
   rises_at (x ∷ xs) up (suc i) (suc j) = grind (arith, rises_at xs up.1)
+  rises_at _ up _ _ = grind arith
 
   rises_filter : (p : X → Bool) (xs : List X) → Rises xs → Rises (filter p xs)
   rises_filter p [] _ = tt
-  rises_filter p (x ∷ xs) up = elim (p x) as (λ b. Rises (cond b (x ∷ filter p xs) (filter p xs))) [
-    | true ↦ (All-filter p (λ y. wrong y x ≡ false) xs up.0, rises_filter p xs up.1)
-    | false ↦ rises_filter p xs up.1
-  ]
+  rises_filter p (x ∷ xs) up = grind (arith, All-filter p (λ y. wrong y x ≡ false) xs up.0, rises_filter p xs up.1)
 
 in_order_rises : {X : Type 0} (less : X → X → Bool) → IsStrictWeakOrder less → (xs : List X) → Rises less (in_order less xs)
 in_order_rises {X} _ _ [] = tt

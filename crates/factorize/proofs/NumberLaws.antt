@@ -1,6 +1,6 @@
 -- What is made of the numbers of keys is what is made of the keys.
 use Rattle.{
-  std.{proofs.{Common.{rules, ◌≡◌, ◌∙◌, ◌==◌, ◌<◌, ap, refl, sym, ℕ, Bool, true, false, cond, List, [], ◌∷◌, map, filter, length, All, slice_index_or, None, arith}, lemmas.List.{length-map, get_or-map, FromFn.{fill_by_all, get_or-map-range_with_len}, Elements.{All-filter}}}, specs.{List.{list_any, position, range_with_len}, Cmp.{IsEquivalence}}},
+  std.{proofs.{Common.{rules, ◌≡◌, ◌∙◌, ◌==◌, ◌<◌, refl, sym, ℕ, Bool, true, false, cond, List, [], ◌∷◌, map, filter, length, All, slice_index_or, None, arith}, lemmas.List.{length-map, get_or-map, FromFn.{fill_by_all, get_or-map-range_with_len}, Elements.{All-filter}}}, specs.{List.{list_any, position, range_with_len}, Cmp.{IsEquivalence}}},
   meaning.specs.Reduce.{distinct},
   sorting.specs.Sorting.{in_order},
   align_meaning.proofs.OrderLaws.{all_in_order, in_order_map},
@@ -54,12 +54,7 @@ module _ {K : Type 0} (rules : KeyRules K) (laws : IsEquivalence rules.same) (d 
     kept_below = All-filter _ IsNumber _ ordered_numbers
 
     ordered_keys : ordered_if sorted rules.less keys ≡ map key_at ordered
-    ordered_keys =
-        ap (ordered_if sorted rules.less) keys_numbered
-        ∙ (elim sorted as (λ b. cond b (in_order rules.less (map key_at numbers)) (map key_at numbers) ≡ map key_at (cond b (in_order less numbers) numbers)) [
-          | true ↦ in_order_map _ _ _ _ below numbers all_numbers
-          | false ↦ refl
-        ])
+    ordered_keys = grind (arith, keys_numbered, in_order_map IsNumber key_at less rules.less below numbers all_numbers)
 
     kept_agrees : (i : ℕ) → IsNumber i → is_kept dropna rules.holds_na (key_at i) ≡ is_kept dropna holds_na i
     kept_agrees = grind arith

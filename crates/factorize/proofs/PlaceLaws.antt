@@ -57,7 +57,5 @@ recoded_inside kept count codes below =
 pub all_recoded : (places : List (Option ℕ)) (codes made : List ℕ) → length made ≡ length codes
     → ((k : ℕ) → k < length codes → slice_index_or made k 0 ≡ number_in (slice_index_or places (slice_index_or codes k 0) None)) → made ≡ map number_in (recoded places codes)
 all_recoded places codes made size each =
-    let place : ℕ → ℕ = λ n. number_in (slice_index_or places n None) in
-    same_lists made (map place codes) (size ∙ sym (length-map codes _))
-    (λ k d lt. grind (arith, get_or_default, get_or-map))
+    same_lists made (map (λ n. number_in (slice_index_or places n None)) codes) (size ∙ sym (length-map codes _)) (λ k d lt. grind (arith, get_or_default, get_or-map))
     ∙ sym (map_map _ _ _)

@@ -1,14 +1,14 @@
 -- No form on values has the fault that a file isn't there.
 use Rattle.{
   std.{proofs.Common.{arith}, specs.Prelude.{ℕ, Bool, true, false, List, [], ◌∷◌, Option, Some, None, Result, Err, if◌then◌else◌}},
-  cell_core.specs.declared.{cell.Kind.{Kind}, grid.Shape.{Shape, TheVariants.{Series, Frame}}},
+  cell_core.specs.declared.grid.Shape.{Shape, TheVariants.{Series, Frame}},
   meaning.specs.{Text.{Text}, Cell.{CellValue, LabelValue}, Column.{ColumnValue, ColumnFault}, Fault.{FaultValue, wrong_kind, bad_value, not_aligned, then_value}},
   language_meaning.specs.Tree.{Binary},
   align_meaning.specs.Faults.{AlignRefusal, met_rows},
-  table_meaning.specs.{Table.{ColumnOf, Table, column_at}, Value.{Entry, cell, table, Given, GivenList, NamedGiven}},
-  form_meaning.specs.{declared.Function.{Function}, Binding.{Bound, on_bound}, Finish.{column_labels, limited_table, limited, unless_repeated, finished, fault_of_column, made_column, try_all}, Select.{found, column_place, column_places, length_result}, Infix.{Meeting, has_one, same_tuple, compares, infix_table, on_levels, rows_infix, joined_frames, frame_infix, takes_each, labels_fit, spread_frame, joined_turned, across_unequal, across_infix, table_infix, infix_result, sign_result}, Set.{list_column, of_length}, Make.{cast_to, with_index, on, all_of_length, frame_result}, Functions.{constructed, made_named, make_result}},
+  table_meaning.specs.{Table.{ColumnOf, Table, column_at}, Value.{Entry, cell, table, Given, NamedGiven}},
+  form_meaning.specs.{declared.Function.{Function}, Binding.{Bound, on_bound}, Finish.{column_labels, limited_table, limited, unless_repeated, finished, made_column, try_all}, Select.{found, column_place, column_places, length_result}, Infix.{Meeting, has_one, same_tuple, compares, infix_table, on_levels, rows_infix, joined_frames, frame_infix, takes_each, labels_fit, spread_frame, joined_turned, across_unequal, across_infix, table_infix, infix_result, sign_result}, Set.{of_length}, Make.{on, all_of_length}, Functions.{constructed, made_named, make_result}},
   method_meaning.specs.Readers.{file_name_of, csv_result, read_result, make_with},
-  fault_laws.specs.FormFault.{IsOfForm, HasFormFault},
+  fault_laws.specs.FormFault.{HasFormFault},
 }
 
 -- what forms share
@@ -33,11 +33,8 @@ unless_repeated_fault = grind arith
 pub finished_fault : (t : Table) → HasFormFault (finished t)
 finished_fault t = unless_repeated_fault _ _ (limited_fault t)
 
-pub column_fault : (f : ColumnFault) → IsOfForm (fault_of_column f)
-column_fault = grind arith
-
 pub made_column_fault : (r : Result ColumnValue ColumnFault) → HasFormFault (made_column r)
-made_column_fault = grind (arith, column_fault)
+made_column_fault = grind arith
 
 pub try_all_fault : {A B : Type 0} (f : A → Result B FaultValue) (xs : List A) → ((x : A) → HasFormFault (f x)) → HasFormFault (try_all f xs)
 try_all_fault f [] _ = tt
@@ -106,19 +103,8 @@ infix_result_fault _ (table a) (table b) = search table_infix_fault
 pub sign_result_fault : (m : Bool) (v : Entry) → HasFormFault (sign_result m v)
 sign_result_fault = grind (arith, infix_table_fault, if_fault, then_value_fault, try_all_fault, made_column_fault)
 
--- the cells of a list as a column, and its length
-pub list_column_fault : (cells : List CellValue) → HasFormFault (list_column cells)
-list_column_fault = search (if_fault)
-
 pub of_length_fault : {A : Type 0} (expected got : ℕ) (rest : Result A FaultValue) → HasFormFault rest → HasFormFault (of_length expected got rest)
 of_length_fault _ _ _ next = search (if_fault, next)
-
--- constructors
-cast_to_fault : (kind : Option Kind) (c : ColumnOf CellValue) → HasFormFault (cast_to kind c)
-cast_to_fault = grind (arith, made_column_fault)
-
-with_index_fault : (rows : ℕ) (index : Option GivenList) (go : List (List LabelValue) → Result Entry FaultValue) → ((labels : List (List LabelValue)) → HasFormFault (go labels)) → HasFormFault (with_index rows index go)
-with_index_fault = grind (arith, of_length_fault, if_fault)
 
 pub on_fault : {A B : Type 0} (o : Option A) (go : A → Result B FaultValue) → ((a : A) → HasFormFault (go a)) → HasFormFault (on o go)
 on_fault = grind arith
@@ -127,12 +113,9 @@ all_of_length_fault : (expected : ℕ) (columns : List (ColumnOf CellValue)) (re
 all_of_length_fault _ [] _ next = next
 all_of_length_fault expected (c ∷ cs) rest next = of_length_fault _ _ _ (all_of_length_fault expected cs rest next)
 
-frame_result_fault : (gs : List Given) → HasFormFault (frame_result gs)
-frame_result_fault = grind (arith, on_fault, if_fault, then_value_fault, try_all_fault, list_column_fault, limited_fault, all_of_length_fault, with_index_fault)
-
 -- functions
 constructed_fault : (f : Function) (gs : List Given) → HasFormFault (constructed f gs)
-constructed_fault = grind (arith, on_fault, then_value_fault, list_column_fault, cast_to_fault, with_index_fault, limited_fault, frame_result_fault)
+constructed_fault = grind (arith, on_fault, then_value_fault, made_column_fault, of_length_fault, if_fault, limited_fault, try_all_fault, all_of_length_fault)
 
 made_named_fault : (f : Option Function) (name : Text) (gs : List NamedGiven) → HasFormFault (made_named f name gs)
 made_named_fault = grind (arith, if_fault, on_bound_fault, constructed_fault)

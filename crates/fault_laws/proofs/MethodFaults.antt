@@ -1,12 +1,12 @@
 -- No method has the fault that a file isn't there.
 use Rattle.{
+  fault_laws.{proofs.{FormFaults.{if_fault, then_value_fault, of_length_fault, unless_repeated_fault, met_rows_fault, on_bound_fault, limited_fault, finished_fault, made_column_fault, try_all_fault, found_fault, column_places_fault, on_fault}, SelectFaults.{found_pick_fault, whole_items_fault}}, specs.FormFault.{HasFormFault}},
   std.{proofs.Common.{arith}, specs.Prelude.{ℤ, Bool, true, false, List, [], ◌∷◌, Option, Result}},
   cell_core.specs.declared.grid.Shape.{Shape, TheVariants.{Series, Frame}},
   meaning.specs.{Text.{Text}, Cell.{CellValue, LabelValue}, Fault.{FaultValue}},
   table_meaning.specs.{Table.{ColumnOf, Table}, Value.{Entry, Given, GivenList, NamedGiven}},
   form_meaning.specs.declared.Method.{Method},
-  method_meaning.specs.{Rows.{head_result, tail_result, subset_places, duplicated_result, sort_by_result, drop_result}, Methods.{each_column, filled_column, Summary, summary_cell, summary_of, renamed_frame, reset_index_result, csv_answer, answer_for}, Levels.{rename_axis_result, set_index_result, renumbered, level_of, droplevel_result, swaplevel_result}, Reindex.{reindex_rows, reindex_columns, reindex_result}, Section.{xs_result}, Calls.{ChainValue, method_result, chain_result}},
-  fault_laws.{specs.FormFault.{HasFormFault}, proofs.{GroupFaults.{grouped_result_fault}, FormFaults.{if_fault, then_value_fault, of_length_fault, unless_repeated_fault, met_rows_fault, list_column_fault, on_bound_fault, limited_fault, finished_fault, column_fault, made_column_fault, try_all_fault, found_fault, column_places_fault, on_fault}, SelectFaults.{found_pick_fault, whole_items_fault}}},
+  method_meaning.specs.{Rows.{head_result, tail_result, duplicated_result, sort_by_result, drop_result}, Methods.{each_column, filled_column, Summary, summary_cell, summary_of, renamed_frame, reset_index_result, csv_answer, answer_for}, Levels.{rename_axis_result, set_index_result, renumbered, droplevel_result, swaplevel_result}, Reindex.{reindex_result}, Section.{xs_result}, Calls.{method_result}},
 }
 use Rattle.form_meaning.specs.declared.Method.TheVariants as method
 use Rattle.form_meaning.specs.declared.ColumnMethod.TheVariants as column_method
@@ -23,7 +23,7 @@ filled_column_fault : (value : CellValue) (c : ColumnOf CellValue) → HasFormFa
 filled_column_fault = search (if_fault)
 
 summary_cell_fault : (op : Summary) (c : ColumnOf CellValue) → HasFormFault (summary_cell op c)
-summary_cell_fault = grind (arith, column_fault)
+summary_cell_fault = grind arith
 
 summary_of_fault : (s : Shape) (op : Summary) (t : Table) → HasFormFault (summary_of s op t)
 summary_of_fault Series op t = then_value_fault _ _ (summary_cell_fault op _) (λ c. tt)
@@ -42,11 +42,8 @@ head_fault = search (limited_fault)
 tail_fault : (t : Table) (n : ℤ) → HasFormFault (tail_result t n)
 tail_fault = search (if_fault, limited_fault)
 
-subset_fault : (t : Table) (subset : Given) → HasFormFault (subset_places t subset)
-subset_fault = grind (arith, column_places_fault)
-
 duplicated_fault : (t : Table) (subset : Given) → HasFormFault (duplicated_result t subset)
-duplicated_fault = search (then_value_fault, subset_fault, limited_fault)
+duplicated_fault = grind (then_value_fault, arith, column_places_fault, limited_fault)
 
 sort_by_fault : (t : Table) (ascending : Bool) (by : Given) → HasFormFault (sort_by_result t ascending by)
 sort_by_fault = search (then_value_fault, column_places_fault, limited_fault)
@@ -63,29 +60,19 @@ set_index_fault = search (then_value_fault, column_places_fault, unless_repeated
 
 reset_index_fault : (t : Table) (drop : Bool) → HasFormFault (reset_index_result t drop)
 reset_index_fault t true = limited_fault (renumbered t)
-reset_index_fault t false = search (then_value_fault, try_all_fault, list_column_fault, finished_fault)
-
-level_of_fault : (t : Table) (level : Option CellValue) → HasFormFault (level_of t level)
-level_of_fault = grind (arith, found_pick_fault, found_fault)
+reset_index_fault t false = search (then_value_fault, try_all_fault, if_fault, finished_fault)
 
 droplevel_fault : (t : Table) (level : Option CellValue) → HasFormFault (droplevel_result t level)
-droplevel_fault = search (then_value_fault, level_of_fault, if_fault, limited_fault)
+droplevel_fault = grind (then_value_fault, arith, found_pick_fault, found_fault, if_fault, limited_fault)
 
 swaplevel_fault : (t : Table) (i j : Option CellValue) → HasFormFault (swaplevel_result t i j)
-swaplevel_fault = search (then_value_fault, level_of_fault, limited_fault)
-
--- rows or columns by labels
-reindex_rows_fault : (t : Table) (items : GivenList) → HasFormFault (reindex_rows t items)
-reindex_rows_fault = search (then_value_fault, whole_items_fault, met_rows_fault, limited_fault)
-
-reindex_columns_fault : (t : Table) (items : GivenList) → HasFormFault (reindex_columns t items)
-reindex_columns_fault = search (then_value_fault, whole_items_fault, met_rows_fault, finished_fault)
+swaplevel_fault = grind (then_value_fault, arith, found_pick_fault, found_fault, limited_fault)
 
 reindex_fault : (t : Table) (rows columns : Option GivenList) → HasFormFault (reindex_result t rows columns)
-reindex_fault = grind (arith, reindex_rows_fault, reindex_columns_fault)
+reindex_fault = grind (arith, then_value_fault, whole_items_fault, met_rows_fault, limited_fault, finished_fault)
 
 xs_fault : (t : Table) (key : CellValue) (level : Option CellValue) → HasFormFault (xs_result t key level)
-xs_fault = search (if_fault, then_value_fault, level_of_fault, found_pick_fault, limited_fault)
+xs_fault = grind (if_fault, then_value_fault, arith, found_fault, found_pick_fault, limited_fault)
 
 ruleset answers = (
   on_fault,
@@ -125,6 +112,3 @@ answer_for_fault m _ t = search answers
 
 pub method_result_fault : (v : Entry) (name : Text) (gs : List NamedGiven) → HasFormFault (method_result v name gs)
 method_result_fault = grind (arith, if_fault, on_bound_fault, answer_for_fault)
-
-pub chain_result_fault : (v : Entry) (chain : ChainValue) (gs : List NamedGiven) → HasFormFault (chain_result v chain gs)
-chain_result_fault = grind (arith, method_result_fault, grouped_result_fault)

@@ -2,38 +2,21 @@
 use Rattle.{
   std.{proofs.Common.{arith}, specs.Prelude.{ℕ, Bool, true, false, List, Option, Some, None, Result}},
   cell_core.specs.declared.grid.Shape.{Shape, TheVariants.{Series, Frame}},
-  meaning.specs.{Cell.{CellValue, int_cell, LabelValue}, Symbol.{Accessor}},
-  table_meaning.specs.{Table.{Table}, Value.{Entry, cell, table, Given, GivenList, GivenSub, no_given, more_given, one, row, many, key_given, span_given}},
+  meaning.specs.{Cell.{int_cell, LabelValue}, Symbol.{Accessor}},
+  table_meaning.specs.{Table.{Table}, Value.{Entry, cell, table, GivenList, GivenSub, no_given, more_given, one, row, many, key_given, span_given}},
   pick_meaning.specs.Faults.{PickFault},
-  select_meaning.specs.{Keys.{tuple_label, whole_item, whole_items, label_key, place_bound, whole_cell, place_key, found_pick, place_pick, loc_rows, loc_columns, whole_key, rows_by, columns_by, pair_key, joined_key, reach_by}, Select.{Way, as_series, shown_as, columns_reach, mask_reach, frame_reach, item_reach, select_result}},
+  select_meaning.specs.{Keys.{whole_items, place_key, found_pick, place_pick, loc_rows, loc_columns, rows_by, columns_by, joined_key, reach_by}, Select.{Way, as_series, shown_as, columns_reach, mask_reach, frame_reach, item_reach, select_result}},
   fault_laws.{specs.FormFault.{HasFormFault}, proofs.FormFaults.{if_fault, then_value_fault, limited_fault, finished_fault, try_all_fault, column_place_fault, column_places_fault}},
 }
 
--- keys by label
-tuple_label_fault : (levels : ℕ) (parts : GivenList) → HasFormFault (tuple_label levels parts)
-tuple_label_fault = search (if_fault)
-
-whole_item_fault : (levels : ℕ) (g : Given) → HasFormFault (whole_item levels g)
-whole_item_fault = grind (arith, if_fault)
-
 pub whole_items_fault : (levels : ℕ) (parts : GivenList) → HasFormFault (whole_items levels parts)
 whole_items_fault _ no_given = tt
-whole_items_fault levels (more_given g rest) = search (then_value_fault, whole_item_fault, whole_items_fault levels rest)
-
-label_key_fault : (levels : ℕ) (k : GivenSub) → HasFormFault (label_key levels k)
-label_key_fault = grind (arith, then_value_fault, tuple_label_fault, whole_items_fault)
-
--- keys by position
-place_bound_fault : (g : Given) → HasFormFault (place_bound g)
-place_bound_fault = grind arith
-
-whole_cell_fault : (c : CellValue) → HasFormFault (whole_cell c)
-whole_cell_fault = grind arith
+whole_items_fault levels (more_given g rest) = grind (then_value_fault, arith, if_fault, whole_items_fault levels rest)
 
 place_key_fault : (k : GivenSub) → HasFormFault (place_key k)
 place_key_fault (key_given (one (cell (int_cell z)))) = tt
-place_key_fault (key_given (many parts)) = search (then_value_fault, if_fault, try_all_fault, whole_cell_fault)
-place_key_fault (span_given from to by) = search (then_value_fault, place_bound_fault)
+place_key_fault (key_given (many parts)) = grind (then_value_fault, if_fault, try_all_fault, arith)
+place_key_fault (span_given from to by) = grind (then_value_fault, arith)
 place_key_fault k = tt
 
 pub found_pick_fault : {A : Type 0} (r : Result A (PickFault (List LabelValue))) → HasFormFault (found_pick r)
@@ -44,27 +27,20 @@ place_pick_fault _ k = then_value_fault _ _ (place_key_fault k) (λ key. found_p
 
 loc_rows_fault : (t : Table) (k : GivenSub) → HasFormFault (loc_rows t k)
 loc_rows_fault t (key_given (one (table m))) = search (if_fault, then_value_fault, found_pick_fault)
-loc_rows_fault t k = search (then_value_fault, label_key_fault, found_pick_fault)
+loc_rows_fault t k = grind (then_value_fault, arith, if_fault, whole_items_fault, found_pick_fault)
 
 loc_columns_fault : (t : Table) (k : GivenSub) → HasFormFault (loc_columns t k)
 loc_columns_fault t (key_given (row parts)) = tt
-loc_columns_fault t k = search (then_value_fault, label_key_fault, found_pick_fault)
-
-whole_key_fault : (levels : ℕ) (k : GivenSub) → HasFormFault (whole_key levels k)
-whole_key_fault = grind (arith, if_fault)
+loc_columns_fault t k = grind (then_value_fault, arith, if_fault, whole_items_fault, found_pick_fault)
 
 pub rows_by_fault : (by : Accessor) (t : Table) (k : GivenSub) → HasFormFault (rows_by by t k)
-rows_by_fault = grind (arith, loc_rows_fault, place_pick_fault, then_value_fault, whole_key_fault, found_pick_fault, if_fault)
+rows_by_fault = grind (arith, loc_rows_fault, place_pick_fault, then_value_fault, found_pick_fault, if_fault)
 
 pub columns_by_fault : (by : Accessor) (t : Table) (k : GivenSub) → HasFormFault (columns_by by t k)
-columns_by_fault = grind (arith, loc_columns_fault, place_pick_fault, then_value_fault, whole_key_fault)
-
--- two keys of a Series as one
-pair_key_fault : (a b : Option CellValue) → HasFormFault (pair_key a b)
-pair_key_fault = grind arith
+columns_by_fault = grind (arith, loc_columns_fault, place_pick_fault, then_value_fault, if_fault)
 
 pub joined_key_fault : (by : Accessor) (levels : ℕ) (first second : GivenSub) → HasFormFault (joined_key by levels first second)
-joined_key_fault = search (if_fault, pair_key_fault)
+joined_key_fault = grind (if_fault, arith)
 
 reach_by_fault : (s : Shape) (by : Accessor) (t : Table) (first : GivenSub) (second : Option GivenSub) → HasFormFault (reach_by s by t first second)
 reach_by_fault = grind (arith, then_value_fault, rows_by_fault, joined_key_fault, if_fault, columns_by_fault)

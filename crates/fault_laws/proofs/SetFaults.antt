@@ -6,8 +6,8 @@ use Rattle.{
   table_meaning.specs.{Table.{Table}, Value.{Entry, Given, GivenSub}},
   form_meaning.specs.Finish.{column_labels},
   pick_meaning.specs.Keys.{Pick},
-  select_meaning.specs.{Keys.{columns_by}, Select.{Way}, Set.{SetValue, set_value, series_set, frame_set, Reached, added_label, or_added, columns_set, Target, target_by, aligned_values, values_for, with_new_column, target_set, assign_result, removal_result}},
-  fault_laws.{specs.FormFault.{HasFormFault}, proofs.{FormFaults.{if_fault, then_value_fault, met_rows_fault, limited_table_fault, list_column_fault, of_length_fault, column_place_fault}, SelectFaults.{joined_key_fault, rows_by_fault, columns_by_fault}}},
+  select_meaning.specs.{Keys.{columns_by}, Select.{Way}, Set.{SetValue, set_value, series_set, frame_set, added_label, or_added, columns_set, Target, target_by, values_for, target_set, assign_result, removal_result}},
+  fault_laws.{specs.FormFault.{HasFormFault}, proofs.{FormFaults.{if_fault, then_value_fault, met_rows_fault, limited_table_fault, of_length_fault, column_place_fault}, SelectFaults.{joined_key_fault, rows_by_fault, columns_by_fault}}},
 }
 
 set_value_fault : (g : Given) → HasFormFault (set_value g)
@@ -17,7 +17,7 @@ series_set_fault : (t : Table) (l : LabelValue) (s : Table) → HasFormFault (se
 series_set_fault = search (if_fault, then_value_fault, met_rows_fault, limited_table_fault)
 
 frame_set_fault : (t : Table) (k : GivenSub) (g : Given) → HasFormFault (frame_set t k g)
-frame_set_fault = grind (arith, then_value_fault, set_value_fault, limited_table_fault, list_column_fault, if_fault, of_length_fault, series_set_fault)
+frame_set_fault = grind (arith, then_value_fault, set_value_fault, limited_table_fault, if_fault, of_length_fault, series_set_fault)
 
 -- what keys reach
 or_added_fault : (added : Option LabelValue) (tuples : List (List LabelValue)) (pick : Result Pick FaultValue) → HasFormFault pick → HasFormFault (or_added added tuples pick)
@@ -29,17 +29,11 @@ columns_set_fault by t k = or_added_fault (added_label by k) (column_labels t) (
 target_by_fault : (s : Shape) (by : Accessor) (t : Table) (first : GivenSub) (second : Option GivenSub) → HasFormFault (target_by s by t first second)
 target_by_fault = grind (arith, then_value_fault, or_added_fault, rows_by_fault, joined_key_fault, if_fault, columns_set_fault)
 
-aligned_values_fault : (t : Table) (rows : Reached) (s : Table) → HasFormFault (aligned_values t rows s)
-aligned_values_fault = search (then_value_fault, if_fault, met_rows_fault)
-
 values_fault : (by : Accessor) (t : Table) (target : Target) (value : SetValue) → HasFormFault (values_for by t target value)
-values_fault = grind (arith, if_fault, of_length_fault, aligned_values_fault)
-
-new_column_fault : (t : Table) (added : Option LabelValue) (value : SetValue) → HasFormFault (with_new_column t added value)
-new_column_fault = grind (arith, then_value_fault, list_column_fault)
+values_fault = grind (arith, if_fault, of_length_fault, then_value_fault, met_rows_fault)
 
 target_set_fault : (by : Accessor) (t : Table) (value : SetValue) (target : Target) → HasFormFault (target_set by t value target)
-target_set_fault = search (if_fault, then_value_fault, values_fault, new_column_fault, limited_table_fault)
+target_set_fault = grind (if_fault, then_value_fault, values_fault, arith, limited_table_fault)
 
 pub assign_result_fault : (v : Entry) (way : Way) (first : GivenSub) (second : Option GivenSub) (g : Given) → HasFormFault (assign_result v way first second g)
 assign_result_fault = grind (arith, then_value_fault, set_value_fault, target_by_fault, target_set_fault, frame_set_fault)

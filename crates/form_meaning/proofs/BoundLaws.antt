@@ -1,7 +1,7 @@
 -- What stands at a place of bound arguments is taken by its parameter.
 use Rattle.{
   std.{proofs.{Common.{arith, ◌≡◌, ◌∙◌, refl, ap, sym, ℕ, Bool, true, false, cond, List, [], ◌∷◌, Option, Some, None, if◌then◌else◌}, lemmas.Bool.{eqb-true}}, specs.Prelude.{slice_get, nat_eq}},
-  table_meaning.specs.Value.{cell, table, Given, GivenList, NamedGiven, nothing, one, row, many, entries, list_in},
+  table_meaning.specs.Value.{Given, GivenList, NamedGiven, many, list_in},
   form_meaning.specs.{declared.{Omitted.{Omitted}, Parameter.{Parameter}}, Binding.{takes, list_has, stands_for, or_stand_in, goes_to, counted, given_at, taken_by, fit, argument_at, arguments_from, not_taken, not_listed, bound, bound_of}},
 }
 use Rattle.form_meaning.specs.declared.Omitted.TheVariants as omitted
@@ -34,11 +34,7 @@ no_default (omitted.Text t) _ is = cc
 
 taken_list : (p : Parameter) (a : Given) (parts : GivenList) → takes p a ≡ true → list_in a ≡ Some parts → list_has p.form parts ≡ true
 taken_list p (many parts') _ taken is = search some_is
-taken_list p (one (cell c)) _ taken is = cc
-taken_list p (one (table t)) _ taken is = cc
-taken_list p nothing _ taken is = cc
-taken_list p (row more) _ taken is = cc
-taken_list p (entries pairs) _ taken is = cc
+taken_list p _ _ taken is = cc
 
 list_of : (p : Parameter) (o : Option Given) (parts : GivenList) → ((a : Given) → o ≡ Some a → takes p a ≡ true) → list_in (or_stand_in o (Some p)) ≡ Some parts → list_has p.form parts ≡ true
 list_of p None _ taken is = search no_default

@@ -2,7 +2,7 @@
 use Rattle.{
   std.proofs.{Common.{◌≡◌, ◌<◌, ◌≤◌, refl, ℕ, nat_eq, nat_lt, ◌&&◌, Bool, true, false, List, length, slice_get, Option, Some, None, All, arith}, lemmas.{Bool.Decides.{nat_tests}, List.Elements.{All-nil}}},
   meaning.specs.Cell.{LabelValue},
-  table_meaning.specs.Value.{cell, table, Given, GivenList, NamedGiven, no_given, more_given, nothing, one, row, many, entries, list_in},
+  table_meaning.specs.Value.{cell, Given, GivenList, NamedGiven, no_given, more_given, one, row, list_in},
   form_meaning.{specs.{declared.Parameter.{Parameter}, Binding.{is_scalar, each, count_of, is_tuple_of, are_row_labels, argument_at, bound, bound_of}, Select.{labels_of}, Make.{row_labels, index_labels, AreAlike}}, proofs.BoundLaws.{list_taken}},
 }
 use Rattle.form_meaning.specs.declared.Form.TheVariants as form
@@ -21,29 +21,18 @@ below = grind (arith, nat_tests)
 labels_count : (parts : GivenList) → each is_scalar parts ≡ true → length (labels_of parts) ≡ count_of parts
 labels_count no_given h = refl
 labels_count (more_given (one (cell c)) rest) h = grind (arith, labels_count rest h)
-labels_count (more_given (one (table t)) rest) h = cc
-labels_count (more_given nothing rest) h = cc
-labels_count (more_given (row parts) rest) h = cc
-labels_count (more_given (many parts) rest) h = cc
-labels_count (more_given (entries pairs) rest) h = cc
+labels_count _ h = cc
 
 abbrev Has : ℕ → List LabelValue → Type 0
 Has n tuple = length tuple ≡ n
 
 scalar_labels : (g : Given) → is_scalar g ≡ true → Has 1 (row_labels g)
 scalar_labels (one (cell c)) h = refl
-scalar_labels (one (table t)) h = cc
-scalar_labels nothing h = cc
-scalar_labels (row parts) h = cc
-scalar_labels (many parts) h = cc
-scalar_labels (entries pairs) h = cc
+scalar_labels _ h = cc
 
 tuple_labels : (n : ℕ) (g : Given) → is_tuple_of n g ≡ true → Has n (row_labels g)
 tuple_labels n (row parts) h = grind (arith, both, nat_eq, labels_count, nat_same)
-tuple_labels n (one v) h = cc
-tuple_labels n nothing h = cc
-tuple_labels n (many parts) h = cc
-tuple_labels n (entries pairs) h = cc
+tuple_labels n _ h = cc
 
 each_has : (n : ℕ) (test : Given → Bool) → ((g : Given) → test g ≡ true → Has n (row_labels g)) → (parts : GivenList) → each test parts ≡ true → All (Has n) (index_labels parts)
 each_has n _ _ no_given h = All-nil (Has n)
@@ -63,10 +52,7 @@ index_alike (more_given (row parts) rest) h =
     let y = both (nat_lt 1 n) (each is_scalar parts) x.0 in
     let some = below 1 n y.0 in
     alike_from (row parts) rest n (omega arith) (labels_count parts y.1) (each_has n (is_tuple_of n) (tuple_labels n) rest x.1)
-index_alike (more_given (one (table t)) rest) h = cc
-index_alike (more_given nothing rest) h = cc
-index_alike (more_given (many parts) rest) h = cc
-index_alike (more_given (entries pairs) rest) h = cc
+index_alike _ h = cc
 
 -- the labels that are given, if an index is
 abbrev pub GivesAlike : Option GivenList → Type 0

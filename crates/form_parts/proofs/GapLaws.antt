@@ -1,13 +1,13 @@
 -- The rows that labels take, by their numbers as by their texts, and the columns on such rows.
 use Rattle.{
-  std.proofs.{Common.{arith, ◌≡◌, ◌∙◌, ap, refl, sym, subst, ℕ, ◌+◌, ◌<◌, false, List, [], ◌∷◌, ◌++◌, map, length, take, slice_index_or, All, Option, Some, None, Result, Ok, Err}, Math.ListN.{get_or-map}, lemmas.List.{map-append, take_more, Elements.{All-map, All-push}}},
+  std.proofs.{lemmas.{Simd.{map-map}, List.{map_push, map_more, Elements.{All-map, All-push}}}, Common.{arith, ◌≡◌, ◌∙◌, refl, sym, ℕ, ◌+◌, ◌<◌, false, List, [], ◌∷◌, ◌++◌, map, length, take, slice_index_or, All, Option, Result, Ok, Err}, Math.ListN.{get_or-map}},
+  table_meaning.specs.{Table.{column_value, ColumnOf, tuple_value, no_column}, Settled.{IsSettled}},
   cell_core.specs.{declared.cell.{Cell.{Cell, TheVariants.{Na}}, Label.{Label}}, Texts.{AreDistinct, AreGiven, IsGiven}},
   meaning.specs.{Text.{Text}, Cell.{na_cell, datum}, Column.{gap_cell, taken}, Fault.{FaultValue}},
   column_core.specs.{Blocks.{CellBlock}, Columns.{CellColumn}, Moves.{IsPlaceOf}},
-  table_meaning.specs.{Settled.{IsSettled}, Table.{ColumnOf, tuple_value, no_column}},
   form_meaning.specs.Infix.{same_tuple, on_rows},
   align_meaning.{specs.{Faults.{met_rows}, Targets.{reindexed}}, proofs.{SeenLaws.{gaps_seen, reindexed_seen}, FoundLaws.{reindexed_count, reindexed_below, repeat_given}}},
-  label_align.specs.{Answers.{AlignsBy, as_it_is}, declared.fault.AlignFault.{AlignFault, TheVariants.{DuplicateLabels, TooLarge, NoMemory}}},
+  label_align.specs.{Answers.{AlignsBy, as_it_is}, declared.fault.AlignFault.{AlignFault, TheVariants.{DuplicateLabels}}},
   frame_store.specs.{Parts.{HaveRows, IsSingle, block_column, table_column}, Shown.{labels_value, columns_value}},
   form_parts.{specs.{Makes.{MakesBy}, Faults.{align_refusal}}, proofs.RowLaws.{tuple_by_number, tuples_settled}},
 }
@@ -17,7 +17,7 @@ module _ (texts : List Text) (distinct : AreDistinct texts) (keys targets : List
   -- rows that are found by numbers are those by texts
   reindexed_by_number : reindexed same_tuple (labels_value texts keys) (labels_value texts targets) ≡ gaps_seen (tuple_value texts) (reindexed numbers.same_tuple keys targets)
   reindexed_by_number =
-      reindexed_seen (tuple_value texts) (IsSettled tuple_value texts) numbers.same_tuple (λ x y. false) same_tuple (λ x y. false) (λ x y f g. tuple_by_number texts x y distinct f g) (λ x y f g. refl)
+      reindexed_seen (tuple_value texts) _ numbers.same_tuple (λ x y. false) same_tuple (λ x y. false) (λ x y. tuple_by_number texts x y distinct) (λ x y f g. refl)
       keys (tuples_settled texts keys given) targets (tuples_settled texts targets asked)
 
   abbrev pub found_rows : Result (List (Option ℕ)) FaultValue
@@ -30,8 +30,7 @@ module _ (texts : List Text) (distinct : AreDistinct texts) (keys targets : List
   rows_refused (DuplicateLabels key) is =
       let settled = repeat_given numbers.same_tuple keys targets (IsSettled tuple_value texts) key (tuples_settled texts keys given) is in
       (grind (arith, reindexed_by_number, gaps_seen), search)
-  rows_refused TooLarge is = grind (arith, reindexed_by_number, gaps_seen)
-  rows_refused NoMemory is = tt
+  rows_refused fault is = grind (arith, reindexed_by_number, gaps_seen)
 
 -- as many rows as labels, and rows of the axis
 pub rows_counted : (keys targets : List (List Label)) (rows : List (Option ℕ)) → reindexed numbers.same_tuple keys targets ≡ Ok rows → length rows ≡ length targets
@@ -43,26 +42,18 @@ rows_below keys targets _ is = rw is at (reindexed_below numbers.same_tuple keys
 module _ (texts : List Text) where
   -- cells on other rows, with texts
   cell_on : (cells : List Cell) (gap : Option ℕ) → datum texts (gap_cell Na cells gap) ≡ gap_cell na_cell (map (datum texts) cells) gap
-  cell_on _ None = refl
-  cell_on cells (Some place) = sym (get_or-map (datum texts) cells place Na)
+  cell_on cells gap = grind (arith, get_or-map (datum texts) cells)
 
   cells_on : (cells : List Cell) (rows : List (Option ℕ)) → map (datum texts) (taken Na cells rows) ≡ taken na_cell (map (datum texts) cells) rows
-  cells_on _ [] = refl
-  cells_on cells (gap ∷ rows) = λ i. cell_on cells gap i ∷ cells_on cells rows i
+  cells_on cells rows = map-map (datum texts) (gap_cell Na cells) rows ∙ (λ j. map (λ gap. cell_on cells gap j) rows)
 
   pub on_rows_seen : (rows : List (Option ℕ)) (cs : List (ColumnOf Cell)) → columns_value texts (on_rows Na rows cs) ≡ on_rows na_cell rows (columns_value texts cs)
-  on_rows_seen _ [] = refl
-  on_rows_seen rows (c ∷ cs) = search (cells_on, on_rows_seen rows cs)
+  on_rows_seen rows cs = map-map (column_value texts) _ cs ∙ (λ j. map (λ c. record { kind = c.kind; cells = cells_on c.cells rows j }) cs) ∙ sym (map-map _ (column_value texts) cs)
 
   -- their texts were given
-  gap_given : (cells : List Cell) (gap : Option ℕ) → AreGiven texts cells → IsPlaceOf (length cells) gap → IsGiven texts (gap_cell Na cells gap)
-  gap_given = grind arith
-
   pub on_rows_given : (count : ℕ) (rows : List (Option ℕ)) (cs : List (ColumnOf Cell)) → HaveRows count cs → All (IsPlaceOf count) rows → All (λ c. AreGiven texts c.cells) cs → All (λ c. AreGiven texts c.cells) (on_rows Na rows cs)
-  on_rows_given _ rows cs filled inside given =
-      All-map (λ c. AreGiven texts c.cells) (λ c. record { kind = c.kind; cells = taken Na c.cells rows }) cs
-      (λ k d lt. let c = slice_index_or cs k d in
-      All-map (IsGiven texts) (gap_cell Na c.cells) rows (λ j e within. gap_given c.cells (slice_index_or rows j e) (given k d lt) (grind arith)))
+  on_rows_given count rows cs filled inside given =
+      All-map (λ c. AreGiven texts c.cells) _ cs (λ k d lt. All-map (IsGiven texts) (gap_cell Na (slice_index_or cs k d).cells) rows (λ j e within. grind (arith, given k d lt, inside j e, filled k d)))
 
 -- one more column on other rows
 pub block_on : (block : CellBlock) (made a : CellColumn) (at : ColumnOf Cell) (rows : List (Option ℕ)) → block ≡ record { kind = made.kind; rows = length made.cells; columns = made.cells ∷ [] } → made.kind ≡ a.kind → made.cells ≡ taken Na a.cells rows → at ≡ table_column a
@@ -70,14 +61,11 @@ pub block_on : (block : CellBlock) (made a : CellColumn) (at : ColumnOf Cell) (r
 block_on = grind arith
 
 pub single_on : (blocks blocks' : List CellBlock) (block : CellBlock) (made : CellColumn) → All IsSingle blocks → block ≡ record { kind = made.kind; rows = length made.cells; columns = made.cells ∷ [] } → blocks' ≡ blocks ++ block ∷ [] → All IsSingle blocks'
-single_on blocks _ block _ all is pushed = rw pushed (All-push IsSingle blocks block all (subst IsSingle (sym is) refl))
+single_on blocks blocks' block made all is pushed = rw pushed (All-push IsSingle blocks block all (rw is refl))
 
 pub one_more_on : (columns : List (ColumnOf Cell)) (rows : List (Option ℕ)) (place : ℕ) (made made' : List CellBlock) (block : CellBlock) → place < length columns
     → map block_column made ≡ on_rows Na rows (take place columns) → made' ≡ made ++ block ∷ [] → block_column block ≡ record { kind = (slice_index_or columns place no_column).kind; cells = taken Na (slice_index_or columns place no_column).cells rows }
     → map block_column made' ≡ on_rows Na rows (take (place + 1) columns)
-one_more_on columns rows place made _ block lt before pushed here =
+one_more_on columns rows place made made' block lt before pushed here =
     let on : ColumnOf Cell → ColumnOf Cell = λ c. record { kind = c.kind; cells = taken Na c.cells rows } in
-    ap (map block_column) pushed ∙ map-append block_column made (block ∷ [])
-    ∙ (λ i. before i ++ here i ∷ [])
-    ∙ sym (search map-append)
-    ∙ ap (map on) (sym (take_more columns place no_column lt))
+    cc (map_push block_column made block, map_more on columns place no_column lt)

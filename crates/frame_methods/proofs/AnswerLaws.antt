@@ -1,11 +1,11 @@
 -- The answer of a call, by its method.
 use Rattle.{
-  std.proofs.Common.{arith, ◌≡◌, ℕ, Result},
+  std.proofs.Common.{arith, ◌≡◌, ℕ, Some, Result},
   meaning.specs.Fault.{FaultValue},
   table_meaning.specs.{Table.{NumberedTable, Table, table_value}, Value.{Entry, Given}},
   form_meaning.specs.{declared.Method.{Method}, Signature.{parameters_of}, Binding.{argument_at, arguments_from}},
   method_meaning.specs.Methods.{answer_for},
-  frame_store.specs.{Shown.{Makes}, declared.fault.OpFault.{OpFault}, World.{World, arguments_in}},
+  frame_store.specs.{Objects.{table_at}, Shown.{Makes}, declared.fault.OpFault.{OpFault}, World.{World, arguments_in}},
   signatures.specs.{Bound.{stands_at}, declared.bound.Bound.{Bound}},
   frame_methods.specs.Calls.{answer_in},
 }
@@ -23,7 +23,7 @@ pub answer_by : (w : World) (m m' : Method) (b : Bound) (t : Table) (go : (ℕ �
 answer_by = grind (arith, answer_is)
 
 -- a table that is made of an object's, by another wording
-pub makes_by : (w : World) (m m' : Method) (b : Bound) (source t : NumberedTable) (r : Result NumberedTable OpFault) (go : (ℕ → Given) → Table → Result Entry FaultValue) (meant : Result Entry FaultValue) → source ≡ t → m ≡ m'
+pub makes_by : (w : World) (m m' : Method) (b : Bound) (source : NumberedTable) (id : ℕ) (r : Result NumberedTable OpFault) (go : (ℕ → Given) → Table → Result Entry FaultValue) (meant : Result Entry FaultValue) → w.tables id ≡ Some source → m ≡ m'
     → b.parameters.now ≡ parameters_of m → ((v : Table) → go (argument_at (parameters_of m') (arguments_in w b.args.now)) v ≡ answer_of w m' b v) → meant ≡ go (stands_at w.tables w.texts b) (table_value w.texts source)
-    → Makes w.texts r meant → Makes w.texts r (answer_in w m b (table_value w.texts t))
+    → Makes w.texts r meant → Makes w.texts r (answer_in w m b (table_value w.texts (table_at w.tables id)))
 makes_by = grind (arith, answer_by)

@@ -1,11 +1,11 @@
 -- What is made, as an answer.
 use Rattle.{
-  std.{proofs.Common.{arith, ◌≡◌, ◌∙◌, List, ap, sym, subst, Result, Ok, Err}, specs.Prelude.{IfOk}},
+  std.{proofs.Common.{arith, ◌≡◌, ◌∙◌, List, ap, Result, Ok, Err}, specs.Prelude.{IfOk}},
   cell_core.specs.{Texts.{IsLonger}, declared.cell.Cell.{Cell}},
-  meaning.specs.{Text.{Text}, Cell.{CellValue, na_cell, datum}, Fault.{FaultValue}},
-  table_meaning.specs.{Settled.{IsSettled}, Table.{NumberedTable, Table, table_value, no_table}, Value.{Entry}},
+  meaning.specs.{Text.{Text}, Cell.{datum}, Fault.{FaultValue}},
+  table_meaning.specs.{Settled.{IsSettled}, Table.{NumberedTable, Table, table_value}, Value.{Entry}},
   form_parts.specs.Makes.{MakesBy},
-  frame_store.{specs.{declared.{arguments.Value.{Value}, fault.OpFault.{OpFault, TheVariants.{Refused, NoMemory}}}, Objects.{Tables}, Shown.{shown, Makes, FormAnswers}}, proofs.Settling.{seen_later}},
+  frame_store.{specs.{declared.{arguments.Value.{Value}, fault.OpFault.{OpFault}}, Objects.{Tables}, Shown.{shown, Makes, FormAnswers}}, proofs.Settling.{seen_later}},
   frame_methods.specs.{declared.made.Made.{Made}, Made.{made_value}},
 }
 use Rattle.table_meaning.specs.Value as value
@@ -14,29 +14,13 @@ use Rattle.frame_methods.specs.declared.made.Made.TheVariants as made
 -- a refusal
 pub refused_made : (earlier texts : List Text) (tables : Tables) (m : Result Made OpFault) (result : Result Value OpFault) (fault : OpFault) (meant : Result Entry FaultValue)
     → m ≡ Err fault → result ≡ Err fault → IsLonger earlier texts → IsSettled shown earlier tables → MakesBy made_value texts m meant → FormAnswers texts result meant (shown earlier tables) (shown texts tables)
-refused_made earlier texts tables m _ _ meant was is longer settled makes =
-    subst (λ r. FormAnswers texts r meant (shown earlier tables) (shown texts tables)) (sym is) (grind (arith, go))
-  where
-    kept : shown texts tables ≡ shown earlier tables
-    kept = seen_later shown _ _ _ longer settled
-
-    go : (f : OpFault) → MakesBy made_value texts (Err f) meant → FormAnswers texts (Err f) meant (shown earlier tables) (shown texts tables)
-    go (Refused code) m = (m, kept)
-    go NoMemory m = kept
-
-abbrev table_of : Entry → Table
-table_of (value.table t) = t
-table_of (value.cell c) = no_table
+refused_made earlier texts tables m result fault meant was is longer settled makes = grind (arith, seen_later shown earlier texts tables longer settled)
 
 -- the table that was made is settled
 table_settled_in : (texts : List Text) (m : Result Made OpFault) (one : Made) (t : NumberedTable) → m ≡ Ok one → one ≡ made.Table t → IfOk m (IsSettled made_value texts) → IsSettled table_value texts t
 table_settled_in texts m _ t was is settled =
     let here : IsSettled made_value texts (made.Table t) = rw (was ∙ ap Ok is) at settled in
     grind arith
-
-abbrev cell_of : Entry → CellValue
-cell_of (value.cell c) = c
-cell_of (value.table t) = na_cell
 
 -- a scalar
 pub scalar_answered : (earlier texts : List Text) (tables : Tables) (m : Result Made OpFault) (one : Made) (c : Cell) (meant : Result Entry FaultValue)

@@ -1,13 +1,13 @@
 -- Columns that are made one by one.
 use Rattle.{
-  std.proofs.{Common.{◌≡◌, ◌∙◌, refl, ap, sym, subst, ℕ, suc, ◌+◌, ◌<◌, List, [], ◌∷◌, ◌++◌, map, drop, length, length-append, All, Result, Ok, Err, slice_index_or, slice_get, Some, arith}, lemmas.{List.{map-append, Elements.{All-append, All-cons, All-nil}}, Option.{slice_get-get_or}}},
+  std.proofs.{Common.{◌≡◌, refl, ℕ, ◌+◌, ◌<◌, List, [], ◌∷◌, ◌++◌, map, drop, length, append_assoc, length-append, All, Result, Ok, Err, slice_index_or, arith}, lemmas.{List.{map-append, Elements.{All-append, All-cons, All-nil}}, Option.{slice_get-get_or}}},
   cell_core.specs.declared.cell.Cell.{Cell},
   meaning.specs.{Text.{Text}, Cell.{CellValue, IsLonger, AreGiven}, Fault.{FaultValue}},
   column_core.specs.{Columns.{CellColumn}, Blocks.{CellBlock}},
   table_meaning.specs.{Settled.{IsSettled}, Table.{ColumnOf, NumberedTable, column_value, column_at, no_column, table_value}},
   form_meaning.specs.Finish.{try_all},
   frame_store.{specs.{Parts.{block_column, single_block, IsSingle, table_column}, Shown.{columns_value, cells_value}}, proofs.Settling.{settled_later, seen_later, cells_settled, cells_given, column_settled, columns_settled, columns_given, columns_part, longer_twice}},
-  label_methods.{specs.Columns.{with_front}, proofs.{FrontLaws.{front_next, front_fails}, Lists.{drop_next}}},
+  label_methods.proofs.Lists.{drop_next},
   nullable_array.specs.declared.ops.ArrayFault.{ArrayFault},
   frame_methods.specs.Columns.{IsFront, IsFault},
 }
@@ -18,58 +18,37 @@ given_later old new _ longer given = cells_given _ _ (settled_later cells_value 
 
 -- the column at a place, and those after it
 pub at_place : (columns : List (ColumnOf Cell)) (place : ℕ) (a : ColumnOf Cell) → place < length columns → column_at columns place ≡ a → drop place columns ≡ a ∷ drop (place + 1) columns
-at_place columns place a lt is =
-    let here : slice_get columns place ≡ Some a = slice_get-get_or _ _ _ lt ∙ ap Some is in
-    let next : suc place ≡ place + 1 = omega arith in
-    drop_next columns place a here ∙ ap (λ k. a ∷ drop k columns) next
+at_place columns place a lt is = grind (arith, drop_next columns place a, slice_get-get_or)
 
 one_more : (P : ColumnOf Cell → Type 0) (made : List CellBlock) (b : CellBlock) → All P (map block_column made) → P (block_column b) → All P (map block_column (made ++ b ∷ []))
-one_more P made b all here =
-    subst (All P) (sym (map-append _ made (b ∷ []))) (All-append P (map _ made) (block_column b ∷ []) all (All-cons P (block_column b) [] here (All-nil P)))
-
-abbrev placed_front : (ColumnOf CellValue → Result (ColumnOf CellValue) FaultValue) → List (ColumnOf CellValue) → List (ColumnOf CellValue) → Result (List (ColumnOf CellValue)) FaultValue
-placed_front f made rest = with_front made (try_all f rest)
+one_more P made b all here = rw (map-append block_column made (b ∷ [])) (All-append P (map _ made) (block_column b ∷ []) all (All-cons P (block_column b) [] here (All-nil P)))
 
 pub front_step : (f : ColumnOf CellValue → Result (ColumnOf CellValue) FaultValue) (first dict dict' : List Text) (columns : List (ColumnOf Cell)) (rows place : ℕ) (made made' : List CellBlock) (a new : CellColumn)
     → IsFront f first dict columns rows place made → place < length columns → column_at columns place ≡ table_column a → IsLonger dict dict' → AreGiven dict' new.cells → length new.cells ≡ rows
     → made' ≡ made ++ single_block (table_column new) ∷ [] → f (column_value first (table_column a)) ≡ Ok (column_value dict' (table_column new))
     → IsFront f first dict' columns rows (place + 1) made'
-front_step f first dict dict' columns rows place made _ a new so_far lt at longer given full more is = subst (IsFront f first dict' columns rows (place + 1)) (sym more) record {
+front_step f first dict dict' columns rows place made _ a new so_far lt at longer given full more is = rw more record {
   longer = longer_twice first dict dict' so_far.longer longer;
   given = one_more (λ c. AreGiven dict' c.cells) made (single_block (table_column new)) (λ k d lt. given_later dict dict' (slice_index_or (map block_column made) k d).cells longer (so_far.given k d lt)) given;
   single = All-append IsSingle made (single_block (table_column new) ∷ []) so_far.single (All-cons IsSingle (single_block (table_column new)) [] refl (All-nil IsSingle));
   filled = one_more (λ c. length c.cells ≡ rows) made (single_block (table_column new)) so_far.filled full;
-  count = length-append made (single_block (table_column new) ∷ []) ∙ ap (λ n. n + 1) so_far.count;
-  answer =
-      let seen : columns_value dict' (map block_column made) ≡ columns_value dict (map block_column made)
-      = seen_later columns_value dict dict' (map block_column made) longer (columns_settled dict (map block_column made) so_far.given) in
-      let all : columns_value dict' (map block_column (made ++ single_block (table_column new) ∷ [])) ≡ columns_value dict (map block_column made) ++ column_value dict' (table_column new) ∷ []
-      = ap (columns_value dict') (map-append block_column made (single_block (table_column new) ∷ []))
-      ∙ map-append (column_value dict') (map block_column made) (table_column new ∷ [])
-      ∙ ap (λ l. l ++ column_value dict' (table_column new) ∷ []) seen in
-      let rest : columns_value first (drop place columns) ≡ column_value first (table_column a) ∷ columns_value first (drop (place + 1) columns)
-      = ap (columns_value first) (at_place columns place (table_column a) lt at) in
-      ap (λ l. placed_front f l (columns_value first (drop (place + 1) columns))) all
-      ∙ front_next f (columns_value dict (map block_column made)) (column_value first (table_column a)) (column_value dict' (table_column new)) (columns_value first (drop (place + 1) columns)) (try_all f (columns_value first columns))
-      (ap (placed_front f (columns_value dict (map block_column made))) (sym rest) ∙ so_far.answer) is;
+  count = grind (arith, length-append);
+  answer = grind (arith, map-append, seen_later columns_value dict dict' (map block_column made) longer (columns_settled dict (map block_column made) so_far.given), at_place columns place (table_column a) lt at, append_assoc);
 }
 
 pub front_refused : (f : ColumnOf CellValue → Result (ColumnOf CellValue) FaultValue) (first dict : List Text) (columns : List (ColumnOf Cell)) (rows place : ℕ) (made : List CellBlock) (a : CellColumn) (fault : FaultValue)
     → IsFront f first dict columns rows place made → place < length columns → column_at columns place ≡ table_column a → f (column_value first (table_column a)) ≡ Err fault
     → try_all f (columns_value first columns) ≡ Err fault
-front_refused f first dict _ _ _ made a _ so_far lt at is =
-    front_fails f _ _ _ _ _
-    (ap (λ l. placed_front f (columns_value dict (map block_column made)) (columns_value first l)) (sym (at_place _ _ _ lt at)) ∙ so_far.answer) is
+front_refused f first dict columns rows place made a _ so_far lt at is = cc (at_place columns place (table_column a) lt at, so_far.answer, is)
 
 -- the column at a place was given
 pub place_given : (dict : List Text) (t : NumberedTable) (place : ℕ) (a : CellColumn) → IsSettled table_value dict t → place < length t.columns → column_at t.columns place ≡ table_column a → AreGiven dict a.cells
-place_given dict t place a settled lt is = subst (λ (c : ColumnOf Cell). AreGiven dict c.cells) is (columns_given _ _ (columns_part _ t settled) place no_column lt)
+place_given dict t place a settled lt is = grind (arith, columns_given _ _ (columns_part _ t settled) place no_column lt)
 
 -- what is made of it at the later dictionary is what is made of it at the first one
 pub same_answer : {A : Type 0} (answer : List CellValue → ColumnOf CellValue → A) (held : List Cell) (first dict : List Text) (a : CellColumn) → IsLonger first dict → AreGiven first held → AreGiven first a.cells
     → answer (cells_value first held) (column_value first (table_column a)) ≡ answer (cells_value dict held) (column_value dict (table_column a))
-same_answer answer held first dict a longer own given = λ j.
-    answer (sym (seen_later cells_value first dict held longer (cells_settled first held own)) j) (sym (seen_later column_value first dict (table_column a) longer (column_settled _ _ given)) j)
+same_answer answer held first dict a longer own given = cc (seen_later cells_value first dict held longer (cells_settled first held own), seen_later column_value first dict (table_column a) longer (column_settled _ _ given))
 
 -- a refused column is a refused list of columns
 pub refused_columns : (fault : ArrayFault) (one : Result (ColumnOf CellValue) FaultValue) (all : Result (List (ColumnOf CellValue)) FaultValue)

@@ -1,29 +1,21 @@
 -- Cells that are in a list, by number and with texts.
 use Rattle.{
-  std.{proofs.{Common.{◌≡◌, ◌∙◌, ◌<◌, ◌+◌, refl, ap, sym, ℕ, suc, Bool, true, false, ◌||◌, cond, List, [], ◌∷◌, ◌++◌, map, length, drop, get_or, Option, Some, None, IfSome, Result, Ok, arith}, lemmas.List.{map-append, Folds.{list_any-append}, Elements.{All-append, All-cons, All-nil, All-map}}}, specs.{Option.{option_map}, Bool.{Decides}, List.{list_any}}},
-  cell_core.specs.{declared.cell.{Cell.{Cell}, Kind.TheVariants.{Boolean}, Label.{Label}}, Texts.{AreDistinct}},
+  std.{proofs.{Common.{◌≡◌, ◌∙◌, ◌<◌, ◌+◌, refl, sym, ℕ, suc, Bool, true, ◌||◌, List, [], ◌∷◌, ◌++◌, map, length, drop, get_or, Option, Some, None, IfSome, Result, Ok, arith}, lemmas.List.{map-append, Folds.{list_any-append}, Elements.{All-append, All-cons, All-nil, All-map}}}, specs.{Option.{option_map}, Bool.{Decides}, List.{list_any}}},
+  cell_core.specs.{declared.cell.{Cell.{Cell}, Kind.TheVariants.{Boolean}}, Texts.{AreDistinct}},
   form_parts.{specs.Labels.{label_of}, proofs.LabelLaws.{same_by_number}},
   meaning.specs.{Text.{Text}, Cell.{CellValue, truth_cell, datum, label_datum, IsGiven, AreGiven}, Operator.{cell_label}, Reduce.{same_cell}, Fault.{FaultValue}},
   column_core.specs.Columns.{CellColumn},
   table_meaning.specs.{Settled.{IsSettled}, Table.{Table, column_value}, Value.{Entry, GivenList}},
-  form_meaning.specs.{Binding.{same_label}, Make.{on}, Select.{cells_of}},
-  method_meaning.specs.Methods.{is_in, mapped, each_column},
+  form_meaning.specs.{Make.{on}, Select.{cells_of}},
+  method_meaning.specs.Methods.{is_in, each_column},
   frame_store.{specs.{Objects.{Tables}, Arguments.{items_of}, Shown.{cells_value}, declared.arguments.Item.{Item}, Parts.{table_column}}, proofs.Settling.{cell_settled, cell_given}},
   signatures.{proofs.ScalarLaws.{scalars_are}, specs.Scalars.{scalars, with_cell}},
   label_methods.proofs.ScalarLaws.{IsScalarOf, scalars_from},
   frame_methods.specs.Listed.{noted, listed_column},
   column_operators.specs.Marks.{same_number, listed_mark},
 }
-use Rattle.cell_core.specs.declared.cell.Cell.TheVariants as cell
-use Rattle.cell_core.specs.declared.cell.Label.TheVariants as label
 
--- a cell as a label, and back
-abbrev cell_back : Label → Cell
-cell_back label.Na = cell.Na
-cell_back (label.Int z) = cell.Int z
-cell_back (label.Bool b) = cell.Bool b
-cell_back (label.Text id) = cell.Text id
-
+-- a cell as a label
 label_seen : (texts : List Text) (c : Cell) → label_datum texts (label_of c) ≡ cell_label (datum texts c)
 label_seen = grind arith
 
@@ -34,8 +26,7 @@ label_settled = search (label_seen, cell_settled)
 pub cell_by_number : (texts : List Text) (a b : Cell) → AreDistinct texts → IsGiven texts a → IsGiven texts b → same_number a b ≡ same_cell (datum texts a) (datum texts b)
 cell_by_number texts a b distinct f g =
     let labels : Decides (same_number a b) (label_of a ≡ label_of b) = grind arith in
-    same_by_number _ _ _ _ distinct (label_settled _ a f) (label_settled _ b g) labels
-    ∙ (λ j. same_label (label_seen texts a j) (label_seen texts b j))
+    grind (arith, same_by_number _ _ _ _ distinct (label_settled _ a f) (label_settled _ b g) labels, label_seen)
 
 any_by_number : (texts : List Text) (c : Cell) (values : List Cell) → AreDistinct texts → IsGiven texts c → AreGiven texts values
     → list_any (same_cell (datum texts c)) (cells_value texts values) ≡ list_any (same_number c) values
@@ -51,22 +42,12 @@ marks _ _ (c ∷ cs) distinct given all =
 
 pub listed_answer : (texts : List Text) (values : List Cell) (a new : CellColumn) → AreDistinct texts → AreGiven texts values → AreGiven texts a.cells → new ≡ record { kind = Boolean; cells = map (listed_mark values) a.cells }
     → listed_column (cells_value texts values) (column_value texts (table_column a)) ≡ Ok (column_value texts (table_column new))
-listed_answer texts values a _ distinct given all is =
-    (λ j. Ok record { kind = Boolean; cells = marks texts values a.cells distinct given all j })
-    ∙ ap (λ n. Ok (column_value texts (table_column n))) (sym is)
+listed_answer texts values a _ distinct given all is = grind (arith, marks texts values a.cells distinct given all)
 
 pub listed_given : (texts : List Text) (values : List Cell) (a new : CellColumn) → new ≡ record { kind = Boolean; cells = map (listed_mark values) a.cells } → AreGiven texts new.cells
 listed_given texts values a _ is = rw is (All-map (IsGiven texts) (listed_mark values) a.cells (λ k d lt. tt))
 
 -- a cell and those after it are settled where they are so together
-abbrev first_or : CellValue → List CellValue → CellValue
-first_or d [] = d
-first_or d (v ∷ vs) = v
-
-abbrev others : List CellValue → List CellValue
-others [] = []
-others (v ∷ vs) = vs
-
 abbrev AreBoth : List Text → Option Cell → (List Text → List CellValue) → Type 0
 AreBoth texts o rest = IfSome o (IsGiven texts) × ((more : List Text) → rest (texts ++ more) ≡ rest texts)
 
@@ -83,30 +64,16 @@ first_settled _ items i _ o lt is scalar settled =
 -- one cell more among the different ones
 pub noted_given : (texts : List Text) (values : List Cell) (o : Option Cell) → AreGiven texts values → IfSome o (IsGiven texts) → AreGiven texts (noted values o)
 noted_given _ _ None given _ = given
-noted_given texts values (Some c) given here = go _
-  where
-    go : (b : Bool) → AreGiven texts (cond b values (values ++ c ∷ []))
-    go true = given
-    go false = All-append (IsGiven texts) values (c ∷ []) given (All-cons (IsGiven texts) c [] here (All-nil (IsGiven texts)))
+noted_given texts values (Some c) given here = grind (arith, All-append (IsGiven texts) values (c ∷ []) given (All-cons (IsGiven texts) c [] here (All-nil (IsGiven texts))))
 
 -- what passes at a cell passes where the cell is
 passes_at : (test : CellValue → Bool) (texts : List Text) (c : Cell) (values : List Cell) → list_any (same_number c) values ≡ true → test (datum texts c) ≡ true → list_any test (cells_value texts values) ≡ true
 passes_at _ _ c [] among passes = cc
 passes_at test texts c (v ∷ vs) among passes = grind (arith, passes_at test texts c vs)
 
-or_more : (a t r : Bool) → (t ≡ true → a ≡ true) → (a || r) ≡ (a || (t || r))
-or_more = grind arith
-
-or_last : (a t r : Bool) → ((a || (t || false)) || r) ≡ (a || (t || r))
-or_last = grind arith
-
 noted_more : (test : CellValue → Bool) (texts : List Text) (values : List Cell) (c : Cell) (r : Bool)
     → (list_any test (cells_value texts (noted values (Some c))) || r) ≡ (list_any test (cells_value texts values) || (test (datum texts c) || r))
-noted_more test texts values c r = go _ refl
-  where
-    go : (b : Bool) → list_any (same_number c) values ≡ b → (list_any test (cells_value texts (cond b values (values ++ c ∷ []))) || r) ≡ (list_any test (cells_value texts values) || (test (datum texts c) || r))
-    go true among = search (or_more, passes_at)
-    go false among = search (map-append, list_any-append, or_last)
+noted_more test texts values c r = grind (arith, passes_at test texts c values, map-append (datum texts) values (c ∷ []), list_any-append test (cells_value texts values) (cells_value texts (c ∷ [])))
 
 pub noted_step : (texts : List Text) (items : List Item) (i : ℕ) (item : Item) (o : Option Cell) (values values' : List Cell) (test : CellValue → Bool) (all : Bool) → i < length items → item ≡ get_or items i item → IsScalarOf o item → values' ≡ noted values o
     → (list_any test (cells_value texts values) || list_any test (scalars texts (drop i items))) ≡ all
@@ -120,7 +87,4 @@ isin_of t parts = each_column (listed_column (cells_of parts)) t
 pub isin_meant : (live : Tables) (dict : List Text) (items : List Item) (values : List Cell) (o : Option GivenList) (t : Table) → Some (items_of live dict items) ≡ o
     → ((test : CellValue → Bool) → list_any test (cells_value dict values) ≡ list_any test (scalars dict items))
     → each_column (listed_column (cells_value dict values)) t ≡ on o (isin_of t)
-isin_meant _ _ items _ o t is same =
-    ap (λ f. each_column (mapped Boolean f) t) (λ j c. truth_cell (same (same_cell c) j))
-    ∙ ap (λ cells. each_column (listed_column cells) t) (sym (scalars_are _ _ items))
-    ∙ ap (λ p. on p (isin_of t)) is
+isin_meant live dict items values o t is same = let cells : is_in (cells_value dict values) ≡ is_in (scalars dict items) = (λ j c. truth_cell (same (same_cell c) j)) in grind (arith, scalars_are live dict items)

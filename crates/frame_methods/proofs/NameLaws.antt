@@ -3,7 +3,7 @@ use Rattle.{
   std.proofs.Common.{arith, ◌≡◌, refl, pos, List, [], ◌∷◌, ◌++◌, length, Option, Some, None, slice_index_or, unwrap_or, Result},
   cell_core.specs.declared.{cell.Label.{Label}, grid.Shape.TheVariants.{Frame}},
   meaning.specs.{Text.{Text}, Cell.{LabelValue, int, label_datum}, Fault.{FaultValue}},
-  table_meaning.specs.{Settled.{IsSettled}, Table.{NumberedTable, Table, table_value, heading_value}, Value.{Entry}},
+  table_meaning.specs.{Settled.{IsSettled}, Table.{NumberedTable, table_value, heading_value}, Value.{Entry}},
   form_meaning.specs.Finish.{limited},
   frame_store.specs.{declared.{arguments.Value.{Value}, fault.OpFault.{OpFault}}, Parts.{HeadingList}, Shown.{Shown, headings_value, FormAnswers}},
   selections.specs.Picked.{headed_by},
@@ -15,9 +15,6 @@ use Rattle.method_meaning.specs.Methods as meant
 pub named_settled : {A : Type 0} (view : List Text → A) (read : A → Option LabelValue) (texts : List Text) (name : Option Label) (labels : List (Option Label))
     → ((more : List Text) → view (texts ++ more) ≡ view texts) → ((ts : List Text) → heading_value ts name ≡ read (view ts)) → labels ≡ name ∷ [] → IsSettled headings_value texts labels
 named_settled = grind arith
-
-abbrev with_headings : Table → List (Option LabelValue) → Table
-with_headings t headings = record t { headings = headings }
 
 -- another wording of what is meant
 pub meant_so : (texts : List Text) (result : Result Value OpFault) (meant meant' : Result Entry FaultValue) (old new : Shown) → meant ≡ meant' → FormAnswers texts result meant old new → FormAnswers texts result meant' old new
@@ -35,9 +32,6 @@ one_item (h ∷ g ∷ hs) is = cc
 abbrev pub frame_heading : Option LabelValue → Option LabelValue
 frame_heading h = Some (unwrap_or h (int (pos 0)))
 
-abbrev frame_with : Table → List (Option LabelValue) → Table
-frame_with t headings = record t { shape = Frame; headings = headings }
-
 pub frame_meant : (texts : List Text) (t : NumberedTable) (headings : HeadingList) (h : Option Label) (l : Label) → headings ≡ record { columns_name = t.columns_name; labels = Some l ∷ [] } → column_tuple h ≡ l ∷ [] → t.headings ≡ h ∷ []
     → limited (table_value texts (headed_by Frame headings t)) ≡ limited (meant.as_frame (table_value texts t))
 frame_meant = grind (arith, label_seen)
@@ -46,7 +40,3 @@ frame_meant = grind (arith, label_seen)
 pub heading_list : (columns_name name : Option Label) (first list : HeadingList) → first ≡ record { columns_name = columns_name; labels = [] } → list ≡ record first { labels = first.labels ++ name ∷ [] }
     → list ≡ record { columns_name = columns_name; labels = name ∷ [] }
 heading_list _ _ _ _ begins more = search
-
-abbrev pub first_value : List (Option LabelValue) → Option LabelValue
-first_value [] = None
-first_value (h ∷ hs) = h

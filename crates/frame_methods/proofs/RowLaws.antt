@@ -1,14 +1,14 @@
 -- Tables of some rows of another one.
 use Rattle.{
-  std.{proofs.{Common.{◌≡◌, ◌∙◌, ap, sym, subst, arith, ℕ, zero, suc, ◌+◌, ◌-◌, ◌<◌, ◌≤◌, min, ℤ, pos, negsuc, Bool, true, false, List, [], ◌∷◌, ◌++◌, map, length, take, slice_index_or, All, Option, Some, None, Result, Ok, if◌then◌else◌}, lemmas.List.{length-map, take_all, FromFn.{length-range_with_len}}}, specs.{Prelude.{neg_ℤ}, Int.{div_ceil}, Ordering.{int_eq}, List.{list_all, range_with_len}}},
+  std.{proofs.{Common.{◌≡◌, ◌∙◌, ap, arith, ℕ, zero, suc, ◌+◌, ◌-◌, ◌<◌, ◌≤◌, min, ℤ, pos, negsuc, Bool, true, false, List, [], ◌∷◌, ◌++◌, map, length, take, slice_index_or, All, Option, Some, Result, Ok}, lemmas.List.{length-map, take_all, FromFn.{length-range_with_len}}}, specs.{Int.{div_ceil}, Ordering.{int_eq}, List.{list_all, range_with_len}}},
   cell_core.specs.declared.{cell.Cell.{Cell}, grid.Rows.{Rows}},
   column_core.proofs.MoveLaws.{get_or-tabulate},
   meaning.specs.{Cell.{na_cell}, Fault.{FaultValue}, Reduce.{is_present}, Text.{Text}},
   table_meaning.specs.{Settled.{IsSettled}, Table.{ColumnOf, NumberedTable, Table, row_of, column_at, table_value, tuple_value}, Value.{Entry, table}},
   form_meaning.specs.Finish.{limited, within_limits},
-  pick_meaning.{specs.{Keys.{place_slice}, Positions.{rows_before}, Rows.{rows_of, rows_where}}, proofs.{InsideLaws.{rows_inside}, RowLaws.{rows_more_yes, rows_more_no}}},
+  pick_meaning.{specs.{Positions.{rows_before}, Rows.{rows_of, rows_where}}, proofs.{InsideLaws.{rows_inside}, RowLaws.{rows_more_yes, rows_more_no}}},
   select_meaning.specs.Select.{rows_taken},
-  method_meaning.specs.Rows.{placed_rows, head_result, tail_result, cells_by_row, all_places},
+  method_meaning.specs.Rows.{head_result, tail_result, cells_by_row, all_places},
   frame_store.specs.{Objects.{table_or}, Parts.{HeadingList}, Shown.{columns_value, Makes}, declared.fault.OpFault.{OpFault}},
   selections.{specs.Chosen.{chosen}, proofs.{PickedLaws.{list_is, read_is}, TakenLaws.{chosen_rows, chosen_settled}, AnswerLaws.{own_name, own_labels}}},
   label_methods.proofs.{RowLaws.{cells_in, by_rows}, TableLaws.{limited_within}},
@@ -31,9 +31,6 @@ first_meant = grind (arith, same_run)
 
 above_zero : (n : ℕ) → int_eq (pos (suc n)) (pos 0) ≡ false
 above_zero = grind arith
-
-abbrev unless_zero : Table → ℤ → Bool → Result Entry FaultValue
-unless_zero t n is_zero = if is_zero then limited (rows_taken t []) else placed_rows t (place_slice (Some (neg_ℤ n)) None None)
 
 -- `iloc[-n:]`
 pub last_meant : (t : Table) (n : ℤ) (count : ℕ) → count ≡ rows_before (length t.labels) n → run_result t (run (length t.labels - count) count) ≡ tail_result t n
@@ -63,12 +60,9 @@ pub rows_made : (texts : List Text) (t made : NumberedTable) (headings : Heading
 rows_made texts t _ headings rows columns named all is within settled = (
   limited_within _ _ _ (length-map rows _) (search length-map) within
       ∙ ap (λ v. Ok (table v)) (cc (chosen_rows texts headings rows columns t named all)),
-  subst (IsSettled table_value texts) (sym is)
+  rw is
       (search (chosen_settled, own_name, own_labels)),
 )
-  where
-    T : Table
-    T = table_value texts t
 
 pub makes_so : (texts : List Text) (r : Result NumberedTable OpFault) (meant meant' : Result Entry FaultValue) → meant ≡ meant' → Makes texts r meant → Makes texts r meant'
 makes_so = grind arith
@@ -88,7 +82,7 @@ abbrev pub complete_before : Table → ℕ → List ℕ
 complete_before t row = rows_where (list_all is_present) 0 (take row (cells_by_row t (all_places t)))
 
 rows_counted : (t : Table) → length (cells_by_row t (all_places t)) ≡ length t.labels
-rows_counted = search (by_rows, length-map, cells_in, length-range_with_len)
+rows_counted = search (by_rows, length-map, length-range_with_len)
 
 pub complete_more : (t : Table) (row : ℕ) (rows rows' : List ℕ) → row < length t.labels → rows ≡ complete_before t row → list_all is_present (row_of na_cell t row).cells ≡ true → rows' ≡ rows ++ row ∷ []
     → rows' ≡ complete_before t (row + 1)

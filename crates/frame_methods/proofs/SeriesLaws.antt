@@ -1,15 +1,15 @@
 -- Series over the labels of columns.
 use Rattle.{
-  std.proofs.{Common.{arith, ◌≡◌, ◌∙◌, refl, ap, sym, subst, true, List, [], ◌∷◌, map, length, None, Result, Ok, Err}, lemmas.List.{length-map}},
+  std.proofs.{Common.{arith, ◌≡◌, refl, ap, sym, true, List, [], ◌∷◌, map, length, None, Ok, Err}, lemmas.List.{length-map}},
   cell_core.specs.declared.{cell.Kind.{Kind}, grid.Shape.TheVariants.{Series, Frame}},
-  meaning.specs.{Text.{Text}, Cell.{CellValue, datum, AreGiven}, Fault.{FaultValue, then_value}},
+  meaning.specs.{Text.{Text}, Cell.{datum, AreGiven}, Fault.{FaultValue}},
   column_core.specs.Columns.{CellColumn},
   multi_index.specs.Axes.{AxisValue},
-  table_meaning.specs.{Table.{NumberedTable, table_value, heading_value}, Value.{Entry, table}, Settled.{IsSettled}},
-  form_meaning.specs.Finish.{within_limits, limited, try_all, across_columns},
+  table_meaning.specs.{Table.{NumberedTable, table_value, heading_value}, Value.{table}, Settled.{IsSettled}},
+  form_meaning.specs.Finish.{within_limits, try_all, across_columns},
   method_meaning.specs.Methods.{Summary, kind_for, summary_as, summary_of},
   frame_store.{specs.{Parts.{table_with, table_column}, Shown.{labels_value, headings_value, columns_value}}, proofs.Settling.{settled_by, columns_name_part, headings_part, columns_settled, table_settled}},
-  label_methods.{specs.Labels.{column_tuple}, proofs.{TableLaws.{limited_within}, ColumnLabelLaws.{label_tuple, tuples_seen}}},
+  label_methods.{specs.Labels.{column_tuple}, proofs.{TableLaws.{limited_within}, ColumnLabelLaws.{tuples_seen}}},
 }
 
 abbrev summaries_axis : NumberedTable → AxisValue
@@ -30,17 +30,11 @@ series_seen texts t kind cells same = λ j.
       columns = record { kind = sym same j; cells = map (datum texts) cells.cells } ∷ [];
     }
 
-abbrev then_series : NumberedTable → List Text → Kind → Result (List CellValue) FaultValue → Result Entry FaultValue
-then_series t texts kind r = then_value r (λ cells. limited (across_columns (table_value texts t) None kind cells))
-
-abbrev all_summaries : Summary → NumberedTable → List Text → Kind → Result Entry FaultValue
-all_summaries op t texts kind = then_series t texts kind (try_all (summary_as op kind) (columns_value texts t.columns))
-
 pub frame_answer : (op : Summary) (texts : List Text) (t made : NumberedTable) (kind : Kind) (axis : AxisValue) (cells : CellColumn)
     → try_all (summary_as op kind) (columns_value texts t.columns) ≡ Ok (map (datum texts) cells.cells) → kind ≡ kind_for op (columns_value texts t.columns) → cells.kind ≡ kind
     → within_limits (length t.columns) 1 ≡ true → length t.headings ≡ length t.columns → axis ≡ summaries_axis t → made ≡ summaries_table t axis cells
     → summary_of Frame op (table_value texts t) ≡ Ok (table (table_value texts made))
-frame_answer _ texts t _ kind _ cells all kinds same within headed axis_is is = grind (arith, limited_within (across_columns (table_value texts t) None kind (map (datum texts) cells.cells)) (length t.columns) 1 (length-map (headings_value texts t.headings) label_tuple ∙ length-map t.headings (heading_value texts) ∙ headed) refl within, series_seen texts t kind cells same)
+frame_answer _ texts t _ kind _ cells all kinds same within headed axis_is is = grind (arith, limited_within, length-map, series_seen texts t kind cells same)
 
 pub frame_refused : (op : Summary) (texts : List Text) (t : NumberedTable) (kind : Kind) (fault : FaultValue)
     → try_all (summary_as op kind) (columns_value texts t.columns) ≡ Err fault → kind ≡ kind_for op (columns_value texts t.columns) → summary_of Frame op (table_value texts t) ≡ Err fault
@@ -49,7 +43,7 @@ frame_refused _ _ t _ _ all kinds = cc
 pub frame_settled : (texts : List Text) (t made : NumberedTable) (axis : AxisValue) (cells : CellColumn) → IsSettled table_value texts t → AreGiven texts cells.cells → axis ≡ summaries_axis t → made ≡ summaries_table t axis cells
     → IsSettled table_value texts made
 frame_settled texts t _ _ cells settled given axis_is is =
-    subst (IsSettled table_value texts) (sym (is ∙ ap (λ a. summaries_table t a cells) axis_is))
+    rw (is, axis_is)
     (table_settled _ (summaries_table t (summaries_axis t) cells)
     (λ more. refl)
     (λ more. ap (λ n. n ∷ []) (columns_name_part _ t settled more))

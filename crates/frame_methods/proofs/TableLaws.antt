@@ -1,11 +1,11 @@
 -- Tables that are made of others.
 use Rattle.{
-  std.proofs.{Common.{arith, ◌≡◌, ◌∙◌, ap, sym, subst, true, List, map, length, All, Result, Ok}, lemmas.List.{length-map}},
+  std.proofs.{Common.{arith, ◌≡◌, true, List, map, length, All, Result, Ok}, lemmas.List.{length-map}},
   cell_core.specs.declared.cell.Cell.{Cell},
-  meaning.specs.{Text.{Text}, Cell.{CellValue, AreGiven, IsLonger}, Fault.{FaultValue, then_value}},
+  meaning.specs.{Text.{Text}, Cell.{CellValue, AreGiven, IsLonger}, Fault.{FaultValue}},
   column_core.specs.Blocks.{CellBlock},
-  table_meaning.specs.{Table.{ColumnOf, NumberedTable, Table, table_value}, Value.{Entry, table}, Settled.{IsSettled}},
-  form_meaning.specs.Finish.{within_limits, limited, with_columns, try_all},
+  table_meaning.specs.{Table.{ColumnOf, NumberedTable, table_value}, Value.{table}, Settled.{IsSettled}},
+  form_meaning.specs.Finish.{within_limits, with_columns, try_all},
   frame_store.{specs.{Parts.{block_column, table_with, axis_of, HeadingList}, Shown.{columns_value}}, proofs.Settling.{settled_later, seen_later, columns_name_part, level_names_part, labels_part, headings_part, with_columns_settled}},
 }
 use Rattle.method_meaning.specs.Methods as meant
@@ -14,9 +14,6 @@ use Rattle.method_meaning.specs.Methods as meant
 pub columns_later : (old new : List Text) (t : NumberedTable) (cs : List (ColumnOf Cell)) → IsLonger old new → IsSettled table_value old t
     → with_columns (table_value old t) (columns_value new cs) ≡ table_value new (record t { columns = cs })
 columns_later = grind (arith, seen_later, columns_name_part, level_names_part, labels_part, headings_part)
-
-abbrev then_limited : Table → Result (List (ColumnOf CellValue)) FaultValue → Result Entry FaultValue
-then_limited t r = then_value r (λ columns. limited (with_columns t columns))
 
 pub made_columns : (f : ColumnOf CellValue → Result (ColumnOf CellValue) FaultValue) (old new : List Text) (t made : NumberedTable) (headings : HeadingList) (bs : List CellBlock)
     → IsLonger old new → IsSettled table_value old t → headings ≡ record { columns_name = t.columns_name; labels = t.headings } → made ≡ table_with t.shape (axis_of t) headings (map block_column bs)
@@ -28,5 +25,4 @@ pub columns_settled_later : (old new : List Text) (t made : NumberedTable) (head
     → IsLonger old new → IsSettled table_value old t → headings ≡ record { columns_name = t.columns_name; labels = t.headings } → made ≡ table_with t.shape (axis_of t) headings (map block_column bs)
     → All (λ c. AreGiven new c.cells) (map block_column bs) → IsSettled table_value new made
 columns_settled_later old new t _ _ bs longer settled same is given =
-    subst (IsSettled table_value new) (sym (is ∙ ap (λ h. table_with t.shape (axis_of t) h (map block_column bs)) same))
-    (with_columns_settled _ t _ (settled_later table_value old new t longer settled) given)
+    rw (is, same) (with_columns_settled _ t _ (settled_later table_value old new t longer settled) given)

@@ -1,6 +1,6 @@
 -- Columns that are put and removed, and whole tables.
 use Rattle.{
-  std.{proofs.{Common.{rules, ◌≡◌, ◌∙◌, ℕ, suc, ◌<◌, List, [], ◌∷◌, ◌++◌, length, take, drop, map, sym, arith, nat_lt, Bool, true, false, if◌then◌else◌, Option, All}, lemmas.List.{map-set, map-append, length-map, length-set, length-append, take-map, drop-map, Elements.{All-set, All-push, All-map, All-append, All-take, All-drop}, Edits.{length-remove}}}, specs.Prelude.{slice_set, remove}},
+  std.{proofs.{lemmas.{Bool.{cond_both}, List.{map-set, map-append, length-map, length-set, length-append, take-map, drop-map, Elements.{All-set, All-push, All-map, All-append, All-take, All-drop}, Edits.{length-remove}}}, Common.{rules, ◌≡◌, ◌∙◌, ℕ, suc, ◌<◌, List, length, take, drop, map, sym, arith, nat_lt, Option, All}}, specs.Prelude.{remove}},
   cell_core.specs.declared.{grid.{Rows.{Rows}, Shape.{Shape, TheVariants.{Series}}}, cell.{Cell.{Cell, TheVariants.{Na}}, Label.{Label}}},
   multi_index.specs.Axes.{AxisValue},
   column_core.{specs.Blocks.{CellBlock}, proofs.ColumnLaws.{length-tabulate}},
@@ -13,11 +13,7 @@ pub map-put_at : {X Y : Type 0} (f : X → Y) (xs : List X) (place : ℕ) (x : X
 map-put_at = grind (arith, length-map, map-set, map-append)
 
 pub All-put_at : {X : Type 0} (P : X → Type 0) (xs : List X) (place : ℕ) (x : X) → All P xs → P x → All P (put_at xs place x)
-All-put_at P xs place x all here = go (nat_lt place (length xs))
-  where
-    go : (b : Bool) → All P (if b then slice_set xs place x else xs ++ x ∷ [])
-    go true = All-set P xs place x here all
-    go false = All-push P xs x all here
+All-put_at P xs place x all here = cond_both (nat_lt place (length xs)) _ _ (All P) (λ _. All-set P xs place x here all) (λ _. All-push P xs x all here)
 
 pub length-put_at : {X Y : Type 0} (xs : List X) (ys : List Y) (place : ℕ) (x : X) (y : Y) → length xs ≡ length ys → length (put_at xs place x) ≡ length (put_at ys place y)
 length-put_at = grind (arith, length-set, length-append)

@@ -8,12 +8,6 @@ use Rattle.{
 }
 
 -- a block of one column
-pub single_count : (b : CellBlock) → IsSingle b → length b.columns ≡ 1
-single_count b is = cc
-
-pub single_rows : (b : CellBlock) → IsSingle b → b.rows ≡ length (block_column b).cells
-single_rows b is = cc
-
 pub single_made : (b : CellBlock) (c : ColumnOf Cell) → b ≡ single_block c → IsSingle b
 single_made b c is = cc
 

@@ -1,9 +1,9 @@
 -- Laws of what is settled.
 use Rattle.{
-  std.proofs.{Common.{◌≡◌, ◌∙◌, ◌<◌, ◌≤◌, refl, ap, sym, subst, List, [], ◌∷◌, ◌++◌, length, replicate, append_assoc, append-nil, Option, Some, None, option_map, ℕ, suc, zero, nat_eq, Bool, true, false, if◌then◌else◌, All, slice_index_or, nat_lt, arith}, lemmas.{Bool.Decides.{nat_tests}, List.{get_or-map}}},
-  cell_core.specs.{Texts.{AreGiven, IsLonger, IsGiven}, declared.cell.Cell.{Cell}, Values.{CellValue, text_cell, datum}},
+  std.proofs.{lemmas.{List.{get_or_append_left, get_or-replicate, get_or-map}, Bool.{cases_lt, cond_both, Decides.{nat_tests}}}, Common.{inl, inr, ◌≡◌, ◌∙◌, ◌≤◌, refl, ap, sym, List, [], ◌∷◌, ◌++◌, length, replicate, append_assoc, append-nil, Some, option_map, ℕ, suc, zero, nat_eq, if◌then◌else◌, All, slice_index_or, arith}},
+  cell_core.specs.{Texts.{AreGiven, IsLonger, IsGiven}, declared.cell.Cell.{Cell}, Values.{CellValue, datum}},
   meaning.specs.Text.{Text},
-  table_meaning.specs.{Settled.{IsSettled}, Table.{ColumnOf, NumberedTable, Table, table_value, heading_value, column_value, no_column}},
+  table_meaning.specs.{Settled.{IsSettled}, Table.{ColumnOf, NumberedTable, table_value, heading_value, column_value, no_column}},
   frame_store.specs.{Objects.{Tables, with_object}, Shown.{shown, with_shown, labels_value, headings_value, columns_value, cells_value}},
 }
 use Rattle.cell_core.specs.declared.cell.Cell.TheVariants as cell
@@ -27,76 +27,42 @@ longer_self texts = ([], sym (append-nil texts))
 pub longer_twice : (a b c : List Text) → IsLonger a b → IsLonger b c → IsLonger a c
 longer_twice = grind (arith, append_assoc)
 
-abbrev table_or_none : Option Table → Table → Table
-table_or_none None t = t
-table_or_none (Some t) other = t
-
 -- a table of a store
 pub object_settled : (texts : List Text) (tables : Tables) (id : ℕ) (t : NumberedTable) → tables id ≡ Some t → IsSettled shown texts tables → IsSettled table_value texts t
 object_settled texts tables id t is settled = λ more.
     let same : option_map (table_value (texts ++ more)) (tables id) ≡ option_map (table_value texts) (tables id) = λ j. settled more j id in
-    let both : Some (table_value (texts ++ more) t) ≡ Some (table_value texts t) = cc in
-    ap (λ o. table_or_none o (table_value texts t)) both
+    cc
 
 -- one table more or another, and the others as they were
 pub shown_with : (old new : List Text) (tables tables' : Tables) (id : ℕ) (t : NumberedTable) → IsLonger old new → IsSettled shown old tables → tables' ≡ with_object tables id (Some t)
     → shown new tables' ≡ with_shown (shown old tables) id (Some (table_value new t))
-shown_with old new tables _ id t longer settled is = ap (shown new) is ∙ (λ j other. at other (nat_eq id other) j)
+shown_with old new tables tables' id t longer settled is = rw is (λ j other. at other j)
   where
-    before : (other : ℕ) → option_map (table_value new) (tables other) ≡ option_map (table_value old) (tables other)
-    before other = λ j. seen_later shown old new tables longer settled j other
-
-    at : (other : ℕ) (b : Bool) → option_map (table_value new) (if b then Some t else tables other) ≡ (if b then Some (table_value new t) else option_map (table_value old) (tables other))
-    at _ true = refl
-    at other false = before other
+    at : (other : ℕ) → option_map (table_value new) (if nat_eq id other then Some t else tables other) ≡ (if nat_eq id other then Some (table_value new t) else option_map (table_value old) (tables other))
+    at other =
+        let before : option_map (table_value new) (tables other) ≡ option_map (table_value old) (tables other) = λ j. seen_later shown old new tables longer settled j other in
+        grind (arith, nat_tests)
 
 pub settled_with : (texts : List Text) (tables tables' : Tables) (id : ℕ) (t : NumberedTable) → IsSettled shown texts tables → IsSettled table_value texts t → tables' ≡ with_object tables id (Some t)
     → IsSettled shown texts tables'
-settled_with texts tables _ id t settled here is = subst (IsSettled shown texts) (sym is) (λ more j other. at more other (nat_eq id other) j)
-  where
-    at : (more : List Text) (other : ℕ) (b : Bool) → option_map (table_value (texts ++ more)) (if b then Some t else tables other) ≡ option_map (table_value texts) (if b then Some t else tables other)
-    at _ _ true = search
-    at more other false = λ j. settled more j other
+settled_with texts tables tables' id t settled here is = rw is (λ more j other. cond_both (nat_eq id other) (Some t) (tables other) (λ o. option_map (table_value (texts ++ more)) o ≡ option_map (table_value texts) o) (λ _. ap (λ v. Some v) (here more)) (λ _ k. settled more k other) j)
 
 -- a number that was given keeps its text
-text_kept : (texts more : List Text) (i : ℕ) → i < length texts → slice_index_or (texts ++ more) i [] ≡ slice_index_or texts i []
-text_kept [] _ i lt = absurd (omega arith)
-text_kept (t ∷ ts) _ zero _ = refl
-text_kept (t ∷ ts) more (suc i) lt = text_kept ts more i (omega arith)
-
 pub cell_settled : (texts : List Text) (c : Cell) → IsGiven texts c → IsSettled datum texts c
-cell_settled = grind (arith, text_kept)
-
-replicate_at : (i : ℕ) (t : Text) → slice_index_or (replicate (suc i) t) i [] ≡ t
-replicate_at zero t = refl
-replicate_at (suc i) t = replicate_at i t
+cell_settled = grind (arith, get_or_append_left)
 
 -- a number that wasn't given would be seen otherwise among further texts
 beyond : (texts : List Text) (i : ℕ) → length texts ≤ i → (more : List Text) × (slice_index_or (texts ++ more) i [] ≡ 0 ∷ []) × (slice_index_or texts i [] ≡ [])
-beyond [] i _ = (replicate (suc i) (0 ∷ []), replicate_at i (0 ∷ []), refl)
+beyond [] i _ = (replicate (suc i) (0 ∷ []), get_or-replicate (suc i) i (0 ∷ []) [] (omega arith), refl)
 beyond (t ∷ ts) zero le = absurd (omega arith)
 beyond (t ∷ ts) (suc i) le = beyond ts i (omega arith)
 
-abbrev text_in : CellValue → Text
-text_in (text_cell t) = t
-text_in c = []
-
 pub cell_given : (texts : List Text) (c : Cell) → IsSettled datum texts c → IsGiven texts c
-cell_given _ cell.Na settled = tt
-cell_given _ (cell.Int z) settled = tt
-cell_given _ (cell.Bool b) settled = tt
-cell_given texts (cell.Text id) settled = go (nat_lt id.0 (length texts)) refl
-  where
-    go : (b : Bool) → nat_lt id.0 (length texts) ≡ b → id.0 < length texts
-    go true e = grind (arith, nat_tests)
-    go false e =
-        let le : length texts ≤ id.0 = grind (arith, nat_tests) in
-        let far = beyond texts id.0 le in
-        grind arith
-
-abbrev tail_of : List CellValue → List CellValue
-tail_of [] = []
-tail_of (v ∷ vs) = vs
+cell_given texts (cell.Text id) settled = elim (cases_lt id.0 (length texts)) [
+  | inl lt ↦ lt
+  | inr le ↦ let far = beyond texts id.0 le in grind arith
+]
+cell_given _ _ _ = tt
 
 abbrev cells_in : ColumnOf CellValue → List CellValue
 cells_in c = c.cells
@@ -109,7 +75,7 @@ cells_settled texts (c ∷ cs) given = λ more j.
 
 pub cells_given : (texts : List Text) (cs : List Cell) → IsSettled cells_value texts cs → AreGiven texts cs
 cells_given _ [] settled = grind arith
-cells_given texts (c ∷ cs) settled = grind (arith, cell_given, cells_given texts cs (λ more. ap (λ l. tail_of l) (settled more)))
+cells_given texts (c ∷ cs) settled = grind (arith, cell_given, cells_given texts cs (λ more. cc (settled more)))
 
 pub column_settled : (texts : List Text) (c : ColumnOf Cell) → AreGiven texts c.cells → IsSettled column_value texts c
 column_settled = search cells_settled

@@ -1,6 +1,6 @@
 -- Cells that are put into columns.
 use Rattle.{
-  std.{proofs.{Common.{◌≡◌, ◌∙◌, ℕ, zero, suc, ◌+◌, ◌*◌, ◌/◌, ◌%◌, ◌<◌, List, [], ◌∷◌, length, drop, map, refl, sym, subst, arith, Some}, lemmas.{List.{map-set, length-set, get_or_default}, Option.{get_or_from_slice_get}}, Math.{Seq.{drop-cons, drop-length}, Nat.{div-lt_iff_lt-mul}}}, specs.Prelude.{slice_index_or, slice_index, slice_get, slice_set}},
+  std.{proofs.{Common.{◌≡◌, ◌∙◌, ℕ, zero, suc, ◌+◌, ◌/◌, ◌%◌, ◌<◌, List, [], ◌∷◌, length, drop, map, refl, arith, Some}, lemmas.{List.{map-set, length-set, get_or_default}, Option.{get_or_from_slice_get}}, Math.Seq.{drop-cons, drop-length}}, specs.Prelude.{slice_index_or, slice_index, slice_get, slice_set}},
   cell_core.specs.declared.cell.Cell.{Cell, TheVariants.{Na}},
   column_core.specs.Blocks.{CellBlock},
   table_meaning.specs.{Table.{ColumnOf, column_at, no_column}, Change.{with_cell_at, with_cell, with_values_from}},
@@ -19,25 +19,16 @@ pub record AreAlike (now first : List (ColumnOf Cell)) : Type 0 where
 
 -- an item is replaced by one that f cannot tell from it
 set_seen : {X Y : Type 0} (f : X → Y) (xs : List X) (i q : ℕ) (x d : X) → f x ≡ f (slice_index_or xs i d) → f (slice_index_or (slice_set xs i x) q d) ≡ f (slice_index_or xs q d)
-set_seen f [] i q x d h = refl
 set_seen f (y ∷ ys) zero zero x d h = h
-set_seen f (y ∷ ys) zero (suc q) x d h = refl
-set_seen f (y ∷ ys) (suc i) zero x d h = refl
 set_seen f (y ∷ ys) (suc i) (suc q) x d h = set_seen f ys i q x d h
+set_seen f [] i q x d h = refl
+set_seen f (y ∷ ys) i q x d h = refl
 
 pub alike_put : (now now' first : List (ColumnOf Cell)) (place row : ℕ) (cell : Cell) → AreAlike now first → now' ≡ with_cell now place row cell → AreAlike now' first
-alike_put now _ first place row cell alike is =
-    subst (λ c. AreAlike c first) (sym is)
-    record {
-      kinds = λ q. set_seen (λ c. c.kind) now place q (with_cell_at (column_at now place) row cell) no_column refl ∙ alike.kinds q;
-      lengths = λ q. set_seen (λ c. length c.cells) now place q (with_cell_at (column_at now place) row cell) no_column (length-set (column_at now place).cells row cell) ∙ alike.lengths q;
-    }
-
-pub row_below : (k rows places : ℕ) → k < rows * places → k / places < rows
-row_below = grind (arith, div-lt_iff_lt-mul)
-
-pub place_below : (k rows places : ℕ) → k < rows * places → k % places < places
-place_below = grind arith
+alike_put now _ first place row cell alike is = rw is (record {
+  kinds = λ q. set_seen (λ c. c.kind) now place q (with_cell_at (column_at now place) row cell) no_column refl ∙ alike.kinds q;
+  lengths = λ q. set_seen (λ c. length c.cells) now place q (with_cell_at (column_at now place) row cell) no_column (length-set (column_at now place).cells row cell) ∙ alike.lengths q;
+})
 
 -- one more value is put
 pub one_more_put : (rows places : List ℕ) (values : List Cell) (k width place row : ℕ) (cell : Cell) (now now' whole : List (ColumnOf Cell)) → width ≡ length places

@@ -1,8 +1,8 @@
 -- What the calls on groups answer, as columns.
 use Rattle.{
-  std.proofs.{Common.{arith, ◌≡◌, ◌∙◌, ap, refl, sym, ℕ, true, false, cond, List, [], ◌∷◌, map, length, slice_index_or, Option, Some, None, Ok, Err}, Math.ListN.{get_or-map}, lemmas.{Bool.{cases_lt}, List.{get_or_past, Elements.{All-map}}}},
-  cell_core.specs.{declared.cell.{Cell.{Cell, TheVariants.{Na}}, Kind.{Kind, TheVariants.{Int64, Text as string}}}, contracts.cell.KindPartialEq.TheImpl.{eq-value}},
-  meaning.specs.{Cell.{na_cell, datum, IsGiven, AreGiven}, Column.{kind_mismatch, tabulate, gap_cell, taken}, Cumulate.{cumulation_takes}},
+  std.proofs.{Common.{arith, ◌≡◌, ap, refl, sym, ℕ, true, false, List, [], ◌∷◌, map, length, slice_index_or, Option, Ok}, Math.ListN.{get_or-map}, lemmas.{Bool.{cases_lt}, List.{get_or_past, Elements.{All-map}}}},
+  cell_core.specs.{declared.cell.{Cell.{Cell, TheVariants.{Na}}, Kind.{Kind, TheVariants.{Text as string}}}, contracts.cell.KindPartialEq.TheImpl.{eq-value}},
+  meaning.specs.{Cell.{na_cell, datum, IsGiven, AreGiven}, Column.{tabulate, gap_cell, taken}, Cumulate.{cumulation_takes}},
   column_core.specs.Columns.{CellColumn, column_value},
   group_meaning.specs.{Rows.{GroupsValue}, Reductions.{GroupReduction, group_takes, group_kind, reduced_cells, running_cell, transform_groups, cumsum_groups}},
   group_by.{specs.Counted.{AreNumbers}, proofs.NumberLaws.{numbers_value}},
@@ -15,11 +15,7 @@ kind_summed = grind arith
 
 pub cumsum_answer : (texts : List (List ℕ)) (groups groups' : GroupsValue) (a made : CellColumn) → groups' ≡ groups → eq-value.it a.kind string ≡ false
     → AreNumbers made (λ ts. tabulate (length groups'.codes) (running_cell groups'.codes (map (datum ts) a.cells))) → cumsum_groups groups (column_value texts a) ≡ Ok (column_value texts made)
-cumsum_answer texts groups _ a _ same other are =
-    let whole = λ (gr : GroupsValue). tabulate (length gr.codes) (running_cell gr.codes (map (datum texts) a.cells)) in
-    ap (λ b. cond b (Ok record { kind = Int64; cells = whole groups }) (Err kind_mismatch)) (kind_summed _ other)
-    ∙ (λ i. Ok record { kind = Int64; cells = whole (sym same i) })
-    ∙ ap Ok (sym (numbers_value _ _ are texts))
+cumsum_answer texts groups groups' a made same other are = rw (← same, kind_summed a.kind other) (ap Ok (sym (numbers_value _ _ are texts)))
 
 pub transform_answer : (op : GroupReduction) (texts : List (List ℕ)) (groups : GroupsValue) (a made : CellColumn) → group_takes op a.kind ≡ true → made.kind ≡ group_kind op a.kind
     → map (datum texts) made.cells ≡ map (gap_cell na_cell (reduced_cells op groups (map (datum texts) a.cells))) groups.codes → transform_groups op groups (column_value texts a) ≡ Ok (column_value texts made)
@@ -27,8 +23,7 @@ transform_answer _ _ _ a _ takes kinds cells = search
 
 -- cells that are taken, with their texts
 gap_seen : (texts : List (List ℕ)) (cells : List Cell) (gap : Option ℕ) → datum texts (gap_cell Na cells gap) ≡ gap_cell na_cell (map (datum texts) cells) gap
-gap_seen _ _ None = refl
-gap_seen texts cells (Some place) = sym (get_or-map (datum texts) cells place Na)
+gap_seen texts cells gap = grind (arith, get_or-map (datum texts) cells)
 
 pub gaps_seen : (texts : List (List ℕ)) (cells : List Cell) (gaps : List (Option ℕ)) → map (datum texts) (taken Na cells gaps) ≡ map (gap_cell na_cell (map (datum texts) cells)) gaps
 gaps_seen _ _ [] = refl

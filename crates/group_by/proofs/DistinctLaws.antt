@@ -1,13 +1,13 @@
 -- How many different cells each group has, with one cell more.
 use Rattle.{
-  std.{proofs.{Common.{◌≡◌, ◌∙◌, ◌+◌, ◌<◌, ◌≤◌, ◌==◌, ◌^◌, ap, refl, sym, arith, ℕ, Bool, true, false, not, ◌&&◌, ◌||◌, cond, List, [], ◌∷◌, ◌++◌, filter, take, length, slice_index_or, All, Option, Some, None, length-append, append-nil}, lemmas.{Bool.{false≢true, eqb-true}, List.{length-map, get_or_default, Elements.{filter-append}, Folds.{list_any-append}}}}, specs.{List.{list_any}, Cmp.{IsEquivalence, nat_eq_equiv, on_equiv, and_equiv}}},
+  std.{proofs.{Common.{◌≡◌, ◌∙◌, ◌+◌, ◌<◌, ◌≤◌, ◌^◌, refl, arith, ℕ, Bool, true, false, not, ◌&&◌, ◌||◌, cond, List, [], ◌∷◌, ◌++◌, filter, take, length, slice_index_or, All, Option, Some, None, length-append, append-nil}, lemmas.{Bool.{false≢true, eqb-true}, List.{length-map, get_or_default, Elements.{filter-append}, Folds.{list_any-append}}}}, specs.{List.{list_any}, Cmp.{IsEquivalence, nat_eq_equiv, on_equiv, and_equiv}}},
   indexmap.specs.IndexSet.{insert_key},
   cell_core.specs.{declared.cell.Cell.{Cell}, contracts.cell.CellEq.TheImpl.Laws.{laws-law}},
   meaning.specs.{Cell.{CellValue, na_cell, datum, AreDistinct, IsGiven}, Reduce.{is_present, present, same_cell, distinct, distinct_count}},
   nullable_array.proofs.DistinctLaws.{numbers_apart, truths_apart, texts_apart},
   row_keys.proofs.DistinctLaws.{covers_more},
   group_meaning.specs.Rows.{is_in, rows_of_group, cells_of_group},
-  group_by.{specs.{Distincts.{is_missing, same_by_number, same_member, noted, new_in}, Counted.{IsCounted}}, proofs.{RowLaws.{cells_more, cells_same}, NumberLaws.{rows_few}}},
+  group_by.{specs.{Distincts.{is_missing, same_by_number, same_member, noted, new_in}, Counted.{IsCounted}}, proofs.{RowLaws.{is_in_some, cells_more, cells_same}, NumberLaws.{rows_few}}},
   column_core.specs.Moves.{IsPlaceOf},
 }
 
@@ -44,9 +44,6 @@ member_laws = and_equiv (on_equiv _ nat_eq_equiv) (on_equiv (λ (p : ℕ × Cell
 member_more : (seen : List (ℕ × Cell)) (k q : ℕ × Cell) → list_any (same_member q) (insert_key same_member seen k) ≡ (list_any (same_member q) seen || (same_member q k || false))
 member_more seen k q = covers_more _ member_laws k _ _ (λ p. refl) q ∙ list_any-append _ seen _
 
-or_false : (b : Bool) → (b || false) ≡ b
-or_false = grind arith
-
 module _ (texts : List (List ℕ)) (apart : AreDistinct texts) (codes : List (Option ℕ)) (cells : List CellValue) (row count : ℕ) (inside : row < length codes) (cell : Cell) (given : IsGiven texts cell) (here : slice_index_or cells row na_cell ≡ datum texts cell) (seen : List (ℕ × Cell)) where
   -- the present cells of a group in the rows below this one
   abbrev pub so_far : ℕ → ℕ → List CellValue
@@ -59,66 +56,21 @@ module _ (texts : List (List ℕ)) (apart : AreDistinct texts) (codes : List (Op
   abbrev code : Option ℕ
   code = slice_index_or codes row None
 
-  same_so_far : (group : ℕ) → is_in group code ≡ false → so_far (row + 1) group ≡ so_far row group
-  same_so_far = search cells_same
-
-  more_so_far : (group : ℕ) → code ≡ Some group → so_far (row + 1) group ≡ so_far row group ++ cond (not (is_missing cell)) (datum texts cell ∷ []) []
-  more_so_far group is = cc (cells_more codes row inside cells group is, here, filter-append is_present (cells_of_group group (take row codes) cells) (datum texts cell ∷ []), missing_value texts cell)
-
-  no_more : (group : ℕ) → code ≡ Some group → is_missing cell ≡ true → so_far (row + 1) group ≡ so_far row group
-  no_more = grind (arith, more_so_far, append-nil)
-
-  one_more : (group : ℕ) → code ≡ Some group → is_missing cell ≡ false → so_far (row + 1) group ≡ so_far row group ++ datum texts cell ∷ []
-  one_more group is present' = cc (more_so_far group is)
+  so_far_more : (g : ℕ) → so_far (row + 1) g ≡ so_far row g ++ cond (is_in g code && not (is_missing cell)) (datum texts cell ∷ []) []
+  so_far_more g = elim (is_in g code) as (λ b. is_in g code ≡ b → so_far (row + 1) g ≡ so_far row g ++ cond (b && not (is_missing cell)) (datum texts cell ∷ []) []) [
+    | true ↦ λ e. cc (cells_more codes row inside cells g (is_in_some g code e), here, filter-append is_present (cells_of_group g (take row codes) cells) (datum texts cell ∷ []), missing_value texts cell)
+    | false ↦ λ e. cc (cells_same codes row inside cells g e, append-nil (so_far row g))
+  ] refl
 
   module _ (were : AreSeen seen row) where
-    -- what is seen after the row's cell was noted
-    seen_in : (group g : ℕ) (c : Cell) → code ≡ Some group → is_missing cell ≡ false → IsGiven texts c → is_missing c ≡ false
-        → list_any (same_member (g, c)) (insert_key same_member seen (group, cell)) ≡ list_any (same_cell (datum texts c)) (so_far (row + 1) g)
-    seen_in group g c is there hc pc =
-        member_more seen _ (g, c)
-        ∙ ap (λ b. b || (((g == group) && same_by_number c cell) || false)) (were g c hc pc)
-        ∙ (elim (g == group) as (λ b. (g == group) ≡ b → (list_any (same_cell (datum texts c)) (so_far row g) || ((b && same_by_number c cell) || false)) ≡ list_any (same_cell (datum texts c)) (so_far (row + 1) g)) [
-          | true ↦ λ e.
-              let mine : code ≡ Some g = grind (arith, eqb-true) in
-              ap (λ b. list_any (same_cell (datum texts c)) (so_far row g) || (b || false)) (sym (cells_apart texts apart c cell hc given pc there))
-              ∙ sym (cc (one_more g mine there, list_any-append (same_cell (datum texts c)) (so_far row g) (datum texts cell ∷ [])))
-          | false ↦ λ e. or_false _ ∙ ap (list_any (same_cell (datum texts c))) (sym (same_so_far g (ap (is_in g) is ∙ e)))
-        ] refl)
-
-    by_group : (g : ℕ) (o : Option ℕ) → code ≡ o → is_missing cell ≡ true → so_far (row + 1) g ≡ so_far row g
-    by_group g None is _ = same_so_far g (ap (is_in g) is)
-    by_group g (Some group) is missing = elim (g == group) as (λ b. (g == group) ≡ b → so_far (row + 1) g ≡ so_far row g) [
-      | true ↦ grind (arith, no_more, eqb-true)
-      | false ↦ λ e. same_so_far g (ap (is_in g) is ∙ e)
-    ] refl
-
     pub seen_more : (o : Option ℕ) → code ≡ o → AreSeen (noted seen o cell) (row + 1)
-    seen_more None is g c hc pc = grind (arith, same_so_far)
-    seen_more (Some group) is g c hc pc = elim (is_missing cell) as (λ b. is_missing cell ≡ b → list_any (same_member (g, c)) (cond b seen (insert_key same_member seen (group, cell))) ≡ list_any (same_cell (datum texts c)) (so_far (row + 1) g)) [
-      | true ↦ λ missing. were g c hc pc ∙ ap (list_any (same_cell (datum texts c))) (sym (by_group g _ is missing))
-      | false ↦ search seen_in
-    ] refl
+    seen_more None is g c hc pc = grind (arith, so_far_more g, append-nil)
+    seen_more (Some group) is g c hc pc = grind (arith, so_far_more g, append-nil, list_any-append, member_more seen (group, cell) (g, c), were g c hc pc, cells_apart texts apart c cell hc given pc)
 
     -- how many different cells a group has after it
-    counted_in : (group g : ℕ) → code ≡ Some group → is_missing cell ≡ false
-        → length (distinct same_cell (so_far (row + 1) g)) ≡ length (distinct same_cell (so_far row g)) + cond (is_in g (cond (list_any (same_member (group, cell)) seen) None (Some group))) 1 0
-    counted_in group g is there = elim (g == group) as (λ b. (g == group) ≡ b → length (distinct same_cell (so_far (row + 1) g)) ≡ length (distinct same_cell (so_far row g)) + cond (is_in g (cond (list_any (same_member (group, cell)) seen) None (Some group))) 1 0) [
-      | true ↦ grind (arith, eqb-true, one_more, counted_push)
-      | false ↦ λ e.
-          ap (λ l. length (distinct same_cell l)) (same_so_far g (ap (is_in g) is ∙ e))
-          ∙ (let zero' : length (distinct same_cell (so_far row g)) ≡ length (distinct same_cell (so_far row g)) + 0 = omega arith in zero')
-          ∙ ap (λ n. length (distinct same_cell (so_far row g)) + n) (grind arith)
-    ] refl
-
     count_more : (o : Option ℕ) → code ≡ o → (g : ℕ) → length (distinct same_cell (so_far (row + 1) g)) ≡ length (distinct same_cell (so_far row g)) + cond (is_in g (new_in seen o cell)) 1 0
-    count_more None is g = grind (arith, same_so_far)
-    count_more (Some group) is g = elim (is_missing cell) as (λ b. is_missing cell ≡ b → length (distinct same_cell (so_far (row + 1) g)) ≡ length (distinct same_cell (so_far row g)) + cond (is_in g (cond b None (cond (list_any (same_member (group, cell)) seen) None (Some group)))) 1 0) [
-      | true ↦ λ missing.
-          ap (λ l. length (distinct same_cell l)) (by_group g _ is missing)
-          ∙ (let zero' : length (distinct same_cell (so_far row g)) ≡ length (distinct same_cell (so_far row g)) + 0 = omega arith in zero')
-      | false ↦ search counted_in
-    ] refl
+    count_more None is g = grind (arith, so_far_more g, append-nil)
+    count_more (Some group) is g = grind (arith, so_far_more g, append-nil, counted_push, were g cell given, eqb-true)
 
     pub distinct_more : (before after : List ℕ) (new : Option ℕ) → new ≡ new_in seen code cell → IsCounted new before after → length before ≡ count
         → ((g : ℕ) → g < count → slice_index_or before g 0 ≡ distinct_count (cells_of_group g (take row codes) cells)) → (g : ℕ) → g < count → slice_index_or after g 0 ≡ distinct_count (cells_of_group g (take (row + 1) codes) cells)

@@ -1,6 +1,6 @@
 -- Columns of numbers, one row more at a time, and what is counted of groups.
 use Rattle.{
-  std.{proofs.{Common.{◌≡◌, ◌∙◌, ◌+◌, ◌<◌, ◌≤◌, ◌^◌, ap, refl, sym, subst, arith, ℕ, Bool, true, false, cond, List, [], ◌∷◌, ◌++◌, map, take, length, slice_index_or, All, Option, None, Result, IfOk, length-append}, lemmas.{Bool.{false≢true}, List.{map-append, length-take-le, get_or_default, Elements.{All-push}, FromFn.{fill_by_all}}}}, specs.List.{range_with_len}},
+  std.{proofs.{Common.{replicate, ◌≡◌, ◌+◌, ◌<◌, ◌≤◌, ◌^◌, refl, sym, subst, arith, ℕ, Bool, true, false, cond, List, [], ◌∷◌, ◌++◌, map, take, length, slice_index_or, All, Option, None, Result, IfOk, length-append}, lemmas.{List.{map-append, length-take-le, get_or_default, Elements.{All-replicate, All-push}, FromFn.{fill_by_all}}, Bool.{false≢true}}}, specs.List.{range_with_len}},
   cell_core.specs.declared.cell.{Cell.{Cell}, Kind.TheVariants.{Int64}},
   meaning.specs.{Cell.{CellValue, datum, holds, IsGiven}, Column.{tabulate}},
   column_core.{specs.{Columns.{CellColumn, column_value}, Moves.{IsPlaceOf}}, proofs.CellRows.{map-map}},
@@ -51,7 +51,7 @@ rows_few group row codes le = omega (arith, few_rows (is_in group) 0 (take row c
 length_more : (codes : List (Option ℕ)) (row : ℕ) (inside : row < length codes) (g : ℕ) → length (rows_of_group g (take (row + 1) codes)) ≡ length (rows_of_group g (take row codes)) + cond (is_in g (slice_index_or codes row None)) 1 0
 length_more codes row inside g = elim (is_in g (slice_index_or codes row None)) as (λ b. is_in g (slice_index_or codes row None) ≡ b → length (rows_of_group g (take (row + 1) codes)) ≡ length (rows_of_group g (take row codes)) + cond b 1 0) [
   | true ↦ search (rows_more, is_in_some, length-append)
-  | false ↦ λ h. ap length (rows_same _ _ inside g h) ∙ (let e : length (rows_of_group g (take row codes)) ≡ length (rows_of_group g (take row codes)) + 0 = omega arith in e)
+  | false ↦ grind (arith, rows_same codes row inside g)
 ] refl
 
 pub rows_counted : (codes : List (Option ℕ)) (row count : ℕ) (code : Option ℕ) (before after : List ℕ) → row < length codes → slice_index_or codes row None ≡ code → IsCounted code before after → length before ≡ count
@@ -72,3 +72,7 @@ counts_cells counts count f size are = cc (fill_by_all f counts count 0 size are
 -- an answer that says more
 pub if_ok_more : {A E : Type 0} {P Q : A → Type 0} → ((a : A) → P a → Q a) → (r : Result A E) → IfOk r P → IfOk r Q
 if_ok_more = grind arith
+
+-- a list of one item again and again
+pub all_alike : {X : Type 0} (x : X) (n : ℕ) (xs : List X) → xs ≡ replicate n x → All (λ y. y ≡ x) xs
+all_alike x n _ is = rw is (All-replicate (λ y. y ≡ x) n x refl)

@@ -1,8 +1,7 @@
 -- Columns that are made by groups.
 use Rattle.{
-  std.{proofs.{Common.{arith, ◌≡◌, ◌≢◌, ◌∙◌, refl, ap, sym, subst, append_assoc, ℕ, ◌+◌, ◌<◌, Bool, true, false, ◌&&◌, List, [], ◌∷◌, ◌++◌, map, length, take, slice_index_or, Some, Result, Ok, Err, if◌then◌else◌}, lemmas.{List.{length-map, map-append, take_more, FromFn.{length-map-range_with_len}, Elements.{All-cons, All-head, All-tail, All-push}}, Option.{get_or_from_slice_get}}}, specs.{Prelude.{slice_get, IfOk}, List.{list_all}}},
-  cell_core.specs.declared.cell.Kind.{Kind},
-  meaning.specs.{Text.{Text}, Cell.{CellValue, datum, AreGiven}, Column.{ColumnValue, ColumnFault, kind_mismatch}, Fault.{FaultValue, wrong_kind, then_value}},
+  std.{proofs.{Common.{arith, ◌≡◌, ◌≢◌, refl, append_assoc, ℕ, ◌+◌, ◌<◌, Bool, true, false, List, [], ◌∷◌, ◌++◌, map, length, take, slice_index_or, Some, Result, Ok, Err}, lemmas.{Bool.{and_parts}, List.{length-map, map-append, take_more, FromFn.{length-map-range_with_len}, Elements.{All-cons, All-head, All-tail, All-push}}, Option.{get_or_from_slice_get}}}, specs.{Prelude.{slice_get, IfOk}, List.{list_all}}},
+  meaning.specs.{Text.{Text}, Cell.{CellValue, datum, AreGiven}, Column.{ColumnValue}, Fault.{FaultValue, wrong_kind}},
   column_core.specs.{Blocks.{CellBlock}, Columns.{CellColumn}},
   table_meaning.specs.{Settled.{IsSettled}, Table.{ColumnOf, NumberedTable, Table, column_at, no_column, table_value, column_value}},
   form_meaning.specs.Finish.{value_of_column, made_column},
@@ -21,25 +20,16 @@ abbrev pub if_taken : {A : Type 0} → Bool → A → Result A FaultValue
 if_taken true a = Ok a
 if_taken false a = Err wrong_kind
 
-abbrev made_if : Bool → Kind → List CellValue → Result ColumnValue ColumnFault
-made_if b kind cells = if b then Ok record { kind = kind; cells = cells } else Err kind_mismatch
-
-made_is : (b : Bool) (kind : Kind) (cells : List CellValue) → made_column (made_if b kind cells) ≡ if_taken b (record { kind = kind; cells = cells })
-made_is = grind arith
-
 one_meant : (call : ColumnCall) (g : GroupsValue) (c : ColumnOf CellValue) → made_column (made_of call g (value_of_column c)) ≡ if_taken (takes call c.kind) (column_made call g c)
-one_meant = grind (arith, made_is)
+one_meant = grind arith
 
 -- and of all, by whether all are taken
 abbrev takes_seen : ColumnCall → Table → ℕ → Bool
 takes_seen call t place = takes call (column_at t.columns place).kind
 
-first_then : {A : Type 0} (b : Bool) (x : A) (c : Bool) (xs : List A) → then_value (if_taken b x) (λ y. then_value (if_taken c xs) (λ ys. Ok (y ∷ ys))) ≡ if_taken (b && c) (x ∷ xs)
-first_then = grind arith
-
 each_meant : (call : ColumnCall) (g : GroupsValue) (t : Table) (places : List ℕ) → each_of t (made_of call g) places ≡ if_taken (list_all (takes_seen call t) places) (map (made_at call g t) places)
 each_meant _ g t [] = refl
-each_meant call g t (p ∷ ps) = search (one_meant, first_then, each_meant call g t ps)
+each_meant call g t (p ∷ ps) = grind (arith, one_meant call g (column_at t.columns p), each_meant call g t ps)
 
 -- kinds don't depend on texts
 all_seen : (texts : List Text) (call : ColumnCall) (t : NumberedTable) (places : List ℕ) → list_all (takes_seen call (table_value texts t)) places ≡ list_all (takes_at call t) places
@@ -53,20 +43,10 @@ each_is texts call g t places b is = cc (each_meant call g (table_value texts t)
 pub all_taken : (call : ColumnCall) (t : NumberedTable) (places : List ℕ) → AreColumnsOf t places → list_all (takes_at call t) places ≡ true → AreTaken call t places
 all_taken _ t [] below is = grind arith
 all_taken call t (p ∷ ps) below is =
-    let both = both_true _ _ is in
+    let both = and_parts _ _ is in
     All-cons (λ place. (place < length t.columns) × (takes_at call t place ≡ true)) p ps (All-head (λ place. place < length t.columns) p ps below, both.0) (all_taken _ t ps (All-tail (λ place. place < length t.columns) p ps below) both.1)
-  where
-    both_true : (a b : Bool) → a && b ≡ true → (a ≡ true) × (b ≡ true)
-    both_true true b e = (refl, e)
-    both_true false b e = cc
 
 -- what a kernel made of a kind that is taken
-abbrev the_answer : Result ColumnValue ColumnFault → Result ColumnValue ColumnFault
-the_answer r = r
-
-ok_same : (a b : ColumnValue) → the_answer (Ok a) ≡ the_answer (Ok b) → a ≡ b
-ok_same a b e = cc
-
 pub never_mismatch : (texts : List Text) (call : ColumnCall) (g : GroupsValue) (a : ColumnValue) (r : Result CellColumn GroupFault) → takes call a.kind ≡ true → Answers texts r (made_of call g a) → r ≢ Err KindMismatch
 never_mismatch = grind arith
 
@@ -83,8 +63,7 @@ boxed c = record { kind = c.kind; rows = length c.cells; columns = c.cells ∷ [
 
 pub one_more_block : (texts : List Text) (rows : ℕ) (c : CellColumn) (block : CellBlock) (blocks blocks' : List CellBlock) → block ≡ boxed c → blocks' ≡ blocks ++ block ∷ [] → length c.cells ≡ rows → AreGiven texts c.cells → AreBlocks texts rows blocks → AreBlocks texts rows blocks'
 one_more_block texts rows c _ blocks _ is pushed counted given before =
-    subst (AreBlocks texts rows) (sym (pushed ∙ ap (λ b. blocks ++ b ∷ []) is))
-    record {
+    rw (pushed, is) record {
       single = All-push IsSingle blocks (boxed c) before.single refl;
       filled = rw (map-append block_column blocks (boxed c ∷ [])) (All-push (λ d. length d.cells ≡ rows) (map block_column blocks) (table_column c) before.filled counted);
       given = rw (map-append block_column blocks (boxed c ∷ [])) (All-push (λ d. AreGiven texts d.cells) (map block_column blocks) (table_column c) before.given given);
@@ -96,12 +75,7 @@ one_more_value = grind (arith, map-append)
 -- the columns so far, with one more
 pub one_more_column : {X : Type 0} (f : ℕ → X) (places : List ℕ) (k place : ℕ) (x : X) (before made made' : List X) → k < length places → slice_get places k ≡ Some place → x ≡ f place → made' ≡ made ++ x ∷ []
     → made ≡ before ++ map f (take k places) → made' ≡ before ++ map f (take (k + 1) places)
-one_more_column f places k place x before _ _ lt at is pushed so_far =
-    pushed
-    ∙ (λ i. so_far i ++ is i ∷ [])
-    ∙ append_assoc before (map f (take k places)) (f place ∷ [])
-    ∙ ap (λ l. before ++ l)
-    (cc (get_or_from_slice_get places k place 0 at, take_more places k 0 lt, map-append f (take k places) (slice_index_or places k 0 ∷ [])))
+one_more_column f places k place x before _ _ lt at is pushed so_far = cc (pushed, so_far, is, append_assoc before (map f (take k places)) (f place ∷ []), get_or_from_slice_get places k place 0 at, take_more places k 0 lt, map-append f (take k places) (slice_index_or places k 0 ∷ []))
 
 -- what was made of a kind that is taken
 module _ (made : Result CellColumn GroupFault) where
@@ -110,10 +84,10 @@ module _ (made : Result CellColumn GroupFault) where
 
   module _ {E : Type 0} (texts : List Text) (call : ColumnCall) (g : GroupsValue) (a : CellColumn) (e : takes call a.kind ≡ true) (answers : Answers texts made (made_of call g (kernel.column_value texts a))) where
     pub column_by : (r : Result CellColumn E) → IfOk r (λ c. made ≡ Ok c) → IfOk r (λ c. column_value texts (table_column c) ≡ column_made call g (column_value texts (table_column a)))
-    column_by = grind (arith, ok_same)
+    column_by = grind arith
 
     pub count_by : (r : Result CellColumn E) → IfOk r (λ c. made ≡ Ok c) → IfOk r (λ c. length c.cells ≡ rows_made call g)
-    count_by (Ok c) is = count_is texts _ g a c (grind (arith, ok_same))
+    count_by (Ok c) is = count_is texts _ g a c (grind arith)
     count_by (Err f) _ = tt
 
 -- a column of the table

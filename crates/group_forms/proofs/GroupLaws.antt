@@ -1,21 +1,21 @@
 -- Tables that have a row for each group.
 use Rattle.{
   label_methods.{proofs.IndexingLaws.{labelled, headings_seen}, specs.Levels.{row_labels}},
-  std.{proofs.{Common.{arith, ◌≡◌, ◌∙◌, refl, ap, sym, ℕ, Bool, true, false, ◌&&◌, List, [], ◌∷◌, ◌++◌, map, length, All, Option, None, Result, if◌then◌else◌}, lemmas.List.{length-map, length-append, map-append, FromFn.{length-map-range_with_len}, Elements.{All-append}}}, specs.{Prelude.{IsSome}, List.{list_all}}},
+  std.{proofs.{Common.{arith, ◌≡◌, ◌∙◌, refl, ap, sym, ℕ, Bool, true, false, ◌&&◌, List, [], ◌∷◌, ◌++◌, map, length, All, Option, None, if◌then◌else◌}, lemmas.List.{length-map, length-append, map-append, FromFn.{length-map-range_with_len}, Elements.{All-append}}}, specs.{Prelude.{IsSome}, List.{list_all}}},
   cell_core.specs.declared.{cell.Label.{Label}, code.Code.TheVariants.{WrongKind}, grid.Shape.TheVariants.{Frame}},
-  meaning.specs.{Text.{Text}, Cell.{CellValue, LabelValue, AreGiven}, Fault.{FaultValue, then_value}},
+  meaning.specs.{Text.{Text}, Cell.{CellValue, LabelValue, AreGiven}, Fault.{then_value}},
   column_core.specs.{Blocks.{CellBlock}, Columns.{CellColumn}},
-  table_meaning.specs.{Settled.{IsSettled}, Table.{ColumnOf, NumberedTable, Table, table_value, heading_value, column_value}, Valid.{IsWhole}, Value.{Entry}},
+  table_meaning.specs.{Settled.{IsSettled}, Table.{ColumnOf, NumberedTable, Table, table_value, heading_value, column_value}, Valid.{IsWhole}},
   multi_index.specs.Axes.{AxisValue, range_axis},
-  form_meaning.specs.Finish.{default_labels, finished, column_of_value},
+  form_meaning.specs.Finish.{default_labels, column_of_value},
   select_meaning.specs.Select.{shown_as},
   group_meaning.specs.{Rows.{GroupsValue}, Reductions.{group_sizes}},
-  method_meaning.specs.Groups.{keys_of, groups_of, key_column, headings_of, under_keys, beside_keys, grouped_rows, group_answer},
-  group_by.specs.{declared.ops.GroupOp.{GroupOp, TheVariants.{First}}, Operations.{reduction_of}},
+  method_meaning.specs.Groups.{keys_of, groups_of, headings_of, grouped_rows, group_answer},
+  group_by.specs.{declared.ops.GroupOp.{GroupOp}, Operations.{reduction_of}},
   form_parts.{specs.Makes.{blocks_value}, proofs.LabelLaws.{default_seen}},
   frame_store.{specs.{Parts.{table_column, AreColumnsOf}, Shown.{headings_value, labels_value, Refuses}}, proofs.Settling.{columns_name_part}},
   selections.specs.Selected.{headings_at},
-  group_forms.{specs.{declared.{columns.ColumnCall.TheVariants.{Reduced}, grouping.Grouping.{Grouping}, values.Values.{Values}}, Columns.{takes_at, made_at, AreTaken, AreBlocks}, Grouped.{grouping_seen, values_seen}, Tables.{HasHeadings, IsAxis, group_labels, group_names, group_headings, group_keys}}, proofs.{ColumnLaws.{if_taken, each_is, boxed, one_more_block, one_more_value}, KeyLaws.{key_labels_settled}, ShownLaws.{IsMade}, RowLaws.{headings_are, own_settled}}},
+  group_forms.{specs.{declared.{columns.ColumnCall.TheVariants.{Reduced}, grouping.Grouping.{Grouping}, values.Values.{Values}}, Columns.{takes_at, made_at, AreBlocks}, Grouped.{grouping_seen, values_seen}, Tables.{HasHeadings, IsAxis, group_labels, group_names, group_headings, group_keys}}, proofs.{ColumnLaws.{if_taken, each_is, boxed, one_more_block, one_more_value}, KeyLaws.{key_labels_settled}, ShownLaws.{IsMade}, RowLaws.{headings_are, own_settled}}},
 }
 use Rattle.column_core.specs.Columns as kernel
 use Rattle.method_meaning.specs.Groups as meant
@@ -36,20 +36,6 @@ group_table t g hs columns =
     }
 
 module _ (t : Table) (g : meant.Grouping) (single : Bool) (hs : List (Option LabelValue)) (columns : List (ColumnOf CellValue)) where
-  abbrev rows_by : Bool → Result Entry FaultValue
-  rows_by b = if b then shown_as false single (under_keys t g hs columns) else finished (beside_keys t g hs columns)
-
-  abbrev table_by : Bool → Table
-  table_by b =
-      record {
-        shape = Frame;
-        columns_name = t.columns_name;
-        level_names = if b then headings_of t g.keys else (None ∷ []);
-        labels = if b then keys_of t g else default_labels (length (keys_of t g));
-        headings = headings_by b t g.keys hs;
-        columns = (if b then [] else map (key_column t g) g.keys) ++ columns;
-      }
-
   pub grouped_is : grouped_rows t g single hs columns ≡ shown_as false (single && g.as_index) (group_table t g hs columns)
   grouped_is = grind arith
 
@@ -62,18 +48,40 @@ module _ (texts : List Text) (t : NumberedTable) (g : Grouping) where
   abbrev T : Table
   T = table_value texts t
 
+  abbrev by_keys : meant.Grouping
+  by_keys = grouping_seen texts g
+
   pub group_headings_seen : (own : List (Option Label)) → headings_by g.as_index T g.keys (headings_value texts own) ≡ headings_value texts (group_headings t g own)
-  group_headings_seen own = by _
-    where
-      by : (b : Bool) → headings_by b T g.keys (headings_value texts own) ≡ headings_value texts ((if b then [] else headings_at t g.keys) ++ own)
-      by true = refl
-      by false = cc (headings_are texts t g.keys (headings_at t g.keys) refl, map-append (heading_value texts) (headings_at t g.keys) own)
+  group_headings_seen own = grind (arith, map-append (heading_value texts) (headings_at t g.keys) own, headings_are texts t g.keys (headings_at t g.keys) refl)
 
   pub group_headings_settled : (own : List (Option Label)) → IsSettled table_value texts t → IsSettled headings_value texts own → IsSettled headings_value texts (group_headings t g own)
   group_headings_settled = grind (arith, map-append, own_settled)
 
   pub group_headings_counted : (own : List (Option Label)) (columns : List (ColumnOf CellValue)) → length columns ≡ length own → length (group_keys T (grouping_seen texts g) ++ columns) ≡ length (group_headings t g own)
   group_headings_counted = grind (arith, length-append, length-map)
+
+  -- the table that is made of groups
+  pub group_made : (hs : List (Option LabelValue)) (columns : List (ColumnOf CellValue)) (axis : AxisValue) (name : Option Label) (labels : List (Option Label)) (blocks : List CellBlock) (rows : ℕ)
+      → IsSettled table_value texts t → name ≡ t.columns_name → IsAxis texts (group_labels T by_keys) (group_names T by_keys) axis
+      → headings_by g.as_index T g.keys hs ≡ headings_value texts labels → IsSettled headings_value texts labels → blocks_value texts blocks ≡ group_keys T by_keys ++ columns → AreBlocks texts rows blocks
+      → IsMade texts (group_table T by_keys hs columns) axis name labels blocks
+  group_made _ columns _ _ _ _ _ settled named axis_is headed given made filled = record {
+    frame = refl;
+    named = cc;
+    axis_is = axis_is;
+    headings = headed;
+    columns = made;
+    name_given = rw named (columns_name_part _ t settled);
+    labels_given = given;
+    blocks_given = filled.given;
+  }
+
+  pub sizes_seen : (groups : GroupsValue) (c : CellColumn) (block : CellBlock) (before blocks : List CellBlock) → block ≡ boxed c → blocks ≡ before ++ block ∷ [] → kernel.column_value texts c ≡ group_sizes groups
+      → groups ≡ groups_of T by_keys → blocks_value texts before ≡ group_keys T by_keys
+      → blocks_value texts blocks ≡ group_keys T by_keys ++ column_of_value (group_sizes (groups_of T by_keys)) ∷ []
+  sizes_seen _ c _ _ _ box pushed sized is keys =
+      let own : column_value texts (table_column c) ≡ column_of_value (group_sizes (groups_of T by_keys)) = grind arith in
+      grind (arith, one_more_value)
 
 -- what is meant of a reduction, by whether the kinds are taken
 module _ (texts : List Text) (t : NumberedTable) (g : Grouping) (v : Values) (op : GroupOp) where
@@ -86,16 +94,19 @@ module _ (texts : List Text) (t : NumberedTable) (g : Grouping) (v : Values) (op
   abbrev pub reduced_columns : List (ColumnOf CellValue)
   reduced_columns = map (made_at (Reduced op) (groups_of U gs) U) v.places
 
+  abbrev pub reduced_table : Table
+  reduced_table = group_table U gs (headings_of U v.places) reduced_columns
+
   pub reduced_meant : (b : Bool) → list_all (takes_at (Reduced op) t) v.places ≡ b → group_answer U gs (values_seen texts v) (meant.reduced (reduction_of op)) ≡ then_value (if_taken b reduced_columns) (grouped_rows U gs v.single (headings_of U v.places))
   reduced_meant b is = cc (each_is texts (Reduced op) (groups_of U gs) t v.places b is)
 
   pub reduced_refused : list_all (takes_at (Reduced op) t) v.places ≡ false → Refuses texts WrongKind (group_answer U gs (values_seen texts v) (meant.reduced (reduction_of op)))
   reduced_refused is = search reduced_meant
 
-  pub reduced_shown : list_all (takes_at (Reduced op) t) v.places ≡ true → group_answer U gs (values_seen texts v) (meant.reduced (reduction_of op)) ≡ shown_as false (v.single && g.as_index) (group_table U gs (headings_of U v.places) reduced_columns)
+  pub reduced_shown : list_all (takes_at (Reduced op) t) v.places ≡ true → group_answer U gs (values_seen texts v) (meant.reduced (reduction_of op)) ≡ shown_as false (v.single && g.as_index) reduced_table
   reduced_shown is = reduced_meant _ is ∙ grouped_is U gs _ _ _
 
-  pub reduced_headings : (own labels : List (Option Label)) (count : ℕ) → own ≡ headings_at t v.places → labels ≡ group_headings t g own → count ≡ length (keys_of U gs) → HasHeadings texts labels count (group_table U gs (headings_of U v.places) reduced_columns)
+  pub reduced_headings : (own labels : List (Option Label)) (count : ℕ) → own ≡ headings_at t v.places → labels ≡ group_headings t g own → count ≡ length (keys_of U gs) → HasHeadings texts labels count reduced_table
   reduced_headings own _ _ owned is counted = record {
     headings = cc (headings_are texts t v.places own owned, group_headings_seen texts t g own);
     headed = group_headings_counted _ t g own _ (grind (arith, length-map)) ∙ ap (λ l. length l) (sym is);
@@ -103,14 +114,7 @@ module _ (texts : List Text) (t : NumberedTable) (g : Grouping) (v : Values) (op
   }
 
 pub group_labelled : (t : NumberedTable) (g : Grouping) (own : List (Option Label)) → IsWhole t → t.shape ≡ Frame → AreColumnsOf t g.keys → All IsSome own → All IsSome (group_headings t g own)
-group_labelled t g own whole frame below some = by _
-  where
-    by : (b : Bool) → All IsSome ((if b then [] else headings_at t g.keys) ++ own)
-    by true = some
-    by false = All-append IsSome (headings_at t g.keys) own (grind (arith, labelled)) some
-
-both : (a b : Bool) → (a && b) ≡ true → (a ≡ true) × (b ≡ true)
-both = grind arith
+group_labelled t g own whole frame below some = grind (arith, labelled, All-append IsSome (headings_at t g.keys) own)
 
 module _ (texts : List Text) (t : NumberedTable) (g : Grouping) (v : Values) (heading : Option Label) (named : heading_value texts heading ≡ meant.size_heading g.as_index) where
   abbrev S : Table
@@ -132,35 +136,10 @@ module _ (texts : List Text) (t : NumberedTable) (g : Grouping) (v : Values) (he
     rows = rows_counted S s ∙ sym counted;
   }
 
--- the table that is made of groups
-pub group_made : (texts : List Text) (t : NumberedTable) (g : Grouping) (hs : List (Option LabelValue)) (columns : List (ColumnOf CellValue)) (axis : AxisValue) (name : Option Label) (labels : List (Option Label)) (blocks : List CellBlock) (rows : ℕ)
-    → IsSettled table_value texts t → name ≡ t.columns_name → IsAxis texts (group_labels (table_value texts t) (grouping_seen texts g)) (group_names (table_value texts t) (grouping_seen texts g)) axis
-    → headings_by g.as_index (table_value texts t) g.keys hs ≡ headings_value texts labels → IsSettled headings_value texts labels → blocks_value texts blocks ≡ group_keys (table_value texts t) (grouping_seen texts g) ++ columns → AreBlocks texts rows blocks
-    → IsMade texts (group_table (table_value texts t) (grouping_seen texts g) hs columns) axis name labels blocks
-group_made _ t g _ columns _ _ _ _ _ settled named axis_is headed given made filled = record {
-  frame = refl;
-  named = cc;
-  axis_is = axis_is;
-  headings = headed;
-  columns = made;
-  name_given = rw named (columns_name_part _ t settled);
-  labels_given = given;
-  blocks_given = filled.given;
-}
-
 -- a block more, of the sizes of the groups
 pub sizes_boxed : (texts : List Text) (groups : GroupsValue) (c : CellColumn) (block : CellBlock) (before blocks : List CellBlock) → block ≡ boxed c → blocks ≡ before ++ block ∷ [] → kernel.column_value texts c ≡ group_sizes groups → AreGiven texts c.cells
     → AreBlocks texts groups.count before → AreBlocks texts groups.count blocks
-sizes_boxed _ groups c _ _ _ box pushed sized given filled =
-    let counted : length c.cells ≡ groups.count = grind (arith, length-map, length-map-range_with_len) in
-    search one_more_block
-
-pub sizes_seen : (texts : List Text) (t : NumberedTable) (g : Grouping) (groups : GroupsValue) (c : CellColumn) (block : CellBlock) (before blocks : List CellBlock) → block ≡ boxed c → blocks ≡ before ++ block ∷ [] → kernel.column_value texts c ≡ group_sizes groups
-    → groups ≡ groups_of (table_value texts t) (grouping_seen texts g) → blocks_value texts before ≡ group_keys (table_value texts t) (grouping_seen texts g)
-    → blocks_value texts blocks ≡ group_keys (table_value texts t) (grouping_seen texts g) ++ column_of_value (group_sizes (groups_of (table_value texts t) (grouping_seen texts g))) ∷ []
-sizes_seen texts t g _ c _ _ _ box pushed sized is keys =
-    let own : column_value texts (table_column c) ≡ column_of_value (group_sizes (groups_of (table_value texts t) (grouping_seen texts g))) = grind arith in
-    grind (arith, one_more_value)
+sizes_boxed _ groups c _ _ _ box pushed sized given filled = one_more_block _ _ _ _ _ _ box pushed (grind (arith, length-map, length-map-range_with_len)) given filled
 
 pub one_settled : (texts : List Text) (h : Option Label) → IsSettled heading_value texts h → IsSettled headings_value texts (h ∷ [])
 one_settled = search
@@ -199,10 +178,3 @@ module _ (texts : List Text) (t : NumberedTable) (g : Grouping) (axis : AxisValu
 
   pub numbers_axis : (count : ℕ) → g.as_index ≡ false → count ≡ length (keys_of A (grouping_seen texts g)) → axis ≡ range_axis count → IsAxis texts (group_labels A (grouping_seen texts g)) (group_names A (grouping_seen texts g)) axis
   numbers_axis = grind (arith, default_seen)
-
-pub first_taken : (t : NumberedTable) (places : List ℕ) → AreColumnsOf t places → AreTaken (Reduced First) t places
-first_taken = search
-
-pub keys_are_made : (texts : List Text) (t : NumberedTable) (g : Grouping) (groups : GroupsValue) (before made : List CellBlock) → g.as_index ≡ false → groups ≡ groups_of (table_value texts t) (grouping_seen texts g) → before ≡ []
-    → blocks_value texts made ≡ blocks_value texts before ++ map (made_at (Reduced First) groups (table_value texts t)) g.keys → blocks_value texts made ≡ group_keys (table_value texts t) (grouping_seen texts g)
-keys_are_made = grind arith

@@ -1,6 +1,6 @@
 -- The groups of a frame's rows are those of the rows with their texts.
 use Rattle.{
-  std.{proofs.{Common.{arith, ◌≡◌, ◌∙◌, refl, ap, sym, zero-add, ℕ, ◌+◌, ◌<◌, ◌≤◌, List, [], ◌∷◌, ◌++◌, map, length, take, slice_index_or, All, Some}, Math.ListN.{get_or-map}, lemmas.{List.{length-map, map-append, take_all, take_more, FromFn.{length-range_with_len, get_or-map-range_with_len}}, Option.{get_or_from_slice_get}}}, specs.Prelude.{slice_get, Result, Ok, Err, IfOk}},
+  std.{proofs.{Common.{arith, ◌≡◌, ◌∙◌, refl, ap, sym, zero-add, ℕ, ◌+◌, ◌<◌, List, [], ◌∷◌, ◌++◌, map, length, take, slice_index_or, All, Some}, Math.ListN.{get_or-map}, lemmas.{List.{length-map, map-append, take_more, FromFn.{length-range_with_len, get_or-map-range_with_len}}, Option.{get_or_from_slice_get}}}, specs.Prelude.{slice_get, Result, Ok, Err, IfOk}},
   cell_core.specs.{Texts.{AreDistinct}, declared.cell.Label.{Label}},
   meaning.specs.{Text.{Text}, Cell.{na_cell, datum, label_datum}, Operator.{cell_label}},
   table_meaning.specs.{Settled.{IsSettled}, Table.{NumberedTable, Table, column_at, table_value, tuple_value}},
@@ -44,11 +44,8 @@ module _ (texts : List Text) (t : NumberedTable) (g : Grouping) (distinct : AreD
   groups_are = grind (arith, length-map, keys_with_texts, codes_with_texts)
 
   -- the first row of each group
-  rows_counted : length K ≡ length t.labels
-  rows_counted = search (length-map, all_rows, length-range_with_len)
-
   pub firsts_inside : (firsts : List ℕ) → firsts ≡ map (place_among same_tuple K) (group_keys (seen_rules texts) g.sorted g.dropna K) → AreRowsOf t firsts
-  firsts_inside = grind (arith, rows_counted, rows_inside)
+  firsts_inside = grind (arith, length-map, all_rows, length-range_with_len, rows_inside)
 
   tuple_there : (row : ℕ) → row < length t.labels → row_labels t g.keys row ≡ slice_index_or K row []
   tuple_there = grind (arith, get_or-map-range_with_len, zero-add)
@@ -58,17 +55,10 @@ module _ (texts : List Text) (t : NumberedTable) (g : Grouping) (distinct : AreD
 
   -- the same, where the keys are those of the rows
   module _ (keys : List (List Label)) (same : keys ≡ K) where
-    pub groups_by : (groups : GroupsValue) → groups.count ≡ length (group_keys (seen_rules texts) g.sorted g.dropna keys) → groups.codes ≡ group_codes (seen_rules texts) g.sorted g.dropna keys → groups ≡ meant.groups_of T (grouping_seen texts g)
-    groups_by _ counted coded =
-        groups_are _ (search) (coded ∙ ap (group_codes (seen_rules texts) g.sorted g.dropna) same)
-
-    pub labels_by : (firsts : List ℕ) → firsts ≡ map (place_among same_tuple keys) (group_keys (seen_rules texts) g.sorted g.dropna keys) → labels_value texts (map (row_labels t g.keys) firsts) ≡ meant.keys_of T (grouping_seen texts g)
-    labels_by _ is = labels_are _ (search)
-
     -- and of what was found, if memory sufficed
     pub groups_found : {E : Type 0} (r : Result KeyGroups E) → IfOk r (λ found. found.groups.count ≡ length (group_keys (seen_rules texts) g.sorted g.dropna keys)) → IfOk r (λ found. found.groups.codes ≡ group_codes (seen_rules texts) g.sorted g.dropna keys)
         → IfOk r (λ found. found.groups ≡ meant.groups_of T (grouping_seen texts g))
-    groups_found (Ok found) counted coded = search groups_by
+    groups_found (Ok found) counted coded = grind (arith, groups_are found.groups)
     groups_found (Err e) _ _ = tt
 
     pub rows_found : {E : Type 0} (r : Result KeyGroups E) → IfOk r (λ found. found.firsts ≡ map (place_among same_tuple keys) (group_keys (seen_rules texts) g.sorted g.dropna keys)) → IfOk r (λ found. AreRowsOf t found.firsts)
@@ -76,31 +66,20 @@ module _ (texts : List Text) (t : NumberedTable) (g : Grouping) (distinct : AreD
 
     pub labels_found : {E : Type 0} (r : Result KeyGroups E) → IfOk r (λ found. found.firsts ≡ map (place_among same_tuple keys) (group_keys (seen_rules texts) g.sorted g.dropna keys))
         → IfOk r (λ found. labels_value texts (map (row_labels t g.keys) found.firsts) ≡ meant.keys_of T (grouping_seen texts g))
-    labels_found = grind (arith, labels_by)
+    labels_found = grind (arith, labels_are)
 
 -- what holds of an answer
 pub if_ok : {A E : Type 0} (P Q : A → Type 0) (r : Result A E) → ((a : A) → P a → Q a) → IfOk r P → IfOk r Q
 if_ok P Q = grind arith
 
-pub if_both : {A E : Type 0} (P Q R : A → Type 0) (r : Result A E) → ((a : A) → P a → Q a → R a) → IfOk r P → IfOk r Q → IfOk r R
-if_both P Q R = grind arith
-
 -- one more of what is made of places
 one_more_of : {X : Type 0} (f : ℕ → X) (places : List ℕ) (k place : ℕ) (x : X) (made made' : List X) → k < length places → slice_get places k ≡ Some place → x ≡ f place → made' ≡ made ++ x ∷ [] → made ≡ map f (take k places) → made' ≡ map f (take (k + 1) places)
-one_more_of f places k _ x _ _ lt at is pushed so_far =
-    pushed
-    ∙ (λ i. so_far i ++ is i ∷ [])
-    ∙ ap (λ p. map f (take k places) ++ f p ∷ []) (sym (get_or_from_slice_get _ k _ 0 at))
-    ∙ sym (ap (map f) (take_more places k 0 lt) ∙ map-append f (take k places) (slice_index_or places k 0 ∷ []))
+one_more_of f places k place x made _ lt at is pushed so_far = cc (get_or_from_slice_get places k place 0 at, take_more places k 0 lt, map-append f (take k places) (slice_index_or places k 0 ∷ []))
 
 -- one tuple more
 pub one_more_tuple : (t : NumberedTable) (keys rows : List ℕ) (k row : ℕ) (tuple : List Label) (tuples tuples' : List (List Label)) → k < length rows → slice_get rows k ≡ Some row → tuple ≡ row_labels t keys row → tuples' ≡ tuples ++ tuple ∷ []
     → tuples ≡ map (row_labels t keys) (take k rows) → tuples' ≡ map (row_labels t keys) (take (k + 1) rows)
 one_more_tuple = search one_more_of
-
--- all of them
-pub all_of : {X : Type 0} (f : ℕ → X) (places : List ℕ) (k : ℕ) (made : List X) → length places ≤ k → made ≡ map f (take k places) → made ≡ map f places
-all_of = grind (arith, take_all)
 
 -- the texts of keys were given
 pub key_labels_settled : (texts : List Text) (t : NumberedTable) (keys rows : List ℕ) → IsSettled table_value texts t → IsSettled labels_value texts (map (row_labels t keys) rows)

@@ -7,12 +7,12 @@ use Rattle.{
   table_meaning.specs.{Settled.{IsSettled}, Table.{ColumnOf, NumberedTable, Table, table_value, column_value}, Value.{Entry}},
   form_meaning.specs.Finish.{column_of_value},
   group_meaning.specs.{Rows.{GroupsValue}, Reductions.{group_places}},
-  method_meaning.specs.Groups.{headings_of, each_of, same_rows, group_answer},
+  method_meaning.specs.Groups.{headings_of, same_rows, group_answer},
   form_parts.specs.Makes.{blocks_value},
   frame_store.{specs.Shown.{headings_value, Refuses}, proofs.Settling.{headings_part}},
   selections.specs.Selected.{headings_at},
   label_methods.proofs.IndexingLaws.{headings_seen, headings_settled},
-  group_forms.{specs.{declared.{columns.ColumnCall.{ColumnCall}, grouping.Grouping.{Grouping}, values.Values.{Values}}, Columns.{made_of, takes_at, made_at, rows_made, AreBlocks, row_call_of, IsByRow}, Grouped.{grouping_seen, values_seen}, Tables.{HasHeadings}}, proofs.ColumnLaws.{if_taken, each_is, boxed, one_more_block, one_more_value}},
+  group_forms.{specs.{declared.{columns.ColumnCall.{ColumnCall}, grouping.Grouping.{Grouping}, values.Values.{Values}}, Columns.{takes_at, made_at, rows_made, AreBlocks, row_call_of, IsByRow}, Grouped.{grouping_seen, values_seen}, Tables.{HasHeadings}}, proofs.ColumnLaws.{if_taken, each_is, boxed, one_more_block, one_more_value}},
 }
 use Rattle.column_core.specs.Columns as kernel
 use Rattle.method_meaning.specs.Groups as meant
@@ -38,11 +38,8 @@ module _ (texts : List Text) (t : NumberedTable) (g : Grouping) (v : Values) (ca
   abbrev meant_rows : List (ColumnOf CellValue) → Result Entry FaultValue
   meant_rows columns = same_rows T v.single (headings_of T v.places) columns
 
-  answer_is : group_answer T (grouping_seen texts g) (values_seen texts v) (row_call_of call) ≡ then_value (each_of T (made_of call G) v.places) meant_rows
-  answer_is = grind arith
-
   pub along_meant : (b : Bool) → list_all (takes_at call t) v.places ≡ b → group_answer T (grouping_seen texts g) (values_seen texts v) (row_call_of call) ≡ then_value (if_taken b (map (made_at call G T) v.places)) meant_rows
-  along_meant b is = cc (answer_is, each_is texts call G t v.places b is)
+  along_meant b is = grind (arith, each_is texts call G t v.places b is)
 
   pub along_refused : list_all (takes_at call t) v.places ≡ false → Refuses texts WrongKind (group_answer T (grouping_seen texts g) (values_seen texts v) (row_call_of call))
   along_refused is = search along_meant

@@ -1,12 +1,12 @@
 -- New tables, and what is tested before they are made.
 use Rattle.{
-  std.proofs.{Common.{◌≡◌, ◌∙◌, refl, ap, sym, subst, arith, ℕ, ◌^◌, ◌≤◌, Bool, true, false, List, map, length, All, Option, None, Result, Ok, Err, if◌then◌else◌}, lemmas.Bool.Decides.{nat_tests}},
+  std.proofs.Common.{◌≡◌, refl, arith, ℕ, Bool, true, false, List, map, length, All, Option, None, Result, Ok, Err},
   cell_core.specs.{Texts.{AreDistinct}, declared.{code.Code.TheVariants.{Limit}, cell.Label.{Label}, grid.Shape.TheVariants.{Frame}}},
-  meaning.specs.{Text.{Text}, Cell.{AreGiven}, Fault.{FaultValue, limit, then_value}, FaultOf.{fault_of}},
+  meaning.specs.{Text.{Text}, Cell.{AreGiven}, Fault.{FaultValue}},
   column_core.specs.Blocks.{CellBlock},
   multi_index.specs.Axes.{AxisValue},
   table_meaning.specs.{Settled.{IsSettled}, Table.{NumberedTable, Table, table_value, heading_value}, Value.{Entry, table}},
-  form_meaning.specs.Finish.{within_limits, limited, unless_repeated, finished},
+  form_meaning.specs.Finish.{within_limits},
   select_meaning.specs.Select.{shown_as},
   form_parts.specs.Makes.{blocks_value},
   frame_store.{specs.{declared.fault.OpFault.{OpFault, TheVariants.{Refused, NoMemory}}, Parts.{HeadingList, block_column, table_of}, Shown.{headings_value, Makes}}, proofs.Settling.{table_settled, columns_settled}},
@@ -15,27 +15,17 @@ use Rattle.{
   group_forms.specs.Tables.{shape_if, name_if, headings_if, shown_if, HasHeadings, MayShow, IsAxis},
 }
 
--- within the limits, or beyond them
-abbrev within_then : Table → Bool → Result Entry FaultValue
-within_then t b = then_value (if b then Ok t else Err limit) (λ t. Ok (table t))
-
-limited_beyond : (t : Table) (rows columns : ℕ) → length t.labels ≡ rows → length t.columns ≡ columns → within_limits rows columns ≡ false → limited t ≡ Err limit
-limited_beyond t _ _ counted headed beyond = search
-
 module _ (texts : List Text) (labels : List (Option Label)) (rows : ℕ) (t : Table) (h : HasHeadings texts labels rows t) where
   -- a frame
   module _ (distinct : AreDistinct texts) (settled : IsSettled headings_value texts labels) where
-    again : (found : Option Label) → repeated_heading labels ≡ found → finished t ≡ unless_repeated (heading_value texts found) (limited t)
-    again = grind (arith, repeated_seen)
-
     pub frame_shows : repeated_heading labels ≡ None → within_limits rows (length labels) ≡ true → shown_as false false t ≡ Ok (table t)
-    frame_shows = grind (arith, again, limited_within)
+    frame_shows = grind (arith, repeated_seen, limited_within)
 
     pub frame_beyond : repeated_heading labels ≡ None → within_limits rows (length labels) ≡ false → MayShow {X = HeadingList} texts (Err (Refused Limit)) false t
-    frame_beyond = grind (arith, again, limited_beyond)
+    frame_beyond = grind (arith, repeated_seen)
 
     pub frame_repeated : (why : OpFault) → NamesRepeated why (repeated_heading labels) → MayShow {X = HeadingList} texts (Err why) false t
-    frame_repeated (Refused code) named = (again _ named.1 ∙ ap (λ c. Err (fault_of texts c)) (sym named.2), search repeated_settled)
+    frame_repeated (Refused code) named = (grind (arith, repeated_seen), search repeated_settled)
     frame_repeated NoMemory _ = tt
 
 -- the table that was made is the one that is meant
@@ -67,13 +57,9 @@ pub made_is : (texts : List Text) (single : Bool) (t : Table) (meant : Result En
 made_is texts single t _ axis name labels blocks _ made m is shows headed tabled =
     let whole : made ≡ made_table single axis name labels blocks = cc in (
       grind (arith, made_value),
-      subst (IsSettled table_value texts) (sym whole) (made_settled _ _ t _ _ _ _ m),
+      rw whole (made_settled _ _ t _ _ _ _ m),
     )
 
 -- why no table is made
 pub refused_is : (texts : List Text) (single : Bool) (t : Table) (meant : Result Entry FaultValue) (why : OpFault) → meant ≡ shown_as false single t → MayShow {X = HeadingList} texts (Err why) single t → Makes texts (Err why) meant
 refused_is = grind arith
-
--- few rows
-pub within_few : (rows columns : ℕ) → within_limits rows columns ≡ true → rows ≤ 2 ^ 26
-within_few = grind (arith, nat_tests)

@@ -1,9 +1,7 @@
 -- Lists whose elements are seen otherwise, and tests that agree on elements.
-use Rattle.std.{proofs.{Common.{◌≡◌, ◌∙◌, ◌+◌, ap, refl, Bool, true, false, not, cond, List, [], ◌∷◌, map, filter, All, Some, None, nat_lt}, lemmas.List.{length-map, Elements.{All-head, All-tail}}}, specs.List.{position, position_or_len}}
-
-pub map_map : {X Y Z : Type 0} (g : Y → Z) (f : X → Y) (xs : List X) → map g (map f xs) ≡ map (λ x. g (f x)) xs
-map_map g f [] = refl
-map_map g f (x ∷ xs) = ap (λ l. g (f x) ∷ l) (map_map g f xs)
+use Rattle.align_meaning.proofs.SeenLaws.{filter_map}
+use Rattle.std.{proofs.{Common.{◌≡◌, ◌+◌, refl, Bool, not, cond, List, [], ◌∷◌, map, filter, All, Some, None, nat_lt}, lemmas.List.{length-map, Elements.{All-head, All-tail}}}, specs.List.{position, position_or_len}}
+pub use Rattle.std.proofs.lemmas.Simd.{map-map as map_map}
 
 module _ {X : Type 0} (P : X → Type 0) where
   pub map_on : {Y : Type 0} (f g : X → Y) → ((x : X) → P x → f x ≡ g x) → (xs : List X) → All P xs → map f xs ≡ map g xs
@@ -12,10 +10,7 @@ module _ {X : Type 0} (P : X → Type 0) where
 
   module _ {Y : Type 0} (f : X → Y) (p : Y → Bool) (q : X → Bool) (agree : (x : X) → P x → p (f x) ≡ q x) where
     pub filter_seen : (xs : List X) → All P xs → filter p (map f xs) ≡ map f (filter q xs)
-    filter_seen [] _ = refl
-    filter_seen (x ∷ xs) all =
-        (λ i. cond (agree x (All-head P x xs all) i) (f x ∷ filter_seen xs (All-tail P x xs all) i) (filter_seen xs (All-tail P x xs all) i))
-        ∙ (elim (q x) as (λ b. cond b (f x ∷ map f (filter q xs)) (map f (filter q xs)) ≡ map f (cond b (x ∷ filter q xs) (filter q xs))) [ true ↦ refl | false ↦ refl ])
+    filter_seen = filter_map f P q p agree
 
     place_seen : (xs : List X) → All P xs → position_or_len p (map f xs) ≡ position_or_len q xs
     place_seen [] _ = refl

@@ -1,47 +1,36 @@
 -- Groups are the same where keys are seen otherwise, as tuples with their texts.
 use Rattle.{
-  std.proofs.{Common.{◌≡◌, ◌∙◌, ap, refl, Bool, true, false, not, cond, List, [], ◌∷◌, map, filter, All}, lemmas.List.Elements.{All-cons, All-head, All-tail, All-filter}},
+  std.proofs.{Common.{◌≡◌, ◌∙◌, ap, refl, Bool, true, false, not, cond, List, [], ◌∷◌, map, filter, All}, lemmas.{Simd.{map-map}, List.Elements.{All-head, All-tail, All-filter}}},
   meaning.specs.Reduce.{distinct},
   sorting.specs.Sorting.{in_order},
-  align_meaning.proofs.OrderLaws.{all_in_order, in_order_map},
-  group_meaning.{specs.Keys.{KeyRules, is_kept, ordered_if, group_keys, group_of, group_codes}, proofs.ListLaws.{map_map, map_on, filter_seen, position_seen}},
+  align_meaning.proofs.{OrderLaws.{all_distinct, all_in_order, in_order_map}, SeenLaws.{filter_map, distinct_map}},
+  group_meaning.{specs.Keys.{KeyRules, is_kept, ordered_if, group_keys, group_of, group_codes}, proofs.ListLaws.{map_on, position_seen}},
 }
 
 module _ {X Y : Type 0} (P : X → Type 0) (f : X → Y) (rules : KeyRules X) (rules' : KeyRules Y) (equal : (x y : X) → P x → P y → rules'.same (f x) (f y) ≡ rules.same x y)
     (below : (x y : X) → P x → P y → rules'.less (f x) (f y) ≡ rules.less x y) (missing : (x : X) → P x → rules'.holds_na (f x) ≡ rules.holds_na x) (sorted dropna : Bool) where
-  all_distinct : (xs : List X) → All P xs → All P (distinct rules.same xs)
-  all_distinct [] all = all
-  all_distinct (x ∷ xs) all =
-      All-cons P x (filter (λ q. not (rules.same q x)) (distinct rules.same xs)) (All-head P x xs all) (All-filter (λ q. not (rules.same q x)) P (distinct rules.same xs) (all_distinct xs (All-tail P x xs all)))
-
-  distinct_seen : (xs : List X) → All P xs → distinct rules'.same (map f xs) ≡ map f (distinct rules.same xs)
-  distinct_seen [] _ = refl
-  distinct_seen (x ∷ xs) all =
-      ap (λ l. f x ∷ filter (λ q. not (rules'.same q (f x))) l) (distinct_seen xs (All-tail P x xs all))
-      ∙ ap (λ l. f x ∷ l) (filter_seen P f (λ q. not (rules'.same q (f x))) (λ q. not (rules.same q x)) (λ q h. ap not (equal q x h (All-head P x xs all))) (distinct rules.same xs) (all_distinct xs (All-tail P x xs all)))
-
   module _ (rows : List X) (all : All P rows) where
     abbrev ordered : List X
     ordered = ordered_if sorted rules.less (distinct rules.same rows)
 
     all_ordered : All P ordered
     all_ordered = elim sorted as (λ b. All P (cond b (in_order rules.less (distinct rules.same rows)) (distinct rules.same rows))) [
-      | true ↦ all_in_order P rules.less (distinct rules.same rows) (all_distinct rows all)
-      | false ↦ all_distinct rows all
+      | true ↦ all_in_order P rules.less (distinct rules.same rows) (all_distinct P rules.same rows all)
+      | false ↦ all_distinct P rules.same rows all
     ]
 
     ordered_seen : ordered_if sorted rules'.less (distinct rules'.same (map f rows)) ≡ map f ordered
     ordered_seen =
-        ap (ordered_if sorted rules'.less) (distinct_seen rows all)
+        ap (ordered_if sorted rules'.less) (distinct_map f P rules.same rules'.same equal rows all)
         ∙ (elim sorted as (λ b. cond b (in_order rules'.less (map f (distinct rules.same rows))) (map f (distinct rules.same rows)) ≡ map f (cond b (in_order rules.less (distinct rules.same rows)) (distinct rules.same rows))) [
-          | true ↦ in_order_map P f rules.less rules'.less below (distinct rules.same rows) (all_distinct rows all)
+          | true ↦ in_order_map P f rules.less rules'.less below (distinct rules.same rows) (all_distinct P rules.same rows all)
           | false ↦ refl
         ])
 
     pub keys_seen : group_keys rules' sorted dropna (map f rows) ≡ map f (group_keys rules sorted dropna rows)
     keys_seen =
         ap (filter (is_kept dropna rules'.holds_na)) ordered_seen
-        ∙ filter_seen P f (is_kept dropna rules'.holds_na) (is_kept dropna rules.holds_na) (λ x here. ap (λ b. cond dropna (not b) true) (missing x here)) ordered all_ordered
+        ∙ filter_map f P (is_kept dropna rules.holds_na) (is_kept dropna rules'.holds_na) (λ x here. ap (λ b. cond dropna (not b) true) (missing x here)) ordered all_ordered
 
     all_keys : All P (group_keys rules sorted dropna rows)
     all_keys = All-filter (is_kept dropna rules.holds_na) P ordered all_ordered
@@ -49,6 +38,6 @@ module _ {X Y : Type 0} (P : X → Type 0) (f : X → Y) (rules : KeyRules X) (r
     pub codes_seen : group_codes rules' sorted dropna (map f rows) ≡ group_codes rules sorted dropna rows
     codes_seen =
         ap (λ keys. map (group_of rules'.same keys) (map f rows)) keys_seen
-        ∙ map_map (group_of rules'.same (map f (group_keys rules sorted dropna rows))) f rows
+        ∙ map-map (group_of rules'.same (map f (group_keys rules sorted dropna rows))) f rows
         ∙ map_on P (λ x. group_of rules'.same (map f (group_keys rules sorted dropna rows)) (f x)) (group_of rules.same (group_keys rules sorted dropna rows))
         (λ x here. position_seen P f (rules'.same (f x)) (rules.same x) (λ y there. equal x y here there) (group_keys rules sorted dropna rows) all_keys) rows all

@@ -11,14 +11,8 @@ use Rattle.{
 among : (q h : Label) (keys : List Label) → list_any (same_number h) keys ≡ true → same_number q h ≡ true → list_any (same_number q) keys ≡ true
 among = grind (arith, label_decides)
 
-or_there : (a k : Bool) → (a ≡ true → k ≡ true) → k ≡ (a || k)
-or_there = grind arith
-
-or_swapped : (a k : Bool) → (k || (a || false)) ≡ (a || k)
-or_swapped = grind arith
-
 key_more : (q h : Label) (keys : List Label) → list_any (same_number q) (insert_key same_number keys h) ≡ (same_number q h || list_any (same_number q) keys)
-key_more = search (rules, or_there, among, list_any-append, or_swapped)
+key_more = grind (arith, among, list_any-append)
 
 -- the labels from a place on are the keys so far
 abbrev pub AreKeys : List Label → List Label → Type 0
@@ -35,8 +29,7 @@ later_twice same (suc p) (x ∷ xs) e = grind (arith, later_twice same p xs e)
 
 pub stands_twice : (labels keys : List Label) (p : ℕ) (d : Label) → p < length labels → AreKeys keys (drop (p + 1) labels) → not (list_any (same_number (slice_index_or labels p d)) keys) ≡ false
     → all_differ same_number labels ≡ false
-stands_twice labels _ p d lt so_far again =
-    later_twice _ p labels (grind (arith, drop_more))
+stands_twice labels _ p d lt so_far again = later_twice _ p labels (grind (arith, drop_more))
 
 -- the numbers of a range differ
 later_numbers : (k a n : ℕ) → k < a → list_any (same_number (number_label k)) (map number_label (range_with_len a n)) ≡ false

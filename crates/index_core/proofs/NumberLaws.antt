@@ -3,8 +3,8 @@ use Rattle.{
   std.{proofs.{Common.{◌≡◌, ◌∙◌, ap, sym, refl, arith, rules, ℕ, zero, suc, ◌+◌, ◌-◌, ◌<◌, ◌≤◌, ℤ, pos, negsuc, Bool, true, false, not, cond, List, [], ◌∷◌, length, slice_index_or, Some, min, nat_lt, map}, lemmas.{Bool.Decides.{nat_tests}, List.FromFn.{get_or-map-range_with_len}}}, specs.{Prelude.{unsigned_abs, int_lt as lt_z}, Bool.{Decides}, List.{range_with_len}, Ordering.{is_lt}, declared.cmp.Ordering.TheVariants.{Less, Equal, Greater}}},
   cell_core.specs.{declared.cell.Label.{Label}, Grids.{place_from}},
   meaning.specs.Text.{Text},
-  pick_meaning.{specs.{Rows.{rows_where, rows_of, rows_between}, Slices.{goes_on_in_order, is_in_order, reaches, stays_within}}, proofs.RowLaws.{rows_in_interval}},
-  index_core.{specs.{Labels.{same_number, order_in}, Ranges.{number_label, range_labels}, Splits.{IsSplitAt}}, proofs.RangeLaws.{length-range_labels}},
+  pick_meaning.{specs.{Rows.{rows_where, rows_of, rows_between}, Slices.{goes_on_in_order, is_in_order}}, proofs.RowLaws.{rows_in_interval}},
+  index_core.{specs.{Labels.{same_number, order_in}, Ranges.{number_label, range_labels}, Splits.{IsSplitAt, BeginsAt, EndsAt}}, proofs.RangeLaws.{length-range_labels}},
 }
 use Rattle.cell_core.specs.declared.cell.Label.TheVariants as label
 
@@ -46,59 +46,9 @@ number_there n m lt =
     ∙ ap (λ a. range_with_len a 1) start
     )
 
--- the order of numbers
-lt_of : (a b : Bool) → is_lt (cond a Less (cond b Greater Equal)) ≡ a
-lt_of = grind arith
-
-is_below : (k m : ℕ) → k < m → nat_lt k m ≡ true
-is_below = grind (arith, nat_tests)
-
-isnt_below : (k m : ℕ) → m ≤ k → nat_lt k m ≡ false
-isnt_below = grind (arith, nat_tests)
-
 -- where the numbers are split by a test of a place
 pub split_numbers : (p : Label → Bool) (n place : ℕ) → place ≤ n → ((k : ℕ) → k < place → p (number_label k) ≡ false) → ((k : ℕ) → place ≤ k → k < n → p (number_label k) ≡ true) → IsSplitAt p (range_labels n) place
 split_numbers = grind (arith, length-range_labels, number_at, inside)
-
--- the first number that isn't below a number
-pub reached : (texts : List Text) (n m : ℕ) → IsSplitAt (reaches (order_in texts) (Some (label.Int (pos m)))) (range_labels n) (min n m)
-reached _ n m =
-    split_numbers _ n _ (omega arith)
-    (λ k lt. grind (arith, lt_of, is_below))
-    (λ k le lt. grind (arith, lt_of, isnt_below))
-
-pub reached_at_once : (texts : List Text) (n m : ℕ) → IsSplitAt (reaches (order_in texts) (Some (label.Int (negsuc m)))) (range_labels n) 0
-reached_at_once _ n m = split_numbers _ n 0 (omega arith) (λ k lt. absurd (omega arith)) (λ k le lt. refl)
-
--- the number behind the last one that isn't above a number
-pub left_behind : (texts : List Text) (n m : ℕ) → IsSplitAt (λ l. not (stays_within (order_in texts) (Some (label.Int (pos m))) l)) (range_labels n) (min n (m + 1))
-left_behind _ n m =
-    split_numbers _ n _ (omega arith)
-    (λ k lt. grind (arith, nat_tests, isnt_below))
-    (λ k le lt. grind (arith, nat_tests, is_below))
-
-pub left_at_once : (texts : List Text) (n m : ℕ) → IsSplitAt (λ l. not (stays_within (order_in texts) (Some (label.Int (negsuc m))) l)) (range_labels n) 0
-left_at_once _ n m = split_numbers _ n 0 (omega arith) (λ k lt. absurd (omega arith)) (λ k le lt. refl)
-
-pub no_number : (n : ℕ) (z : ℤ) → lt_z z (pos 0) ≡ true → [] ≡ rows_where (same_number (label.Int z)) 0 (range_labels n)
-no_number = grind (arith, isnt_below, nowhere)
-
-pub reached_number : (texts : List Text) (n : ℕ) (z : ℤ) (distance place : ℕ) → lt_z z (pos 0) ≡ false → distance ≡ unsigned_abs z → place ≡ min n distance → IsSplitAt (reaches (order_in texts) (Some (label.Int z))) (range_labels n) place
-reached_number texts n (pos m) _ _ ge is at = grind (arith, reached texts n m)
-reached_number _ n (negsuc m) _ _ ge is at = cc
-
-pub reached_below : (texts : List Text) (n : ℕ) (z : ℤ) → lt_z z (pos 0) ≡ true → IsSplitAt (reaches (order_in texts) (Some (label.Int z))) (range_labels n) 0
-reached_below _ n (pos m) lt = absurd (grind (arith, isnt_below))
-reached_below _ n (negsuc m) _ = reached_at_once _ n m
-
-pub left_number : (texts : List Text) (n : ℕ) (z : ℤ) (distance place : ℕ) → lt_z z (pos 0) ≡ false → distance ≡ unsigned_abs z → place ≡ min n (distance + 1)
-    → IsSplitAt (λ l. not (stays_within (order_in texts) (Some (label.Int z)) l)) (range_labels n) place
-left_number _ n (pos m) _ _ _ is at = rw (at ∙ ap (λ k. min n (k + 1)) is) (left_behind _ n m)
-left_number _ n (negsuc m) _ _ ge is at = cc
-
-pub left_below : (texts : List Text) (n : ℕ) (z : ℤ) → lt_z z (pos 0) ≡ true → IsSplitAt (λ l. not (stays_within (order_in texts) (Some (label.Int z)) l)) (range_labels n) 0
-left_below _ n (pos m) lt = absurd (grind (arith, isnt_below))
-left_below _ n (negsuc m) _ = left_at_once _ n m
 
 -- by a test that all numbers pass, or none does
 pub all_pass : (p : Label → Bool) (n : ℕ) → ((k : ℕ) → p (number_label k) ≡ true) → IsSplitAt p (range_labels n) 0
@@ -107,10 +57,32 @@ all_pass p n pass = split_numbers p n 0 (omega arith) (λ k lt. absurd (omega ar
 pub none_passes : (p : Label → Bool) (n : ℕ) → ((k : ℕ) → p (number_label k) ≡ false) → IsSplitAt p (range_labels n) n
 none_passes p n fail = split_numbers p n n (omega arith) (λ k lt. fail k) (λ k le lt. absurd (omega arith))
 
+pub no_number : (n : ℕ) (z : ℤ) → lt_z z (pos 0) ≡ true → [] ≡ rows_where (same_number (label.Int z)) 0 (range_labels n)
+no_number = grind (arith, nat_tests, nowhere)
+
+module _ (texts : List Text) (n : ℕ) where
+  -- the first number that isn't below a number
+  pub reached_number : (z : ℤ) (distance place : ℕ) → lt_z z (pos 0) ≡ false → distance ≡ unsigned_abs z → place ≡ min n distance → BeginsAt texts (Some (label.Int z)) (range_labels n) place
+  reached_number (pos m) _ _ ge is at = rw (at ∙ ap (min n) is) (split_numbers _ n (min n m) (omega arith) (λ k lt. grind (arith, nat_tests)) (λ k le lt. grind (arith, nat_tests)))
+  reached_number (negsuc m) _ _ ge is at = cc
+
+  pub reached_below : (z : ℤ) → lt_z z (pos 0) ≡ true → BeginsAt texts (Some (label.Int z)) (range_labels n) 0
+  reached_below (pos m) lt = absurd (grind (arith, nat_tests))
+  reached_below (negsuc m) _ = all_pass _ n (λ k. refl)
+
+  -- the number behind the last one that isn't above a number
+  pub left_number : (z : ℤ) (distance place : ℕ) → lt_z z (pos 0) ≡ false → distance ≡ unsigned_abs z → place ≡ min n (distance + 1) → EndsAt texts (Some (label.Int z)) (range_labels n) place
+  left_number (pos m) _ _ ge is at = rw (at ∙ ap (λ k. min n (k + 1)) is) (split_numbers _ n (min n (m + 1)) (omega arith) (λ k lt. grind (arith, nat_tests)) (λ k le lt. grind (arith, nat_tests)))
+  left_number (negsuc m) _ _ ge is at = cc
+
+  pub left_below : (z : ℤ) → lt_z z (pos 0) ≡ true → EndsAt texts (Some (label.Int z)) (range_labels n) 0
+  left_below (pos m) lt = absurd (grind (arith, nat_tests))
+  left_below (negsuc m) _ = all_pass _ n (λ k. refl)
+
 -- numbers go on in order
 goes_on : (texts : List Text) (a n : ℕ) → goes_on_in_order (order_in texts) (number_label a) (map number_label (range_with_len (a + 1) n)) ≡ true
 goes_on _ a zero = refl
-goes_on texts a (suc n) = grind (arith, lt_of, isnt_below, goes_on texts (a + 1) n)
+goes_on texts a (suc n) = grind (arith, nat_tests, goes_on texts (a + 1) n)
 
 pub range_in_order : (texts : List Text) (n : ℕ) → is_in_order (order_in texts) (range_labels n) ≡ true
 range_in_order = grind (arith, goes_on)

@@ -15,11 +15,10 @@ module _ {X : Type 0} where
 
   pub all_same : (xs ys : List X) → length xs ≡ length ys → ((k : ℕ) → k < length xs → slice_get xs k ≡ slice_get ys k) → xs ≡ ys
   all_same [] [] e h = refl
-  all_same [] (y ∷ ys) e h = search
-  all_same (x ∷ xs) [] e h = search
   all_same (x ∷ xs) (y ∷ ys) e h =
       let first : x ≡ y = cc (h 0 (omega arith)) in
       search (all_same xs ys (omega arith) (λ k lt. h (suc k) (omega arith)))
+  all_same _ _ e h = search
 
 -- two ranges
 pub ranges_same : (a b : List Label) (m n : ℕ) (r : Bool) → range_labels m ≡ a → range_labels n ≡ b → Decides r (m ≡ n) → Decides r (a ≡ b)

@@ -4,7 +4,7 @@ use Rattle.{
   cell_core.{specs.{Values.{label_datum}, declared.{cell.Label.{Label}, grid.Rows.{Rows}}}, proofs.LabelLaws.{label_total}},
   meaning.specs.Text.{Text},
   pick_meaning.{specs.{Rows.{rows_of, rows_between}, Slices.{is_in_order, reaches, stays_within, sorted_slice, unsorted_slice, label_slice}}, proofs.{OrderLaws.{sorted_in_order, below_too, within_too, not_so}, RowLaws.{rows_in_interval}}},
-  index_core.{specs.{Labels.{order_in}, Ranges.{range_labels}, Splits.{IsSplitAt}}, proofs.NumberLaws.{range_in_order}},
+  index_core.{specs.{Labels.{order_in}, Ranges.{range_labels}, Splits.{IsSplitAt, BeginsAt, EndsAt}}, proofs.NumberLaws.{range_in_order}},
 }
 
 pub order_total : (texts : List Text) → IsTotalOrder (order_in texts)
@@ -24,26 +24,13 @@ within_first _ labels _ e = λ i j d le lt within.
     ap not (within_too (order_total _) (slice_index_or labels i d) (slice_index_or labels j d) _ (search no_later_less) (search not_so))
 
 -- the rows of a slice
-both_fail : (a b : Bool) → b ≡ false → (a && b) ≡ false
-both_fail = grind arith
-
 pub rows_of_splits : {X : Type 0} (cmp : X → X → Ordering) (d : X) (lower upper : Option X) (xs : List X) (first end : ℕ)
     → IsSplitAt (reaches cmp lower) xs first → IsSplitAt (λ x. not (stays_within cmp upper x)) xs end
     → rows_between first end ≡ sorted_slice cmp lower upper xs
 rows_of_splits {X} cmp d lower upper xs first end from to =
     let p : X → Bool = λ x. reaches cmp lower x && stays_within cmp upper x in
-    let stays : (k : ℕ) → k < end → stays_within cmp upper (slice_index_or xs k d) ≡ true = grind (arith, not_not) in
-    let leaves : (k : ℕ) → end ≤ k → k < length xs → stays_within cmp upper (slice_index_or xs k d) ≡ false = grind (arith, not_so) in
     let start : 0 + first ≡ first = omega arith in
-    sym (cc (rows_in_interval p d 0 first end xs to.within (λ k lt inside. grind arith) (λ k le lt. grind (arith, both_so)) (λ k le lt. both_fail _ _ (leaves k le lt))))
-  where
-    not_not : (b : Bool) → not b ≡ false → b ≡ true
-    not_not true e = refl
-    not_not false e = cc
-
-    both_so : (a b : Bool) → a ≡ true → b ≡ true → (a && b) ≡ true
-    both_so true b e f = f
-    both_so false b e f = cc
+    sym (cc (rows_in_interval p d 0 first end xs to.within (λ k lt inside. grind arith) (λ k le lt. grind (arith, from.behind k d, to.before k d)) (λ k le lt. grind (arith, to.behind k d le lt))))
 
 -- a test that goes on from each element to the next goes on to all behind
 goes_on : {X : Type 0} (p : X → Bool) (xs : List X) → ((k : ℕ) (d : X) → k + 1 < length xs → p (slice_index_or xs k d) ≡ true → p (slice_index_or xs (k + 1) d) ≡ true)
@@ -66,14 +53,10 @@ split_at_first p xs place next few before here = record {
 }
 
 -- a slice of labels in order, and of a range
-sorted_is : {A : Type 0} (b : Bool) (x y : A) → b ≡ true → (if b then x else y) ≡ x
-sorted_is b x y e = search
-
 pub slice_in_order : (texts : List Text) (lower upper : Option Label) (labels : List Label) (first end : ℕ) (rows : Rows) → is_in_order (order_in texts) labels ≡ true → rows_of rows ≡ rows_between first end
-    → IsSplitAt (reaches (order_in texts) lower) labels first → IsSplitAt (λ label. not (stays_within (order_in texts) upper label)) labels end
-    → label_slice (order_in texts) lower upper labels ≡ Ok (rows_of rows)
-slice_in_order = grind (arith, sorted_is, rows_of_splits)
+    → BeginsAt texts lower labels first → EndsAt texts upper labels end → label_slice (order_in texts) lower upper labels ≡ Ok (rows_of rows)
+slice_in_order = grind (arith, rows_of_splits)
 
 pub slice_of_range : (texts : List Text) (lower upper : Option Label) (n : ℕ) (labels : List Label) (rows : Rows) → range_labels n ≡ labels → rows_of rows ≡ sorted_slice (order_in texts) lower upper (range_labels n)
     → label_slice (order_in texts) lower upper labels ≡ Ok (rows_of rows)
-slice_of_range texts lower upper n _ _ view is = cc (sorted_is (is_in_order (order_in texts) (range_labels n)) (Ok (sorted_slice (order_in texts) lower upper (range_labels n))) (unsorted_slice (order_in texts) lower upper (range_labels n)) (range_in_order texts n))
+slice_of_range texts lower upper n _ _ view is = grind (arith, range_in_order texts n)

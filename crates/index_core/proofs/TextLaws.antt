@@ -1,7 +1,7 @@
 -- Labels that are told apart by the numbers of their texts, with the texts themselves.
 use Rattle.{
-  std.{proofs.{Common.{arith, ◌≡◌, ℕ, Bool, true, List, [], map, refl, All, Option}, lemmas.{Bool.Decides.{same_from_decides}, Cmp.{tied_itself}}}, specs.{Bool.{Decides}, FinMap.{nat_cmp-IsAntisymmetric, slice_cmp-IsAntisymmetric}, Option.{option_map}, Ordering.{is_eq, bool_cmp}, declared.cmp.Ordering.{Ordering, TheVariants.{Equal}}}},
-  cell_core.{specs.{declared.cell.{Label.{Label}, TextId.{TextId}}, Texts.{AreDistinct, IsGivenLabel}, Values.{LabelValue, truth, int, text, na, label_cmp, label_datum}}, proofs.LabelLaws.{label_total}},
+  std.{proofs.{Common.{arith, ◌≡◌, ℕ, Bool, List, map, All, Option}, lemmas.Bool.Decides.{same_from_decides}}, specs.{Option.{option_map}, Ordering.{is_eq}}},
+  cell_core.{specs.{declared.cell.Label.{Label}, Texts.{AreDistinct, IsGivenLabel}, Values.{LabelValue, label_cmp, label_datum}}, proofs.LabelLaws.{value_decides}},
   meaning.specs.Text.{Text},
   pick_meaning.{specs.{Faults.{pick_seen}, Keys.{LabelKey, key_seen, picked_by_label}, Labels.{rows_of_key}, Masks.{masked_rows}, Slices.{label_slice}}, proofs.{SeenLaws.{rows_of_key-map, label_slice-map, masked_rows-map}, KeyLaws.{IsOfKey, picked_by_label-map}}},
   index_core.specs.Labels.{same_number, order_in},
@@ -11,44 +11,9 @@ use Rattle.{
 abbrev pub same_text : LabelValue → LabelValue → Bool
 same_text a b = is_eq (label_cmp a b)
 
-abbrev text_in : LabelValue → Text
-text_in (text t) = t
-text_in l = []
-
-bool_same : (a b : Bool) → bool_cmp a b ≡ Equal → a ≡ b
-bool_same = grind arith
-
--- labels that compare as equal are the same
-value_same : (a b : LabelValue) → label_cmp a b ≡ Equal → a ≡ b
-value_same (truth a) (truth b) e = search bool_same
-value_same (int a) (int b) e = grind arith
-value_same (text a) (text b) e = cc (slice_cmp-IsAntisymmetric nat_cmp-IsAntisymmetric a b e)
-value_same na na e = refl
-value_same (truth a) (int b) e = cc
-value_same (truth a) (text b) e = cc
-value_same (truth a) na e = cc
-value_same (int a) (truth b) e = cc
-value_same (int a) (text b) e = cc
-value_same (int a) na e = cc
-value_same (text a) (truth b) e = cc
-value_same (text a) (int b) e = cc
-value_same (text a) na e = cc
-value_same na (truth b) e = cc
-value_same na (int b) e = cc
-value_same na (text b) e = cc
-
-is_equal : (o : Ordering) → is_eq o ≡ true → o ≡ Equal
-is_equal = grind arith
-
-pub value_decides : (a b : LabelValue) → Decides (same_text a b) (a ≡ b)
-value_decides = grind (arith, value_same, is_equal, tied_itself, label_total)
-
-id_same : (x y : TextId) → x.0 ≡ y.0 → x ≡ y
-id_same = grind arith
-
 -- labels of one text have one number
 pub label_one : (texts : List Text) (a b : Label) → AreDistinct texts → IsGivenLabel texts a → IsGivenLabel texts b → label_datum texts a ≡ label_datum texts b → a ≡ b
-label_one = grind (arith, id_same)
+label_one = grind arith
 
 -- labels whose texts were given are told apart by the numbers as by the texts
 pub number_alike : (texts : List Text) → AreDistinct texts → (a b : Label) → IsGivenLabel texts a → IsGivenLabel texts b → same_text (label_datum texts a) (label_datum texts b) ≡ same_number a b

@@ -1,6 +1,6 @@
 -- Answers and refusals that are handed on.
 use Rattle.{
-  std.{proofs.Common.{◌≡◌, ◌∙◌, ap, sym, arith, ℕ, ◌<◌, true, false, List, [], ◌∷◌, All, Some, Result, Ok, Err, length, refl}, specs.{Prelude.{IfOk, slice_get}, Cmp.Lexicographic.{pointwise}}},
+  std.{proofs.{Common.{◌≡◌, ◌∙◌, sym, arith, ℕ, ◌<◌, true, false, List, [], ◌∷◌, All, Some, Result, Ok, Err, length, refl, map, slice_index_or}, lemmas.List.{get_or-map}}, specs.{Prelude.{IfOk, slice_get}, Cmp.Lexicographic.{pointwise}}},
   cell_core.specs.declared.cell.Label.{Label},
   index_core.specs.Labels.{same_number},
   multi_index.{specs.Axes.{HaveLevels, single_tuples}, proofs.{PickLaws.{rows_seen}, TupleLaws.{only_label_is}}},
@@ -28,15 +28,7 @@ pub seen_ok : {A K J : Type 0} (f : K → J) (r : Result A (PickFault K)) (a : A
 seen_ok = grind arith
 
 pub seen_refused : {A B K J : Type 0} (f : K → J) (r : Result A (PickFault K)) (whole : Result B (PickFault K)) → ((e : PickFault K) → r ≡ Err e → whole ≡ Err e) → (e : PickFault J) → pick_seen f r ≡ Err e → pick_seen f whole ≡ Err e
-seen_refused f (Ok a) whole on e is = cc
-seen_refused {A} {B} {K} {J} f (Err x) whole on e is = ap (pick_seen f) (on x refl) ∙ err_same is
-  where
-    err_of : {X : Type 0} → Result X (PickFault J) → PickFault J → PickFault J
-    err_of (Ok x) d = d
-    err_of (Err y) d = y
-
-    err_same : pick_seen {A = A} f (Err x) ≡ Err e → pick_seen {A = B} f (Err x) ≡ Err e
-    err_same same = cc
+seen_refused f r whole on e is = grind arith
 
 -- the rows of a label of an axis, by the labels of its only level
 pub label_found : (labels : List Label) (tuples : List (List Label)) (key : List Label) (l : Label) → single_tuples labels ≡ tuples → length key ≡ 1 → slice_get key 0 ≡ Some l → are_some (rows_where (same_number l) 0 labels) ≡ true
@@ -53,9 +45,8 @@ label_missing labels tuples key l seen one at none = cc (rows_seen labels tuples
 -- the rows of a whole tuple
 leads_whole : (key tuple : List Label) → length key ≡ length tuple → leads same_number key tuple ≡ pointwise same_number key tuple
 leads_whole [] [] _ = refl
-leads_whole [] (l ∷ tuple) same = search
-leads_whole (k ∷ key) [] same = search
 leads_whole (k ∷ key) (l ∷ tuple) same = cc (leads_whole key tuple (omega arith))
+leads_whole _ _ same = search
 
 rows_whole : (n : ℕ) (tuples : List (List Label)) (key : List Label) → HaveLevels n tuples → length key ≡ n → rows_where (leads same_number key) 0 tuples ≡ rows_where (pointwise same_number key) 0 tuples
 rows_whole n _ key alike size = rows_where-same _ _ _ (λ t long. leads_whole key t (size ∙ sym long)) 0 _ alike
@@ -67,3 +58,7 @@ whole_found = grind (arith, rows_whole, some_there)
 pub whole_missing : (n : ℕ) (tuples : List (List Label)) (key : List Label) (rows : List ℕ) → HaveLevels n tuples → length key ≡ n → rows ≡ rows_where (pointwise same_number key) 0 tuples → are_some rows ≡ false
     → rows_of_key (leads same_number) tuples key ≡ Err (not_there key)
 whole_missing = grind (arith, rows_whole, none_there)
+
+-- the rows of a key among those of all
+pub row_found : (f : List Label → List ℕ) (keys : List (List Label)) (found : List (List ℕ)) (rows : List ℕ) (k : ℕ) → k < length keys → rows ≡ slice_index_or found k [] → found ≡ map f keys → rows ≡ f (slice_index_or keys k [])
+row_found = grind (arith, get_or-map)

@@ -1,6 +1,6 @@
 -- Masks, by position and by labels.
 use Rattle.{
-  std.{proofs.{Common.{◌≡◌, ◌∙◌, ap, sym, refl, arith, ℕ, suc, ◌+◌, ◌<◌, Bool, true, false, List, [], ◌∷◌, length, map, All, Some, Ok, Err, slice_index_or, ◌&&◌}, lemmas.{Bool.Decides.{same_from_decides}, List.{get_or-map, length-map, Elements.{All-head, All-tail}}, Option.{get_or_from_slice_get, slice_get_within}}}, specs.{Prelude.{slice_get}, Bool.{Decides}, Cmp.Lexicographic.{pointwise, pointwise_decides}}},
+  std.{proofs.{Common.{◌≡◌, ◌∙◌, ap, sym, refl, arith, ℕ, ◌+◌, ◌<◌, Bool, true, false, List, [], ◌∷◌, length, map, All, Some, Ok, Err, slice_index_or, ◌&&◌}, lemmas.{Bool.Decides.{same_from_decides}, List.{get_or-map, length-map, Elements.{All-head, All-tail}}, Option.{get_or_from_slice_get, slice_get_within}}}, specs.{Prelude.{slice_get}, Bool.{Decides}, Cmp.Lexicographic.{pointwise, pointwise_decides, as_long}}},
   cell_core.specs.declared.cell.{Cell.{Cell}, Label.{Label}},
   index_core.{specs.Labels.{same_number}, proofs.NumberLaws.{label_decides}},
   multi_index.specs.Axes.{HaveLevels, single_tuples},
@@ -45,10 +45,7 @@ kept_seen a b _ _ mask first second =
 
 -- on different numbers of levels no tuple is in the mask
 unlike : (x y : List Label) → (length x ≡ length y → ⊥) → pointwise same_number x y ≡ false
-unlike [] [] apart = absurd (apart refl)
-unlike [] (k ∷ y) _ = refl
-unlike (l ∷ x) [] _ = refl
-unlike (l ∷ x) (k ∷ y) apart = grind (arith, unlike x y (λ same. apart (ap suc same)))
+unlike x y apart = grind (arith, as_long)
 
 not_among : (x : List Label) (m n row : ℕ) (ys : List (List Label)) → length x ≡ m → HaveLevels n ys → (m ≡ n → ⊥) → rows_where (pointwise same_number x) row ys ≡ []
 not_among x m n _ [] _ _ _ = refl

@@ -1,6 +1,6 @@
 -- Rows at equal distances.
 use Rattle.{
-  std.{proofs.{Common.{◌≡◌, sym, subst, refl, arith, ℕ, zero, suc, ◌+◌, ◌-◌, ◌≤◌, ℤ, pos, negsuc, Bool, true, false, nat_lt, List, [], ◌∷◌, ◌++◌, map}, lemmas.{Bool.Decides.{nat_tests}, List.FromFn.{map-range_with_len_more}}}, specs.{Prelude.{unsigned_abs, int_lt, ◌≢◌}, Int.{div_ceil}, List.{range_with_len}}},
+  std.{proofs.{Common.{◌≡◌, sym, subst, refl, arith, ℕ, zero, suc, ◌+◌, ◌-◌, ◌≤◌, ℤ, pos, negsuc, true, false, List, [], ◌∷◌, ◌++◌, map}, lemmas.{Bool.Decides.{nat_tests}, List.FromFn.{map-range_with_len_more}}}, specs.{Prelude.{unsigned_abs, int_lt, ◌≢◌}, Int.{div_ceil}, List.{range_with_len}}},
   cell_core.specs.Grids.{AreRowsBelow},
   index_core.proofs.NumberLaws.{run_rows},
   pick_meaning.{specs.Rows.{rows_of}, proofs.PositionLaws.{forward_below, backward_below}},
@@ -17,23 +17,14 @@ all_listed _ n is =
     grind (arith, run_rows)
 
 -- the rows of a slice with a step
-clash : (b : Bool) → b ≡ true → b ≡ false → ⊥
-clash = grind arith
-
-above_zero : (n : ℕ) → nat_lt 0 (suc n) ≡ true
-above_zero = grind (arith, nat_tests)
-
-not_true : false ≡ true → ⊥
-not_true e = cc
-
 pub forward_spaced : (low high count steps : ℕ) (z : ℤ) → int_lt (pos 0) z ≡ true → high ≤ count → steps ≡ div_ceil (high - low) (unsigned_abs z) → AreRowsBelow record { start = low; step = z; count = steps } count
-forward_spaced _ _ _ _ (pos zero) ahead few is = search (clash, nat_tests)
+forward_spaced _ _ _ _ (pos zero) ahead few is = grind (arith, nat_tests)
 forward_spaced _ _ _ _ (pos (suc n)) ahead few is = grind (arith, forward_below)
-forward_spaced _ _ _ _ (negsuc n) ahead _ _ = absurd (not_true ahead)
+forward_spaced _ _ _ _ (negsuc n) ahead _ _ = absurd cc
 
 pub backward_spaced : (low high count start steps : ℕ) (z : ℤ) → z ≢ pos 0 → int_lt (pos 0) z ≡ false → high ≤ count → start ≡ high - 1 → steps ≡ div_ceil (high - low) (unsigned_abs z)
     → AreRowsBelow record { start = start; step = z; count = steps } count
 backward_spaced _ _ _ _ _ (pos zero) moves _ _ _ _ = absurd (moves refl)
-backward_spaced _ _ _ _ _ (pos (suc n)) moves back few at is = search (clash, above_zero)
+backward_spaced _ _ _ _ _ (pos (suc n)) moves back few at is = grind (arith, nat_tests)
 backward_spaced _ _ count start _ (negsuc n) _ _ few at is =
     subst (λ r. AreRowsBelow r count) (λ j. record { start = sym at j; step = negsuc n; count = sym is j }) (backward_below _ _ n _ few)

@@ -8,9 +8,8 @@ use Rattle.{
 }
 
 only_label : (tuple : List Label) → length tuple ≡ 1 → label_in 0 tuple ∷ [] ≡ tuple
-only_label [] one = search
 only_label (l ∷ []) _ = refl
-only_label (l ∷ k ∷ ks) one = search
+only_label _ one = search
 
 pub single_rows : (tuples : List (List Label)) (rows : List ℕ) → HaveLevels 1 tuples → All (λ row. row < length tuples) rows → single_tuples (map (λ row. label_of_row tuples row 0) rows) ≡ tuples_at tuples rows
 single_rows _ [] alike inside = refl

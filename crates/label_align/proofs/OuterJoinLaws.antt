@@ -1,6 +1,6 @@
 -- The entries of both sides' keys in order are an outer join.
 use Rattle.{
-  std.{proofs.{Common.{◌≡◌, ◌∙◌, ◌<◌, ◌++◌, ℕ, zero, suc, Bool, true, false, not, cond, List, [], ◌∷◌, filter, length, refl, ap, slice_index_or, arith, All}, lemmas.{Bool.{false≢true}, List.{append-nil, Elements.{All-tail, All-map, filter-append}}}}, specs.{Bool.{Decides}, Cmp.{IsStrictWeakOrder}, List.{flat_map, list_any}}},
+  std.{proofs.{Common.{◌≡◌, ◌∙◌, ◌<◌, ◌++◌, ℕ, suc, Bool, true, false, not, cond, List, [], ◌∷◌, filter, length, refl, ap, slice_index_or, arith, All}, lemmas.{Bool.{false≢true}, List.{append-nil, Elements.{All-tail, All-map, filter-append}}}}, specs.{Bool.{Decides}, Cmp.{IsStrictWeakOrder}, List.{flat_map, list_any}}},
   meaning.specs.Reduce.{distinct},
   sorting.{specs.Sorting.{put_in, in_order}, proofs.SortLaws.{irreflexive, Ascends, in_order_ascends}},
   align_meaning.{proofs.OrderLaws.{all_append, all_flat, all_in_order, all_distinct}, specs.{Joins.{Entry, or_gap, entry, entries_of, outer_entries, lists_of}, OuterJoin.{IsOuterJoin, rows_of_key}}},
@@ -20,10 +20,8 @@ keyed key lefts rights =
 
 -- none stands before a lesser one
 rises_at : {X : Type 0} (less : X → X → Bool) (weak : IsStrictWeakOrder less) (xs : List X) → Ascends less weak xs → (i j : ℕ) (d : X) → i < j → j < length xs → less (slice_index_or xs j d) (slice_index_or xs i d) ≡ false
-rises_at _ _ [] up i j = grind arith
-rises_at _ _ (x ∷ xs) up i zero = grind arith
-rises_at _ _ (x ∷ xs) up zero (suc j) = grind arith
 rises_at less weak (x ∷ xs) up (suc i) (suc j) = grind (arith, rises_at less weak xs up.1)
+rises_at _ _ _ up i _ = grind arith
 
 module _ {K : Type 0} (same less : K → K → Bool) (decides : (a b : K) → Decides (same a b) (a ≡ b)) (weak : IsStrictWeakOrder less) where
   -- what belongs to keys, key by key

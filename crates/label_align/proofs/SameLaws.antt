@@ -1,10 +1,10 @@
 -- Tuples are equal by `==` exactly where they are the same.
 use Rattle.{
-  std.{proofs.{Common.{arith, ◌≡◌, ℕ, List, [], ◌∷◌, refl, All}, lemmas.{Cmp.{tied_itself}, List.Elements.{All-tail}}}, specs.{Bool.{Decides}, Cmp.Lexicographic.{pointwise, pointwise_decides, lists_total}, FinMap.{nat_cmp-IsAntisymmetric, slice_cmp-IsAntisymmetric}, List.Sorted.{ties}, declared.cmp.Ordering.TheVariants.{Equal}}},
-  cell_core.{specs.{declared.cell.Label.{Label}, Texts.{AreDistinct, IsGivenLabel}, Values.{LabelValue, text, label_cmp, label_datum}}, proofs.LabelLaws.{label_total}},
+  std.{proofs.{Common.{arith, ◌≡◌, ℕ, List, [], ◌∷◌, refl, All}, lemmas.{Cmp.{tied_itself}, List.Elements.{All-tail}}}, specs.{Bool.{Decides}, Cmp.Lexicographic.{pointwise, pointwise_decides, lists_total}, FinMap.{slice_cmp-IsAntisymmetric}, List.Sorted.{ties}}},
+  cell_core.{specs.{declared.cell.Label.{Label}, Texts.{AreDistinct, IsGivenLabel}}, proofs.LabelLaws.{label_total, value_same}},
   label_align.specs.Tuples.{tuple_seen, tuple_less},
   row_keys.specs.Keys.{same_tuple},
-  index_core.proofs.NumberLaws.{label_decides},
+  index_core.proofs.{NumberLaws.{label_decides}, TextLaws.{label_one}},
 }
 pub use Rattle.row_keys.proofs.PartnerLaws.{tuple_laws}
 
@@ -13,15 +13,6 @@ tuple_decides = pointwise_decides label_decides
 
 pub tuples_decide : (a b : List (List Label)) → Decides (pointwise same_tuple a b) (a ≡ b)
 tuples_decide = pointwise_decides tuple_decides
-
--- labels that compare as equal are the same
-pub value_same : (a b : LabelValue) → label_cmp a b ≡ Equal → a ≡ b
-value_same (text a) (text b) e = cc (slice_cmp-IsAntisymmetric nat_cmp-IsAntisymmetric a b e)
-value_same _ _ e = grind arith
-
--- labels of one text have one number
-pub label_one : (texts : List (List ℕ)) (a b : Label) → AreDistinct texts → IsGivenLabel texts a → IsGivenLabel texts b → label_datum texts a ≡ label_datum texts b → a ≡ b
-label_one = grind arith
 
 -- tuples of given labels tie in their order exactly where they are the same
 module _ (texts : List (List ℕ)) (distinct : AreDistinct texts) where

@@ -1,8 +1,9 @@
 -- The row of each target, by codes.
 use Rattle.{
-  std.{proofs.{Common.{◌≡◌, ◌∙◌, ◌<◌, ◌≤◌, ◌==◌, ◌+◌, ℕ, zero, suc, Bool, true, false, cond, List, [], ◌∷◌, map, length, refl, ap, sym, slice_index_or, arith, All, Option, Some, None, Ok, Err, nat_lt, le-ltb}, lemmas.{Simd.{map-map}, Bool.Decides.{nat_tests}, List.{get_or-map, length-map, FromFn.{get_or-map-range_with_len}, Elements.{All-tail, All-map}}}}, specs.{Bool.{Decides}, List.{range_with_len}}},
+  std.{proofs.{Common.{◌≡◌, ◌∙◌, ◌<◌, ◌≤◌, ◌==◌, ◌+◌, ℕ, zero, suc, Bool, true, false, cond, List, [], ◌∷◌, map, length, refl, ap, sym, slice_index_or, arith, All, Option, Some, None, Ok, Err, nat_lt, le-ltb}, lemmas.{Simd.{map-map}, Bool.Decides.{nat_tests}, List.{get_or-map, length-map, FromFn.{get_or-map-range_with_len}, Elements.{All-map}}}}, specs.{Bool.{Decides}, List.{range_with_len}}},
   cell_core.specs.declared.cell.Label.{Label},
   pick_meaning.specs.Rows.{rows_where, only_row},
+  multi_index.proofs.LevelLaws.{maps_alike},
   align_meaning.specs.{Faults.{duplicate_labels}, Targets.{first_where, first_repeated, unless_repeated, rows_of_targets, reindexed}},
   row_keys.{specs.{Keys.{same_tuple}, Buckets.{buckets_of}}, proofs.{KeyLaws.{position_in}, JoinLaws.{rank, count, left_known, right_known, bucket_of_key}}},
   label_align.{specs.Targets.{repeats_at, IsFirstRepeat, NoneBefore, NoneRepeats, row_below}, proofs.SameLaws.{tuples_decide, tuple_laws}},
@@ -18,10 +19,6 @@ module _ {X : Type 0} (p : X → Bool) where
   none_there : (xs : List X) (d : X) → ((i : ℕ) → i < length xs → p (slice_index_or xs i d) ≡ false) → first_where p xs ≡ None
   none_there [] d _ = refl
   none_there (x ∷ xs) d before = cc (before 0 (omega arith), none_there xs d (λ i below. before (suc i) (omega arith)))
-
-map_agree : {A B : Type 0} (P : A → Type 0) (f g : A → B) → ((x : A) → P x → f x ≡ g x) → (xs : List A) → All P xs → map f xs ≡ map g xs
-map_agree P f g _ [] _ = refl
-map_agree P f g same (x ∷ xs) all = cc (same x (all 0 x (omega arith)), map_agree P f g same xs (All-tail P x xs all))
 
 not_behind : (c at m : ℕ) → c < at → rows_where (λ d. c == d) at (range_with_len at m) ≡ []
 not_behind c _ zero _ = refl
@@ -79,7 +76,7 @@ module _ (keys targets : List (List Label)) where
     pub found : (told : Bool) (asked : List ℕ) (gaps : List (Option ℕ)) → Decides told (keys ≡ targets) → told ≡ false → NoneRepeats rows codes → asked ≡ map of_key targets → gaps ≡ map (λ code. only_row (slice_index_or rows code [])) asked → reindexed same_tuple keys targets ≡ Ok gaps
     found told asked gaps is unlike none of_targets looked =
         let look : ℕ → Option ℕ = λ code. only_row (slice_index_or (buckets_of how_many (map of_key keys)) code []) in
-        let rows_found = map_agree (λ x. of_key x < how_many) (λ x. look (of_key x)) (λ target. only_row (rows_where (same_tuple target) 0 keys)) (λ x lt. ap only_row (bucket x lt)) targets target_below in
+        let rows_found = maps_alike (λ x. of_key x < how_many) (λ x. look (of_key x)) (λ target. only_row (rows_where (same_tuple target) 0 keys)) (λ x lt. ap only_row (bucket x lt)) targets target_below in
         cc (others told is unlike, none_there is_repeated keys [] (grind (arith, once, size)), rw (made, of_targets) at looked, map-map look of_key targets, rows_found)
 
   -- where the codes of the keys are the numbers from 0 on, none repeats, and each is its row
@@ -102,4 +99,4 @@ module _ (keys targets : List (List Label)) where
     found_in_sequence told asked gaps is unlike of_targets looked =
         let below : All (λ code. code < how_many) asked = rw of_targets (All-map (λ code. code < how_many) of_key targets target_below) in
         found _ _ refl coded told asked gaps is unlike none_repeats of_targets
-        (looked ∙ map_agree (λ code. code < how_many) (row_below (length keys)) (λ code. only_row (slice_index_or rows code [])) (λ code lt. sym (row_of (nat_lt code (length keys)) code) ∙ ap only_row (sym (one_row code lt))) asked below)
+        (looked ∙ maps_alike (λ code. code < how_many) (row_below (length keys)) (λ code. only_row (slice_index_or rows code [])) (λ code lt. sym (row_of (nat_lt code (length keys)) code) ∙ ap only_row (sym (one_row code lt))) asked below)

@@ -1,13 +1,13 @@
 -- Levels that go, or change places with one another.
 use Rattle.{
-  std.{proofs.{Common.{◌≡◌, ◌∙◌, refl, sym, ℕ, suc, ◌≤◌, List, [], ◌∷◌, ◌++◌, map, take, drop, length, Option, Some, None, arith}, Math.ListN.{get_or-map}, lemmas.{Bool.Decides.{nat_tests}, List.{length-map, map-append, take-map, map-set}}}, specs.{Prelude.{IfSome, remove, swap}, Option.{option_map}, List.{drop-map}}},
+  std.{proofs.{Common.{◌≡◌, refl, sym, ℕ, ◌≤◌, List, [], ◌∷◌, map, length, Option, Some, None, arith}, Math.ListN.{get_or-map}, lemmas.{Bool.Decides.{nat_tests}, List.{length-map, map-set}}}, specs.{Prelude.{IfSome, remove, swap}, Option.{option_map}}},
   cell_core.specs.{Texts.{IsGiven}, declared.cell.{Cell.{Cell}, Label.{Label}}},
   meaning.specs.{Text.{Text}, Cell.{datum}},
   multi_index.specs.Axes.{AxisValue, without_level, with_swapped},
   table_meaning.specs.{Change.{with_labels}, Settled.{IsSettled}, Table.{NumberedTable, table_value}, Value.{scalar_in}},
   form_meaning.specs.Finish.{limited},
   method_meaning.specs.Levels.{level_dropped, level_gone, levels_swapped},
-  frame_store.{specs.{Arguments.{arguments_of}, Objects.{Tables}, Parts.{axis_of}, Shown.{labels_value}}, proofs.Settling.{settled_by, cell_given}},
+  frame_store.{specs.{Arguments.{arguments_of}, Objects.{Tables}, Parts.{axis_of}, Shown.{labels_value}}, proofs.{ColumnLaws.{map-remove}, Settling.{settled_by, cell_given}}},
   signatures.{specs.{Bound.{Tells}, declared.bound.Bound.{Bound}}, proofs.ToldLaws.{told_settled, some_same}},
 }
 
@@ -17,8 +17,6 @@ option_given b _ None _ _ _ _ = tt
 option_given b _ (Some c) _ _ tells settled = cell_given _ c (λ more. some_same _ _ (told_settled b _ scalar_in (λ _ ts. Some (datum ts c)) _ _ tells settled more))
 
 -- what is made of a list, item by item
-map-remove : {X Y : Type 0} (f : X → Y) (xs : List X) (i : ℕ) → map f (remove xs i) ≡ remove (map f xs) i
-map-remove f xs i = map-append f (take i xs) (drop (suc i) xs) ∙ (λ j. sym (take-map f i xs) j ++ sym (drop-map f (suc i) xs) j)
 
 map-swap : {X Y : Type 0} (f : X → Y) (xs : List X) (i j : ℕ) → map f (swap xs i j) ≡ swap (map f xs) i j
 map-swap = grind (arith, map-set, get_or-map)

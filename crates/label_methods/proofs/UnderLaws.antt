@@ -1,23 +1,20 @@
 -- Tables under another axis.
 use Rattle.{
-  std.{proofs.{Common.{◌≡◌, ◌∙◌, refl, ap, sym, subst, arith, ℕ, ◌+◌, ◌<◌, List, [], ◌∷◌, ◌++◌, map, length, take, set, get_or, All, Some}, lemmas.{List.{map-append, take_more, take_more_set, Elements.{All-push}}, Option.{get_or_from_slice_get}}}, specs.{Prelude.{slice_get}, List.{range_with_len}}},
+  std.{proofs.{Common.{◌≡◌, ◌∙◌, ap, arith, ℕ, ◌+◌, ◌<◌, List, [], ◌∷◌, ◌++◌, map, length, take, set, get_or, Some}, lemmas.{List.{map-append, take_more, take_more_set}, Option.{get_or_from_slice_get}}}, specs.{Prelude.{slice_get}, List.{range_with_len}}},
   cell_core.specs.declared.cell.Cell.{Cell},
   column_core.specs.{Blocks.{CellBlock}, Columns.{CellColumn}},
   multi_index.specs.Axes.{AxisValue},
   table_meaning.specs.{Change.{with_labels}, Table.{ColumnOf, NumberedTable, column_at}, Valid.{IsWhole}},
-  frame_store.specs.Parts.{HeadingList, columns_of, table_with, IsSingle},
+  frame_store.specs.Parts.{HeadingList, columns_of, table_with},
   selections.proofs.PickedLaws.{list_is},
 }
+pub use Rattle.selections.proofs.TakeLaws.{one_more_single}
 
 -- one column more
 pub one_more_column : (columns : List (ColumnOf Cell)) (places : List ℕ) (k place : ℕ) (c : CellColumn) (block : CellBlock) (blocks blocks' : List CellBlock) → k < length places → slice_get places k ≡ Some place
     → column_at columns place ≡ record { kind = c.kind; cells = c.cells } → block ≡ record { kind = c.kind; rows = length c.cells; columns = c.cells ∷ [] } → blocks' ≡ blocks ++ block ∷ []
     → columns_of blocks ≡ map (column_at columns) (take k places) → columns_of blocks' ≡ map (column_at columns) (take (k + 1) places)
 one_more_column columns places k _ c block blocks _ lt at here boxed pushed before = grind (arith, map-append, take_more places k 0 lt, get_or_from_slice_get places k _ 0 at)
-
-pub one_more_single : (c : CellColumn) (block : CellBlock) (blocks blocks' : List CellBlock) → block ≡ record { kind = c.kind; rows = length c.cells; columns = c.cells ∷ [] } → blocks' ≡ blocks ++ block ∷ []
-    → All IsSingle blocks → All IsSingle blocks'
-one_more_single c _ blocks _ boxed pushed before = rw pushed (All-push IsSingle blocks _ before (subst IsSingle (sym boxed) refl))
 
 -- names, level by level
 pub one_more_name : {X : Type 0} (names made made' : List X) (k : ℕ) (x d : X) → k < length made → k < length names → x ≡ get_or names k d → take k made ≡ take k names → made' ≡ set made k x → take (k + 1) made' ≡ take (k + 1) names

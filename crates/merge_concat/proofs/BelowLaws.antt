@@ -1,6 +1,6 @@
 -- Columns one below the other.
 use Rattle.{
-  std.{proofs.{Common.{◌≡◌, ◌∙◌, ◌-◌, ◌<◌, ◌≤◌, ℕ, Bool, true, false, cond, List, [], ◌∷◌, length, map, take, drop, slice_index_or, refl, arith, Option, Some, None, Ok, Err, nat_lt, lt-ltb, le-ltb}, lemmas.{Bool.{and_parts}, List.{map-append, length-map, take_rest, Concat.{length-flat_map}}}}, specs.List.{list_all, flat_map, All}},
+  std.{proofs.{Common.{◌≡◌, ◌-◌, ◌<◌, ◌≤◌, ℕ, Bool, true, false, cond, List, [], ◌∷◌, length, map, take, drop, slice_index_or, refl, arith, Option, Some, None, Ok, Err, nat_lt, lt-ltb, le-ltb}, lemmas.{Bool.{and_parts}, List.{map-append, length-map, take_rest, Concat.{length-flat_map}}}}, specs.List.{list_all, flat_map, All}},
   cell_core.specs.declared.cell.{Kind.{Kind}, Label.{Label}},
   meaning.specs.{Cell.{CellValue, datum}, Column.{ColumnValue}},
   column_core.specs.Columns.{CellColumn, column_value},
@@ -9,26 +9,19 @@ use Rattle.{
   merge_concat.specs.{declared.parts.Part.{Part}, Parts.{part_kind, part_column, kind_of_all, cells_below, count_below}},
 }
 
-kind_itself : (a : Kind) → same_kind a a ≡ true
-kind_itself = grind arith
-
-pub kinds_differ : (a b : Kind) → (a ≡ b → ⊥) → same_kind a b ≡ false
-kinds_differ = grind arith
-
 -- the kind of all parts, where the first one is told
 module _ (missing : Kind) where
   abbrev alike : Kind → Part → Bool
   alike kind other = same_kind kind (part_kind missing other)
 
-  pub kind_told : (parts : List Part) (first : Part) (told : Bool) → 1 ≤ length parts → first ≡ slice_index_or parts 0 first → list_all (alike (part_kind missing first)) (take (length parts - 1) (drop 1 parts)) ≡ told
-      → kind_of_all missing parts ≡ cond told (Some (part_kind missing first)) None
-  kind_told [] _ _ some is all = absurd (omega arith)
-  kind_told (part ∷ parts) _ _ some is all = grind (arith, take_rest (part ∷ parts) 1)
+  pub kind_told : (parts : List Part) (first : Part) (kind : Kind) (told : Bool) → 1 ≤ length parts → first ≡ slice_index_or parts 0 first → kind ≡ part_kind missing first → list_all (alike kind) (take (length parts - 1) (drop 1 parts)) ≡ told
+      → kind_of_all missing parts ≡ cond told (Some kind) None
+  kind_told [] _ _ _ some = absurd (omega arith)
+  kind_told (part ∷ parts) _ _ _ some = grind (arith, take_rest (part ∷ parts) 1)
 
   all_at_kind : (kind : Kind) (parts : List Part) → list_all (alike kind) parts ≡ true → All (λ part. part_kind kind part ≡ kind) parts
   all_at_kind _ [] all = grind arith
-  all_at_kind kind (part ∷ parts) all =
-      grind (arith, all_at_kind kind parts (and_parts (alike kind part) (list_all (alike kind) parts) all).1)
+  all_at_kind kind (part ∷ parts) all = grind (arith, all_at_kind kind parts, and_parts)
 
   some_kind : (b : Bool) (k kind : Kind) → cond b (Some k) None ≡ Some kind → (b ≡ true) × (k ≡ kind)
   some_kind = grind arith
@@ -56,15 +49,9 @@ module _ (missing : Kind) where
     column_if None cells = None
     column_if (Some kind) cells = Some record { kind = kind; cells = cells }
 
-    of_cond : (b : Bool) (kind : Kind) (cells : List CellValue) → cond b (Some record { kind = kind; cells = cells }) None ≡ column_if (cond b (Some kind) None) cells
-    of_cond = grind arith
-
     below_is : (parts : List Part) → column_below (map value_of parts) ≡ column_if (kind_of_all missing parts) (map (datum texts) (cells_below parts))
     below_is [] = refl
-    below_is (part ∷ parts) =
-        let kind = part_kind missing part in
-        (λ i. cond (kinds_seen kind parts i) (Some record { kind = kind; cells = cells_seen (part ∷ parts) i }) None)
-        ∙ of_cond _ _ _
+    below_is (part ∷ parts) = grind (arith, kinds_seen (part_kind missing part) parts, cells_seen (part ∷ parts))
 
     size : (parts : List Part) → length (map (datum texts) (cells_below parts)) ≡ count_below parts
     size = search (length-map, length-flat_map)

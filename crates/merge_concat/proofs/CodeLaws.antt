@@ -1,6 +1,6 @@
 -- Rows meet by their keys as they meet by the numbers of the keys.
 use Rattle.{
-  std.{proofs.{Common.{◌≡◌, ◌∙◌, ◌<◌, ◌+◌, ◌==◌, ◌++◌, ap, refl, sym, arith, ℕ, zero, suc, Bool, true, false, not, cond, List, [], ◌∷◌, map, filter, length, All, slice_index_or, slice_index, take, set, min, length-append, nat_eq, nat_lt, Option}, lemmas.{Bool.{false≢true, eqb-true, eqb-false}, List.{map-append, length-set, get_or-set_same, get_or-set_other, FromFn.{fill_by_all, length-map-range_with_len}, Elements.{All-head, All-tail}}, Simd.{map-map}}}, specs.{Prelude.{option_map}, List.{list_any, position_or_len, flat_map, range_with_len}, Cmp.{IsEquivalence}}},
+  std.{proofs.{Common.{◌≡◌, ◌<◌, ◌+◌, ap, refl, sym, arith, ℕ, zero, suc, Bool, true, List, [], ◌∷◌, map, filter, length, All, slice_index_or, slice_index, take, set, min, length-append, nat_eq, nat_lt, Option}, lemmas.{Bool.{false≢true, eqb-true, eqb-false}, List.{map-append, length-set, get_or-set_same, get_or-set_other, FromFn.{fill_by_all, length-map-range_with_len}, Elements.{All-head, All-tail}}, Simd.{map-map}}}, specs.{Prelude.{option_map}, List.{list_any, position_or_len, flat_map, range_with_len}, Cmp.{IsEquivalence}}},
   align_meaning.specs.{Joins.{Entry, entries_with, entries_of}, Targets.{first_where, first_repeated}},
   pick_meaning.{specs.Rows.{rows_where}, proofs.RowLaws.{rows_where-map}},
   join_meaning.specs.Pairs.{pairs_from, pair_of_entry},
@@ -14,16 +14,12 @@ module _ {X : Type 0} (p : X → Bool) where
   none_passes : (xs : List X) (g : ℕ) (d : X) → filter p xs ≡ [] → g < length xs → p (slice_index_or xs g d) ≡ true → ⊥
   none_passes [] g d h lt e = omega (arith, lt)
   none_passes (y ∷ ys) zero d h lt e = grind (arith, false≢true)
-  none_passes (y ∷ ys) (suc g) d h lt e = elim (p y) as (λ b. cond b (y ∷ filter p ys) (filter p ys) ≡ [] → ⊥) [ true ↦ λ n. cc | false ↦ λ n. none_passes ys g d n (omega (arith, lt)) e ] h
+  none_passes (y ∷ ys) (suc g) d h lt e = grind (arith, none_passes ys g d)
 
   pub only_place : (xs : List X) (x : X) (g : ℕ) (d : X) → filter p xs ≡ x ∷ [] → g < length xs → p (slice_index_or xs g d) ≡ true → position_or_len p xs ≡ g
   only_place [] x g d h lt e = search
   only_place (y ∷ ys) x zero d h lt e = cc
-  only_place (y ∷ ys) x (suc g) d h lt e =
-      elim (p y) as (λ b. cond b (y ∷ filter p ys) (filter p ys) ≡ x ∷ [] → cond (not b) (1 + position_or_len p ys) 0 ≡ suc g) [
-        | true ↦ grind (arith, none_passes)
-        | false ↦ λ n. omega (arith, (only_place ys x g d n (omega (arith, lt)) e))
-      ] h
+  only_place (y ∷ ys) x (suc g) d h lt e = grind (arith, none_passes, only_place ys x g d)
 
 -- the entries of a key as pairs
 pub with_seen : {K : Type 0} (key : K) (rights : List ℕ) (lefts : List (Option ℕ)) → map pair_of_entry (flat_map (entries_with key rights) lefts) ≡ flat_map (pairs_with rights) lefts
@@ -38,7 +34,7 @@ module _ {K : Type 0} (same : K → K → Bool) (laws : IsEquivalence same) (key
   IsKnown x = list_any (same x) keys ≡ true
 
   rows_coded : (k : K) (xs : List K) → All IsKnown xs → rows_where (same k) 0 xs ≡ rows_of_code (rank k) (map rank xs)
-  rows_coded k xs known = sym (rows_where-map IsKnown _ _ _ (λ x h. grind (arith, place_tells)) 0 xs known)
+  rows_coded k xs known = sym (rows_where-map IsKnown _ _ _ (grind (arith, place_tells)) 0 xs known)
 
   -- a row with the rows that it meets
   pub pairs_coded : (stays : Bool) (row : ℕ) (left right : List K) → All IsKnown right → pairs_from same stays row left right ≡ pairs_from nat_eq stays row (map rank left) (map rank right)
@@ -55,7 +51,7 @@ module _ {K : Type 0} (same : K → K → Bool) (laws : IsEquivalence same) (key
     repeats _ [] at = refl
     repeats row (x ∷ xs) at =
         let start : row ≡ row + 0 = omega arith in
-        grind (arith, rows_coded, repeats (row + 1) xs (λ j. let next : row + 1 + j ≡ row + suc j = omega arith in ap (λ n. slice_index_or rows n d) next ∙ at (suc j)))
+        grind (arith, rows_coded, repeats (row + 1) xs (λ j. let next : row + 1 + j ≡ row + suc j = omega arith in rw next (at (suc j))))
 
     pub repeated_coded : first_repeated same rows ≡ option_map (λ r. slice_index_or rows r d) (repeated_from (map rank rows) 0 (map rank rows))
     repeated_coded = grind (arith, repeats)
@@ -76,9 +72,7 @@ module _ {K : Type 0} (same : K → K → Bool) (laws : IsEquivalence same) (key
 
     outer_on : (ns : List ℕ) → All (λ n. n < length keys) ns → map pair_of_entry (flat_map part (map key_at ns)) ≡ flat_map (pairs_at (map rank left) (map rank right)) ns
     outer_on [] _ = refl
-    outer_on (n ∷ ns) all =
-        map-append _ (part (key_at n)) (flat_map part (map key_at ns))
-        ∙ (λ i. here n (All-head (λ m. m < length keys) n ns all) i ++ outer_on ns (All-tail (λ m. m < length keys) n ns all) i)
+    outer_on (n ∷ ns) all = grind (arith, map-append, here n (All-head (λ m. m < length keys) n ns all), outer_on ns (All-tail (λ m. m < length keys) n ns all))
 
     pub outer_coded : map pair_of_entry (flat_map part keys) ≡ outer_pairs (length keys) (map rank left) (map rank right)
     outer_coded = cc (fill_by_all key_at keys (length keys) d refl (λ k lt. refl), outer_on (range_with_len 0 (length keys)) (below_range (length keys)))
@@ -93,12 +87,5 @@ pub counts_more : (codes counts : List ℕ) (count i code n : ℕ) → i < lengt
     → AreCounts (take i codes) count counts → AreCounts (take (i + 1) codes) count (set counts code n)
 counts_more codes counts _ i code n lt at below is so_far = (
   search length-set,
-  λ c inside.
-      let more = rows_more c _ i _ lt (sym at) in
-      let long : length (rows_of_code c (take i codes) ++ cond (c == code) (i ∷ []) []) ≡ length (rows_of_code c (take i codes)) + length (cond (c == code) (i ∷ []) []) = search length-append in
-      let were = so_far.1 c inside in
-      elim (c == code) as (λ b. (c == code) ≡ b → slice_index (set counts code n) c ≡ min (length (rows_of_code c (take (i + 1) codes))) 255) [
-        | true ↦ grind (arith, eqb-true, slice_index, get_or-set_same)
-        | false ↦ grind (arith, slice_index, get_or-set_other, eqb-false)
-      ] refl,
+  λ c inside. let were = so_far.1 c inside in grind (arith, rows_more c _ i _ lt (sym at), length-append, eqb-true, slice_index, get_or-set_same, get_or-set_other, eqb-false),
 )

@@ -1,6 +1,6 @@
 -- The sides of a join exchanged, and two joins of the same sides.
 use Rattle.{
-  std.proofs.{Common.{◌≡◌, ◌∙◌, ◌<◌, ◌≤◌, refl, sym, subst, arith, ℕ, Bool, true, false, cond, List, [], ◌∷◌, map, filter, length, All, Option, Some, None, inl, inr}, lemmas.{Bool.{false≢true, eqb-true, cases_lt}, List.Elements.{All-head, All-tail, All-map}}},
+  std.proofs.{Common.{◌≡◌, ◌∙◌, ◌<◌, ◌≤◌, refl, sym, arith, ℕ, Bool, true, List, [], ◌∷◌, map, length, All, Option, Some, None, inl, inr}, lemmas.{Bool.{false≢true, eqb-true, cases_lt}, List.Elements.{All-head, All-tail, All-map}}},
   column_core.specs.Moves.{IsPlaceOf},
   join_meaning.specs.{declared.How.{How}, Pairs.{Pair, pair, exchanged}},
   cell_core.specs.declared.cell.Label.{Label},
@@ -23,10 +23,7 @@ same_pair_is = grind (arith, false≢true, eqb-true)
 
 never : (P : Pair → Type 0) (p : Pair) → (P p → ⊥) → (ps : List Pair) → All P ps → how_often p ps ≡ 0
 never P p _ [] _ = refl
-never P p none (q ∷ ps) all = elim (same_pair p q) as (λ b. same_pair p q ≡ b → length (cond b (q ∷ filter (same_pair p) ps) (filter (same_pair p) ps)) ≡ 0) [
-  | true ↦ λ e. absurd (none (subst P (sym (same_pair_is p q e)) (All-head P q ps all)))
-  | false ↦ λ e. never P p none ps (All-tail P q ps all)
-] refl
+never P p none (q ∷ ps) all = grind (arith, same_pair_is, All-head P q ps all, never P p none ps (All-tail P q ps all))
 
 element : {K : Type 0} (xs : List K) (i : ℕ) → i < length xs → K
 element [] i lt = grind arith
@@ -37,21 +34,14 @@ module _ {K : Type 0} (same : K → K → Bool) (how : How) (left right : List K
   IsAlike a b = how_often (pair a b) ps ≡ how_often (pair a b) qs
 
   behind_left : (i : ℕ) (b : Option ℕ) → length left ≤ i → IsAlike (Some i) b
-  behind_left i b le =
-      let outside : i < length left → ⊥ = grind arith in
-      never (λ p. IsPlaceOf (length left) p.left) (pair (Some i) b) outside ps one.left_rows ∙ sym (search never)
+  behind_left i b le = grind (arith, never (λ p. IsPlaceOf (length left) p.left) (pair (Some i) b) (grind arith) ps one.left_rows, never (λ p. IsPlaceOf (length left) p.left) (pair (Some i) b) (grind arith) qs other.left_rows)
 
   behind_right : (a : Option ℕ) (j : ℕ) → length right ≤ j → IsAlike a (Some j)
-  behind_right a j le =
-      let outside : j < length right → ⊥ = grind arith in
-      never (λ p. IsPlaceOf (length right) p.right) (pair a (Some j)) outside ps one.right_rows ∙ sym (search never)
+  behind_right a j le = grind (arith, never (λ p. IsPlaceOf (length right) p.right) (pair a (Some j)) (grind arith) ps one.right_rows, never (λ p. IsPlaceOf (length right) p.right) (pair a (Some j)) (grind arith) qs other.right_rows)
 
   with_left : (i : ℕ) → i < length left → (b : Option ℕ) → IsAlike (Some i) b
-  with_left i lt None = let k = element _ i lt in one.left_alone i k lt ∙ sym (other.left_alone i k lt)
-  with_left i lt (Some j) = elim (cases_lt j (length right)) as (λ w. IsAlike (Some i) (Some j)) [
-    | inl inside ↦ let k = element _ i lt in one.together i j k lt inside ∙ sym (other.together i j k lt inside)
-    | inr le ↦ behind_right (Some i) j le
-  ]
+  with_left i lt None = cc (one.left_alone i (element left i lt) lt, other.left_alone i (element left i lt) lt)
+  with_left i lt (Some j) = grind (arith, cases_lt, one.together i j (element left i lt) lt, other.together i j (element left i lt) lt, behind_right)
 
   alike : (a b : Option ℕ) → IsAlike a b
   alike None None = search

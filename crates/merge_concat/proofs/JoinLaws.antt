@@ -15,12 +15,6 @@ use Rattle.meaning.specs.Fault as side
 use Rattle.merge_concat.proofs.KnownLaws as known
 
 module _ (texts : List Text) (how : How) (once : Validate) (left right : List (List Label)) where
-  abbrev pub sorted : Bool
-  sorted = is_outer how
-
-  abbrev pub number : List Label → ℕ
-  number = rank texts sorted left right
-
   abbrev meant : Result (List Pair) (JoinRefusal (List Label))
   meant = joined same_tuple (tuple_less texts) how once left right
 
@@ -31,25 +25,19 @@ module _ (texts : List Text) (how : How) (once : Validate) (left right : List (L
   on_side = grind arith
 
   -- the numbers of the keys, cut behind those of the left side
-  module _ (b : Bool) (is : b ≡ sorted) (count : ℕ) (counted : count ≡ length (keys_of texts b left right)) (codes : List ℕ) (coded : codes ≡ map (rank texts b left right) (left ++ right))
+  module _ (b : Bool) (is : b ≡ is_outer how) (count : ℕ) (counted : count ≡ length (keys_of texts b left right)) (codes : List ℕ) (coded : codes ≡ map (rank texts b left right) (left ++ right))
       (n : ℕ) (size : n ≡ length left) (of_left of_right : List ℕ) (front : of_left ≡ take n codes) (back : of_right ≡ drop n codes) where
-    keys_counted : count ≡ length (keys_of texts sorted left right)
-    keys_counted = search
+    left_is : of_left ≡ map (rank texts b left right) left
+    left_is = search known.left_is
 
-    numbered : codes ≡ map number (left ++ right)
-    numbered = search rank
-
-    left_is : of_left ≡ map number left
-    left_is = search (known.left_is, numbered)
-
-    right_is : of_right ≡ map number right
-    right_is = search (known.right_is, numbered)
+    right_is : of_right ≡ map (rank texts b left right) right
+    right_is = search known.right_is
 
     pub left_below : All (λ c. c < count) of_left
-    left_below = search (below, left_known, left_is, keys_counted)
+    left_below = search (below, left_known, left_is)
 
     pub right_below : All (λ c. c < count) of_right
-    right_below = search (below, right_known, right_is, keys_counted)
+    right_below = search (below, right_known, right_is)
 
     abbrev pub found_left : Option (List Label)
     found_left = repeated_in once.left left of_left
@@ -63,9 +51,6 @@ module _ (texts : List Text) (how : How) (once : Validate) (left right : List (L
         (on_side side.right once.right right found_right (search (repeats_are, right_known, right_is)) i))
         (within_limit (key_pairs same_tuple (tuple_less texts) how left right))
 
-    abbrev with : Option (List Label) → Option (List Label) → Result (List Pair) (JoinRefusal (List Label))
-    with l r = unless_repeated (or_else (option_map (repeated side.left) l) (option_map (repeated side.right) r)) (within_limit (key_pairs same_tuple (tuple_less texts) how left right))
-
     pub refused_left : (key : List Label) → found_left ≡ Some key → meant ≡ Err (not_one_to_one (repeated side.left key))
     refused_left _ e = cc meant_is
 
@@ -73,7 +58,7 @@ module _ (texts : List Text) (how : How) (once : Validate) (left right : List (L
     refused_right _ none e = search meant_is
 
     pub allowed : found_left ≡ None → found_right ≡ None → meant ≡ within_limit (code_pairs how count of_left of_right)
-    allowed = grind (arith, meant_is, pairs_are, keys_counted, left_is, right_is)
+    allowed = grind (arith, meant_is, pairs_are, left_is, right_is)
 
 -- keys of both sides have four labels at most
 module _ (left right : List (List Label)) (alike : HaveLevels (levels_of (left ++ right)) (left ++ right)) where

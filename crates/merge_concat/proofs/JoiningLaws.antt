@@ -1,14 +1,14 @@
 -- What is meant by a join is one.
 use Rattle.{
-  std.{proofs.{Common.{◌≡◌, ◌∙◌, ◌<◌, ◌+◌, ◌*◌, ◌&&◌, ◌||◌, ◌++◌, ap, refl, sym, arith, ℕ, Bool, true, false, not, cond, List, [], ◌∷◌, map, filter, length, slice_index_or, Option, Some, None, Result, Ok, Err, All}, lemmas.{Bool.{false≢true}, List.{map-append, Elements.{All-cons, All-head, All-tail, All-map}, Sums.{sum_by-cons}}}}, specs.{List.{list_any, flat_map, sum_by}, Bool.{Decides}, Cmp.{IsEquivalence, IsStrictWeakOrder}}},
+  std.{proofs.{Common.{◌≡◌, ◌∙◌, ◌<◌, ◌+◌, ◌*◌, ◌&&◌, ◌++◌, refl, arith, ℕ, Bool, true, false, not, cond, List, [], ◌∷◌, map, filter, length, slice_index_or, Option, Some, None, Result, Ok, Err, All}, lemmas.List.{map-append, Folds.{list_any-append}, Elements.{All-head, All-tail, All-map}, Sums.{sum_by-cons}}}, specs.{List.{list_any, flat_map, sum_by}, Bool.{Decides}, Cmp.{IsEquivalence, IsStrictWeakOrder}}},
   column_core.specs.Moves.{IsPlaceOf},
   meaning.specs.Reduce.{distinct},
   align_meaning.{specs.Joins.{or_gap, keys_in_order, entries_of}, proofs.OrderLaws.{all_append, all_flat, all_in_order}},
   pick_meaning.{specs.Rows.{rows_where}, proofs.InsideLaws.{rows_inside}},
-  join_meaning.specs.{declared.{How.{How, TheVariants.{Inner, Left, Right, Outer}}, Validate.{Validate}}, Pairs.{Pair, pair, exchanged, partners, pairs_from, key_pairs, pair_of_entry, RepeatedKey, JoinRefusal, repeated_key, unless_repeated, within_limit, joined}},
+  join_meaning.specs.{declared.{How.{How, TheVariants.{Inner, Left, Right, Outer}}, Validate.{Validate}}, Pairs.{Pair, pair, partners, pairs_from, key_pairs, pair_of_entry, RepeatedKey, JoinRefusal, repeated_key, unless_repeated, within_limit, joined}},
   row_keys.proofs.{KeyLaws.{any_at}, RecodeLaws.{All-distinct}},
   label_align.proofs.OuterJoinLaws.{in_order_keeps, once},
-  merge_concat.{specs.{Codes.{pairs_of}, Joining.{how_often, once_if, IsJoin}}, proofs.{CodeLaws.{with_seen}, OftenLaws.{row_often, or_gap_there, gap_there, partner_there, partner_gap, never, met_there, often_exchanged, often_product, often_parts}}},
+  merge_concat.{specs.{Codes.{pairs_of}, Joining.{how_often, once_if, IsJoin, keeps_left, keeps_right}}, proofs.{CountLaws.{sum_by_same}, ExchangeLaws.{sides_exchange}, CodeLaws.{with_seen}, OftenLaws.{row_often, or_gap_there, gap_there, partner_there, partner_gap, never, met_there, often_product, often_parts}}},
 }
 
 abbrev AreInside : ℕ → ℕ → Pair → Type 0
@@ -16,9 +16,7 @@ AreInside n m p = IsPlaceOf n p.left × IsPlaceOf m p.right
 
 gaps_inside : (n : ℕ) (rows : List ℕ) → All (λ row. row < n) rows → All (IsPlaceOf n) (or_gap rows)
 gaps_inside n [] inside = grind arith
-gaps_inside n (r ∷ rows) inside =
-    All-cons (IsPlaceOf n) (Some r) (map Some rows) (All-head (λ row. row < n) r rows inside)
-    (All-map (IsPlaceOf n) Some rows (All-tail (λ row. row < n) r rows inside))
+gaps_inside n (r ∷ rows) inside = All-map (IsPlaceOf n) Some (r ∷ rows) inside
 
 partners_inside : (stays : Bool) (n : ℕ) (rows : List ℕ) → All (λ row. row < n) rows → All (IsPlaceOf n) (partners stays rows)
 partners_inside = grind (arith, gaps_inside)
@@ -28,8 +26,7 @@ module _ {K : Type 0} (same : K → K → Bool) (stays : Bool) (right : List K) 
   from_inside n _ [] size = grind arith
   from_inside n at (key ∷ keys) size =
       all_append (AreInside n (length right)) _ _
-      (All-map (AreInside n (length right)) (pair (Some at)) (partners stays (rows_where (same key) 0 right))
-      (λ k d lt. (omega (arith, size), search (partners_inside, rows_inside))))
+      (All-map (AreInside n (length right)) (pair (Some at)) (partners stays (rows_where (same key) 0 right)) (λ k d lt. (omega (arith, size), search (partners_inside, rows_inside))))
       (from_inside n (at + 1) keys (omega (arith, size)))
 
   -- each row of a side with the rows that it meets
@@ -52,6 +49,17 @@ module _ {K : Type 0} (same : K → K → Bool) (stays : Bool) (right : List K) 
     pub inside : All (AreInside (length left) (length right)) pairs
     inside = from_inside _ 0 _ (omega arith)
 
+    -- rows of the left side that meet none stay, or they do not
+    pub kept_is : (how : How) → keeps_left how ≡ stays → keeps_right how ≡ false → IsJoin same how left right pairs
+    kept_is _ some none = record {
+      together = together;
+      left_alone = grind (arith, alone);
+      right_alone = grind (arith, nothing);
+      no_gaps = nothing None;
+      left_rows = λ k d lt. (inside k d lt).0;
+      right_rows = λ k d lt. (inside k d lt).1;
+    }
+
 -- the pairs of a key, key by key
 module _ {K : Type 0} (same less : K → K → Bool) (laws : IsEquivalence same) (decides : (a b : K) → Decides (same a b) (a ≡ b)) (weak : IsStrictWeakOrder less) (left right : List K) where
   abbrev keys : List K
@@ -70,11 +78,7 @@ module _ {K : Type 0} (same less : K → K → Bool) (laws : IsEquivalence same)
   outer = flat_map of_key keys
 
   often : (a b : Option ℕ) → how_often (pair a b) outer ≡ sum_by (λ key. row_often a (lefts key) * row_often b (rights key)) keys
-  often a b = often_parts _ of_key keys ∙ sums _ _ (λ key. often_product a b _ _) keys
-    where
-      sums : (f g : K → ℕ) → ((key : K) → f key ≡ g key) → (ks : List K) → sum_by f ks ≡ sum_by g ks
-      sums f g e [] = refl
-      sums f g e (k ∷ ks) = grind (arith, sum_by-cons, sums f g e ks)
+  often a b = often_parts _ of_key keys ∙ sum_by_same _ _ keys (λ key. often_product a b _ _)
 
   abbrev IsThere : K → Type 0
   IsThere key = list_any (same key) (left ++ right) ≡ true
@@ -88,74 +92,41 @@ module _ {K : Type 0} (same less : K → K → Bool) (laws : IsEquivalence same)
   at_one key f g e (k ∷ ks) = grind (arith, sum_by-cons, at_one key f g e ks)
 
   at_key : (key : K) (f g : K → ℕ) → IsThere key → ((k : K) → f k ≡ cond (same key k) (g k) 0) → sum_by f keys ≡ g key
-  at_key key f g there e = let one : sum_by g (key ∷ []) ≡ g key = sum_by-cons g key [] ∙ omega arith in cc (at_one key f g e keys, stands_once key there)
-
-  turned : (a b : K) → same a b ≡ same b a
-  turned a b = laws.symm a b
+  at_key key f g there e = grind (arith, at_one key f g e keys, stands_once key there, sum_by-cons g key [])
 
   module _ (i : ℕ) (d : K) (lt : i < length left) where
     abbrev left_key : K
     left_key = slice_index_or left i d
 
     left_there : IsThere left_key
-    left_there = any_front _ left _ (any_at _ _ i d lt (laws.refl left_key))
-      where
-        any_front : (p : K → Bool) (xs ys : List K) → list_any p xs ≡ true → list_any p (xs ++ ys) ≡ true
-        any_front p [] _ e = absurd (false≢true e)
-        any_front p (x ∷ xs) ys e = elim (p x) as (λ b. (b || list_any p xs) ≡ true → (b || list_any p (xs ++ ys)) ≡ true) [ true ↦ λ h. refl | false ↦ λ h. any_front p xs ys h ] e
+    left_there = grind (arith, list_any-append, any_at, laws.refl)
 
     left_only : (b : Option ℕ) → how_often (pair (Some i) b) outer ≡ row_often b (rights left_key)
-    left_only b =
-        often (Some i) b
-        ∙ at_key _ _ (λ key. row_often b (rights key)) left_there
-        (λ k. ap (λ n. n * row_often b (rights k)) (or_gap_there _ i d _ lt ∙ ap once_if (turned k _))
-        ∙ (grind (arith, row_often)))
+    left_only b = often (Some i) b ∙ at_key _ _ (λ key. row_often b (rights key)) left_there (λ k. grind (arith, or_gap_there (same k) i d left lt, laws.symm k left_key))
 
   module _ (j : ℕ) (d : K) (lt : j < length right) where
     abbrev right_key : K
     right_key = slice_index_or right j d
 
     right_there : IsThere right_key
-    right_there = any_back _ left _ (any_at _ _ j d lt (laws.refl _))
-      where
-        any_back : (p : K → Bool) (xs ys : List K) → list_any p ys ≡ true → list_any p (xs ++ ys) ≡ true
-        any_back p [] _ e = e
-        any_back p (x ∷ xs) ys e = grind (arith, any_back p xs ys e)
+    right_there = grind (arith, list_any-append, any_at, laws.refl)
 
     right_only : how_often (pair None (Some j)) outer ≡ row_often None (lefts right_key)
-    right_only =
-        often None (Some j)
-        ∙ at_key _ _ (λ key. row_often None (lefts key)) right_there
-        (λ k. ap (λ n. row_often None (lefts k) * n) (or_gap_there _ j d _ lt ∙ ap once_if (turned k _))
-        ∙ (grind (arith, row_often)))
+    right_only = often None (Some j) ∙ at_key _ _ (λ key. row_often None (lefts key)) right_there (λ k. grind (arith, or_gap_there (same k) j d right lt, laws.symm k right_key))
 
   keys_there : All IsThere keys
-  keys_there =
-      all_in_order IsThere _ (distinct same (left ++ right))
-      (All-distinct IsThere same _ (λ k d lt. any_at _ _ k d lt (laws.refl (slice_index_or (left ++ right) k d))))
+  keys_there = all_in_order IsThere _ (distinct same (left ++ right)) (All-distinct IsThere same _ (λ k d lt. any_at _ _ k d lt (laws.refl (slice_index_or (left ++ right) k d))))
 
   -- a key of either side has a row
   no_gaps_at : (key : K) → IsThere key → row_often None (lefts key) * row_often None (rights key) ≡ 0
-  no_gaps_at key there =
-      (λ i. gap_there (same key) 0 left i * gap_there (same key) 0 right i) ∙ either _ _ (sym (any_both _ left _) ∙ there)
-    where
-      any_both : (p : K → Bool) (xs ys : List K) → list_any p (xs ++ ys) ≡ (list_any p xs || list_any p ys)
-      any_both p [] _ = refl
-      any_both p (x ∷ xs) ys = grind (arith, any_both p xs ys)
-
-      either : (a b : Bool) → (a || b) ≡ true → once_if (not a) * once_if (not b) ≡ 0
-      either true b e = omega arith
-      either false true e = omega arith
-      either false false e = absurd (false≢true e)
+  no_gaps_at key there = grind (arith, gap_there, list_any-append)
 
   no_gaps : how_often (pair None None) outer ≡ 0
   no_gaps = often None None ∙ none _ keys_there
     where
       none : (ks : List K) → All IsThere ks → sum_by (λ key. row_often None (lefts key) * row_often None (rights key)) ks ≡ 0
       none [] _ = refl
-      none (k ∷ ks) all =
-          sum_by-cons _ k ks
-          ∙ (λ i. no_gaps_at k (All-head IsThere k ks all) i + none ks (All-tail IsThere k ks all) i)
+      none (k ∷ ks) all = grind (arith, sum_by-cons, no_gaps_at k (All-head IsThere k ks all), none ks (All-tail IsThere k ks all))
 
   outer_inside : All (AreInside (length left) (length right)) outer
   outer_inside =
@@ -175,48 +146,16 @@ module _ {K : Type 0} (same less : K → K → Bool) (laws : IsEquivalence same)
     right_rows = λ k d lt. (outer_inside k d lt).1;
   }
 
-  pub inner_is : IsJoin same Inner left right (pairs_from same false 0 left right)
-  inner_is = record {
-    together = together _ false _ _;
-    left_alone = alone _ false _ _;
-    right_alone = search nothing;
-    no_gaps = search nothing;
-    left_rows = grind (arith, inside);
-    right_rows = λ k d lt. (inside same false right left k d lt).1;
-  }
-
-  pub left_is : IsJoin same Left left right (pairs_from same true 0 left right)
-  left_is = record {
-    together = together _ true _ _;
-    left_alone = alone _ true _ _;
-    right_alone = search nothing;
-    no_gaps = search nothing;
-    left_rows = grind (arith, inside);
-    right_rows = λ k d lt. (inside same true right left k d lt).1;
-  }
-
-  turned_inside : All (λ p. AreInside (length left) (length right) p) (map exchanged (pairs_from same true 0 right left))
-  turned_inside =
-      All-map (AreInside (length left) (length right)) exchanged (pairs_from same true 0 right left)
-      (λ k d lt. ((inside same true left right k d lt).1, grind (arith, inside)))
-
-  pub right_is : IsJoin same Right left right (map exchanged (pairs_from same true 0 right left))
-  right_is = record {
-    together = grind (arith, often_exchanged, together, turned);
-    left_alone = search (often_exchanged, nothing);
-    right_alone = λ j d lt. often_exchanged (pair None (Some j)) (pairs_from same true 0 right left) ∙ alone _ true _ _ j d lt;
-    no_gaps = search (often_exchanged, nothing);
-    left_rows = λ k d lt. (turned_inside k d lt).0;
-    right_rows = λ k d lt. (turned_inside k d lt).1;
-  }
-
   seen : (ks : List K) → map pair_of_entry (flat_map (λ key. entries_of key (rows_where (same key) 0 left) (rows_where (same key) 0 right)) ks) ≡ flat_map of_key ks
   seen [] = refl
   seen (k ∷ ks) = search (map-append, with_seen, seen ks)
 
   -- whichever rows stay
   pub pairs_are_join : (how : How) → IsJoin same how left right (key_pairs same less how left right)
-  pairs_are_join = grind (arith, inner_is, left_is, right_is, seen, outer_is)
+  pairs_are_join Inner = kept_is same false right left Inner refl refl
+  pairs_are_join Left = kept_is same true right left Left refl refl
+  pairs_are_join Right = sides_exchange same laws.symm Left right left _ (kept_is same true left right Left refl refl)
+  pairs_are_join Outer = rw seen outer_is
 
   -- what a join answers is one
   module _ (how : How) (once : Validate) where

@@ -1,15 +1,14 @@
 -- The keys of both sides, each once: each row's key is among them, and no two of them are the same.
 use Rattle.{
-  std.{proofs.{Common.{arith, ◌≡◌, ◌∙◌, ◌<◌, ◌++◌, ap, refl, sym, subst, ℕ, Bool, true, false, cond, List, [], ◌∷◌, map, filter, length, take, drop, All, slice_index_or, None}, Math.Seq.{take-append_seam, drop-append_seam}, lemmas.List.{length-map, map-append, Elements.{All-take, All-drop, All-map}}}, specs.List.{list_any}},
+  std.{proofs.{Common.{arith, ◌≡◌, ◌<◌, ◌++◌, ap, refl, subst, ℕ, Bool, true, false, cond, List, [], ◌∷◌, map, filter, length, take, drop, All, slice_index_or, None}, Math.Seq.{take-append_seam, drop-append_seam}, lemmas.List.{length-map, map-append, Elements.{All-take, All-drop, All-map}}}, specs.List.{list_any}},
   cell_core.specs.declared.cell.Label.{Label},
   meaning.specs.{Text.{Text}, Reduce.{distinct}},
-  sorting.specs.Sorting.{in_order},
-  align_meaning.{specs.Targets.{first_repeated}, proofs.OrderLaws.{all_in_order}},
+  align_meaning.specs.Targets.{first_repeated},
   join_meaning.specs.{declared.How.{How, TheVariants.{Inner, Left, Right, Outer}}, Pairs.{key_pairs}},
-  row_keys.{specs.Keys.{same_tuple, place_among}, proofs.{KeyLaws.{any_at, position_in}, RecodeLaws.{All-distinct}, PartnerLaws.{tuple_laws}}},
+  row_keys.{specs.Keys.{same_tuple, place_among}, proofs.{KeyLaws.{position_in}, PartnerLaws.{tuple_laws}}},
   label_align.{specs.Tuples.{tuple_less}, proofs.{SameLaws.{tuple_decides}, LawOfJoins.{tuple_weak}, OuterJoinLaws.{in_order_keeps, once}}},
-  group_meaning.specs.Keys.{ordered_if},
   merge_concat.{specs.Codes.{keys_of, is_outer, code_pairs, repeated_in}, proofs.CodeLaws.{only_place}},
+  factorize.{specs.Keys.{seen_rules}, proofs.LawOfGroups.{keys_there}},
 }
 use Rattle.factorize.proofs.KeyNumberLaws as numbers
 use Rattle.merge_concat.proofs.CodeLaws as law
@@ -33,30 +32,8 @@ module _ (texts : List Text) (sorted : Bool) (left right : List (List Label)) wh
   abbrev pub IsKnown : List Label → Type 0
   IsKnown key = list_any (same_tuple key) keys ≡ true
 
-  keys_are : keys ≡ ordered_if sorted (tuple_less texts) (distinct same_tuple rows)
-  keys_are = numbers.keys_are _ _ rows
-
   stands_once : (key : List Label) → list_any (same_tuple key) rows ≡ true → filter (same_tuple key) keys ≡ key ∷ []
-  stands_once key stands =
-      ap (filter (same_tuple key)) keys_are
-      ∙ (elim sorted as (λ b. filter (same_tuple key) (cond b (in_order (tuple_less texts) (distinct same_tuple rows)) (distinct same_tuple rows)) ≡ key ∷ []) [
-        | true ↦ in_order_keeps _ _ tuple_decides (tuple_weak _) _ (distinct same_tuple rows) ∙ once _ _ tuple_decides (tuple_weak texts) key rows stands
-        | false ↦ once _ _ tuple_decides (tuple_weak texts) key rows stands
-      ])
-
-  abbrev IsThere : List Label → Type 0
-  IsThere key = list_any (same_tuple key) rows ≡ true
-
-  rows_there : All IsThere rows
-  rows_there = grind (arith, any_at, tuple_laws.refl)
-
-  keys_there : All IsThere keys
-  keys_there =
-      subst (All IsThere) (sym keys_are)
-      (elim sorted as (λ b. All IsThere (cond b (in_order (tuple_less texts) (distinct same_tuple rows)) (distinct same_tuple rows))) [
-        | true ↦ all_in_order IsThere _ (distinct same_tuple rows) (All-distinct IsThere same_tuple _ rows_there)
-        | false ↦ All-distinct IsThere same_tuple _ rows_there
-      ])
+  stands_once key stands = grind (arith, numbers.keys_are texts sorted rows, in_order_keeps same_tuple (tuple_less texts) tuple_decides (tuple_weak texts) key (distinct same_tuple rows), once same_tuple (tuple_less texts) tuple_decides (tuple_weak texts) key rows stands)
 
   rows_known : All IsKnown rows
   rows_known = numbers.rows_known texts sorted _
@@ -68,21 +45,15 @@ module _ (texts : List Text) (sorted : Bool) (left right : List (List Label)) wh
   right_known = all_right IsKnown _ _ rows_known
 
   apart : (g : ℕ) → g < length keys → rank (slice_index_or keys g []) ≡ g
-  apart g lt = let key = slice_index_or keys g [] in only_place _ keys key g [] (stands_once key (keys_there g [] lt)) lt (tuple_laws.refl key)
+  apart g lt = let key = slice_index_or keys g [] in only_place _ keys key g [] (stands_once key (keys_there (seen_rules texts) tuple_laws sorted false rows g [] lt)) lt (tuple_laws.refl key)
 
   -- the numbers of either side
   module _ (codes part : List ℕ) (n : ℕ) (coded : codes ≡ map rank rows) (size : n ≡ length left) where
-    parted : codes ≡ map rank left ++ map rank right
-    parted = coded ∙ map-append rank left right
-
-    long : n ≡ length (map rank left)
-    long = search length-map
-
     pub left_is : part ≡ take n codes → part ≡ map rank left
-    left_is = grind (arith, long, parted, take-append_seam)
+    left_is = grind (arith, length-map, map-append rank left right, take-append_seam (map rank left) (map rank right))
 
     pub right_is : part ≡ drop n codes → part ≡ map rank right
-    right_is = grind (arith, long, parted, drop-append_seam)
+    right_is = grind (arith, length-map, map-append rank left right, drop-append_seam (map rank left) (map rank right))
 
   pub below : (part : List ℕ) (m : ℕ) (side : List (List Label)) → All IsKnown side → part ≡ map rank side → m ≡ length keys → All (λ c. c < m) part
   below _ m side known are counted = grind (arith, All-map (λ c. c < length keys) rank side (λ k d lt. position_in (same_tuple (slice_index_or side k d)) keys (known k d lt)))
@@ -99,4 +70,4 @@ pub pairs_are : (texts : List Text) (how : How) (left right : List (List Label))
 pairs_are _ Inner _ _ = search (law.pairs_coded, tuple_laws, right_known)
 pairs_are _ Left _ _ = search (law.pairs_coded, tuple_laws, right_known)
 pairs_are _ Right _ _ = ap (map _) (search (law.pairs_coded, tuple_laws, left_known))
-pairs_are texts Outer left right = cc (keys_are texts true left right, law.outer_coded same_tuple tuple_laws (keys_of texts true left right) [] (apart texts true left right) left right (left_known texts true left right) (right_known texts true left right))
+pairs_are texts Outer left right = cc (numbers.keys_are texts true (left ++ right), law.outer_coded same_tuple tuple_laws (keys_of texts true left right) [] (apart texts true left right) left right (left_known texts true left right) (right_known texts true left right))

@@ -1,10 +1,10 @@
 -- How often a pair stands among pairs.
 use Rattle.{
-  std.{proofs.{Common.{rules, ◌≡◌, ◌∙◌, ◌<◌, ◌+◌, ◌*◌, ◌&&◌, ◌++◌, refl, arith, ℕ, zero, suc, Bool, true, false, not, cond, List, [], ◌∷◌, map, filter, length, length-append, slice_index_or, nat_eq, Option, Some, None}, lemmas.{Bool.{ne_eqb, eq-eqb}, List.{Elements.{filter-append}, Sums.{sum_by-cons}}}}, specs.List.{list_any, flat_map, sum_by}},
+  std.{proofs.{Common.{rules, ◌≡◌, ◌<◌, ◌+◌, ◌*◌, ◌&&◌, ◌++◌, refl, arith, ℕ, zero, suc, Bool, not, cond, List, [], ◌∷◌, map, filter, length, length-append, slice_index_or, nat_eq, Option, Some, None}, lemmas.{Bool.{ne_eqb, eq-eqb}, List.{Elements.{filter-append}, Sums.{sum_by-cons}}}}, specs.List.{list_any, flat_map, sum_by}},
   align_meaning.specs.Joins.{or_gap},
   pick_meaning.specs.Rows.{rows_where},
   join_meaning.specs.Pairs.{Pair, pair, exchanged, partners, pairs_from},
-  merge_concat.specs.Joining.{same_row, same_pair, how_often, once_if},
+  merge_concat.specs.Joining.{same_row, how_often, once_if},
 }
 
 module _ {X : Type 0} where
@@ -17,46 +17,27 @@ module _ {X : Type 0} where
   pub count_cons : (p : X → Bool) (x : X) (xs : List X) → count p (x ∷ xs) ≡ cond (p x) 1 0 + count p xs
   count_cons = grind arith
 
-  pub count_same : (p q : X → Bool) → ((x : X) → p x ≡ q x) → (xs : List X) → count p xs ≡ count q xs
-  count_same p q _ [] = refl
-  count_same p q same (x ∷ xs) = grind (arith, count_cons, count_same p q same xs)
-
-  pub count_none : (xs : List X) → count (λ x. false) xs ≡ 0
-  count_none [] = refl
-  count_none (x ∷ xs) = count_none xs
-
-  pub count_map : {Y : Type 0} (p : Y → Bool) (f : X → Y) (xs : List X) → length (filter p (map f xs)) ≡ count (λ x. p (f x)) xs
-  count_map p f [] = refl
-  count_map p f (x ∷ xs) = grind (arith, count_map p f xs)
-
 abbrev pub row_often : Option ℕ → List (Option ℕ) → ℕ
 row_often r rows = length (filter (same_row r) rows)
 
 -- a row with rows of the other side
 pub with_row : (a b l : Option ℕ) (rows : List (Option ℕ)) → how_often (pair a b) (map (pair l) rows) ≡ cond (same_row a l) (row_often b rows) 0
-with_row a b l rows =
-    count_map (same_pair (pair a b)) _ _
-    ∙ (elim (same_row a l) as (λ c. length (filter (λ r. c && same_row b r) rows) ≡ cond c (row_often b rows) 0) [ true ↦ refl | false ↦ count_none rows ])
+with_row a b l [] = grind arith
+with_row a b l (r ∷ rows) = grind (arith, with_row a b l rows)
 
 -- a row among the rows that pass
 module _ {X : Type 0} (p : X → Bool) where
   abbrev among : ℕ → ℕ → List X → ℕ
   among j at xs = row_often (Some j) (map Some (rows_where p at xs))
 
-  among_cons : (j at : ℕ) (x : X) (xs : List X) → among j at (x ∷ xs) ≡ cond (p x) (cond (nat_eq j at) 1 0) 0 + among j (at + 1) xs
-  among_cons = grind (arith, nat_eq, count_cons)
-
-  not_here : (j at : ℕ) (b : Bool) → nat_eq j at ≡ false → ◌≡◌ {A = ℕ} (cond b (cond (nat_eq j at) 1 0) 0) 0
-  not_here = grind arith
-
   before : (j at : ℕ) (xs : List X) → j < at → among j at xs ≡ 0
   before j _ [] _ = refl
-  before j at (x ∷ xs) lt = grind (arith, nat_eq, ne_eqb, among_cons, not_here, before j (at + 1) xs (omega (arith, lt)))
+  before j at (x ∷ xs) lt = grind (arith, nat_eq, ne_eqb, before j (at + 1) xs (omega (arith, lt)))
 
   pub row_there : (at k : ℕ) (d : X) (xs : List X) → k < length xs → among (at + k) at xs ≡ once_if (p (slice_index_or xs k d))
   row_there _ k d [] lt = grind arith
-  row_there _ zero d (x ∷ xs) lt = grind (arith, nat_eq, eq-eqb, among_cons, before)
-  row_there at (suc k) d (x ∷ xs) lt = grind (arith, nat_eq, ne_eqb, among_cons, not_here, row_there (at + 1) k d xs (omega (arith, lt)))
+  row_there _ zero d (x ∷ xs) lt = grind (arith, nat_eq, eq-eqb, before)
+  row_there at (suc k) d (x ∷ xs) lt = grind (arith, nat_eq, ne_eqb, row_there (at + 1) k d xs (omega (arith, lt)))
 
   no_gap : (rows : List ℕ) → row_often None (map Some rows) ≡ 0
   no_gap [] = refl
@@ -89,28 +70,23 @@ module _ {K : Type 0} (same : K → K → Bool) (stays : Bool) (right : List K) 
   abbrev often : Option ℕ → ℕ → List K → ℕ
   often a at left = how_often (pair a b) (pairs_from same stays at left right)
 
-  often_cons : (a : Option ℕ) (at : ℕ) (key : K) (keys : List K) → often a at (key ∷ keys) ≡ cond (same_row a (Some at)) (row_often b (met key)) 0 + often a (at + 1) keys
-  often_cons = search (count_append, with_row)
-
   pub never : (at : ℕ) (keys : List K) → often None at keys ≡ 0
   never _ [] = refl
-  never at (key ∷ keys) = omega (arith, often_cons None at key keys, never (at + 1) keys)
+  never at (key ∷ keys) = grind (arith, count_append, with_row, never (at + 1) keys)
 
   earlier : (i at : ℕ) (keys : List K) → i < at → often (Some i) at keys ≡ 0
   earlier i _ [] _ = refl
-  earlier i at (key ∷ keys) lt = grind (arith, nat_eq, ne_eqb, often_cons, earlier i (at + 1) keys (omega (arith, lt)))
+  earlier i at (key ∷ keys) lt = grind (arith, nat_eq, ne_eqb, count_append, with_row, earlier i (at + 1) keys (omega (arith, lt)))
 
   pub met_there : (at k : ℕ) (d : K) (keys : List K) → k < length keys → often (Some (at + k)) at keys ≡ row_often b (met (slice_index_or keys k d))
   met_there _ k d [] lt = grind arith
-  met_there _ zero d (key ∷ keys) lt = grind (arith, nat_eq, eq-eqb, often_cons, earlier)
-  met_there at (suc k) d (key ∷ keys) lt = grind (arith, nat_eq, ne_eqb, often_cons, met_there (at + 1) k d keys (omega (arith, lt)))
+  met_there _ zero d (key ∷ keys) lt = grind (arith, nat_eq, eq-eqb, count_append, with_row, earlier)
+  met_there at (suc k) d (key ∷ keys) lt = grind (arith, nat_eq, ne_eqb, count_append, with_row, met_there (at + 1) k d keys (omega (arith, lt)))
 
 -- the sides exchanged
-both : (a b : Bool) → (a && b) ≡ (b && a)
-both = grind arith
-
 pub often_exchanged : (p : Pair) (ps : List Pair) → how_often p (map exchanged ps) ≡ how_often (exchanged p) ps
-often_exchanged = search (count_map, count_same, both)
+often_exchanged p [] = refl
+often_exchanged p (q ∷ ps) = grind (arith, often_exchanged p ps)
 
 -- each of some left rows with each of some right rows
 pub often_product : (a b : Option ℕ) (lefts rights : List (Option ℕ)) → how_often (pair a b) (flat_map (λ l. map (pair l) rights) lefts) ≡ row_often a lefts * row_often b rights

@@ -9,21 +9,11 @@ use Rattle.{
 step : {X Y : Type 0} (f : X → Y) (a b c : List Y) (es fs : List X) → b ≡ a ++ map f es → c ≡ b ++ map f fs → c ≡ a ++ map f (es ++ fs)
 step = grind (arith, append_assoc, map-append)
 
-pub more_more : (a b c : PairLists) (es fs : List Pair) → HasMore a b es → HasMore b c fs → HasMore a c (es ++ fs)
-more_more a b c _ _ p q = search step
-
-pub more_none : (a : PairLists) → HasMore a a []
-more_none = search append-nil
-
 pub pairs_more : (a b : PairLists) (es fs : List Pair) → AreListed a es → HasMore a b fs → AreListed b (es ++ fs)
 pairs_more a b es fs p q = record {
   left = step _ [] _ _ es fs p.left q.left;
   right = step _ [] _ _ es fs p.right q.right;
 }
-
--- one row more of a side
-pub flat_more : {X C : Type 0} (f : X → List C) (xs : List X) (i : ℕ) (d : X) → i < length xs → flat_map f (take (i + 1) xs) ≡ flat_map f (take i xs) ++ f (slice_index_or xs i d)
-flat_more f xs i d lt = cc (take_more xs i d lt, flat_map-append f (take i xs) (slice_index_or xs i d ∷ []), append-nil (f (slice_index_or xs i d)))
 
 pub of_some : (ls rs : List ℕ) → 0 < length ls → flat_map (λ l. pairs_with rs (Some l)) ls ≡ pairs_of ls rs
 of_some = grind (arith, flat_map-map)

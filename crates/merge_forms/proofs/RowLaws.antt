@@ -4,8 +4,7 @@ use Rattle.{
   meaning.specs.{Reduce.{distinct}, Fault.{Side as MeantSide}, Text.{Text}, FaultOf.{side_of}},
   sorting.specs.Sorting.{in_order},
   pick_meaning.{specs.Rows.{rows_where}, proofs.RowLaws.{rows_where-map}},
-  align_meaning.{specs.{Joins.{Entry as KeyEntry, entries_of, keys_in_order}, Targets.{first_where, first_repeated}}, proofs.OrderLaws.{all_append, all_distinct, all_in_order, in_order_map}},
-  group_meaning.proofs.ListLaws.{filter_seen},
+  align_meaning.{specs.{Joins.{Entry as KeyEntry, entries_of, keys_in_order}, Targets.{first_where, first_repeated}}, proofs.{OrderLaws.{all_append, all_distinct, all_in_order, in_order_map}, SeenLaws.{first_map, distinct_map}}},
   merge_concat.{proofs.CodeLaws.{with_seen}, specs.{declared.{fault.MergeFault.{MergeFault}, pairs.Pairs.{Pairs}}, Pairs.{JoinsBy}, Joining.{IsJoinOf}}},
   join_meaning.specs.{declared.{How.{How, TheVariants.{Outer}}, Validate.{Validate}}, Pairs.{pair, partners, pairs_from, pair_of_entry, key_pairs, RepeatedKey, repeated_on, repeated_key, Pair, JoinRefusal, not_one_to_one, within_limit, joined}},
   cell_core.specs.{declared.{cell.{Side.{Side}, Label.{Label}}, code.Code.TheVariants.{BadMerge}}, Texts.{AreDistinct}},
@@ -41,20 +40,9 @@ module _ {X Y : Type 0} (f : X → Y) (P : X → Type 0) (same : X → X → Boo
   from_seen stays row (key ∷ keys) _ lefts rights = λ i.
       map (pair (Some row)) (partners stays (rows_seen _ _ (All-head P _ _ lefts) rights i)) ++ from_seen stays (row + 1) keys _ (All-tail P _ _ lefts) rights i
 
-  distinct_seen : (xs : List X) → All P xs → distinct same' (map f xs) ≡ map f (distinct same xs)
-  distinct_seen [] _ = refl
-  distinct_seen (x ∷ xs) all =
-      cc (distinct_seen xs (All-tail P x _ all), filter_seen P f (λ q. not (same' q (f x))) (λ q. not (same q x)) (λ q h. ap not (equal q x h (All-head P x _ all))) (distinct same xs) (all_distinct P same xs (All-tail P x _ all)))
-
   -- a key that stands twice
-  first_seen : (p : X → Bool) (p' : Y → Bool) → ((x : X) → P x → p' (f x) ≡ p x) → (xs : List X) → All P xs → first_where p' (map f xs) ≡ option_map f (first_where p xs)
-  first_seen p _ _ [] _ = refl
-  first_seen p p' agree (x ∷ xs) all =
-      (λ i. cond (agree x (All-head P x _ all) i) (Some (f x)) (first_seen p p' agree xs (All-tail P x _ all) i))
-      ∙ (grind arith)
-
   twice_seen : (keys : List X) → All P keys → first_repeated same' (map f keys) ≡ option_map f (first_repeated same keys)
-  twice_seen = search (first_seen, rows_seen)
+  twice_seen = search (first_map, rows_seen)
 
   on_seen : (s : MeantSide) (b : Bool) (keys : List X) → All P keys → repeated_on s same' b (map f keys) ≡ option_map (repeated_seen f) (repeated_on s same b keys)
   on_seen = grind (arith, twice_seen)
@@ -85,7 +73,7 @@ module _ {X Y : Type 0} (f : X → Y) (P : X → Type 0) (same : X → X → Boo
         let both : All P (left ++ right) = search all_append in
         let once = all_distinct P _ _ both in
         let keys =
-        ap (keys_in_order same' less') (sym (map-append f left right)) ∙ ap (in_order less') (distinct_seen _ both) ∙ in_order_map P f _ _ below _ once in
+        ap (keys_in_order same' less') (sym (map-append f left right)) ∙ ap (in_order less') (distinct_map f P same same' equal _ both) ∙ in_order_map P f _ _ below _ once in
         cc (keys_seen _ (all_in_order P _ _ once))
 
     pairs_seen : (how : How) → key_pairs same' less' how (map f left) (map f right) ≡ key_pairs same less how left right

@@ -1,6 +1,6 @@
 -- One more level, first or last.
 use Rattle.{
-  std.proofs.{Common.{◌≡◌, ap, refl, arith, ℕ, zero, suc, ◌+◌, ◌-◌, ◌<◌, ◌≤◌, Bool, true, false, List, [], ◌∷◌, ◌++◌, length, take, set, replicate, slice_index_or}, lemmas.List.{take_more, length-take-le, Elements.{All-cons, All-head, All-tail}}},
+  std.proofs.{Common.{◌≡◌, ap, refl, arith, ℕ, zero, suc, ◌+◌, ◌-◌, ◌<◌, ◌≤◌, Bool, true, false, List, [], ◌∷◌, ◌++◌, length, take, set, replicate, slice_index_or}, Math.Seq.{set-append_seam, take-append_seam, take-append-add}, lemmas.List.{append_assoc, length_push, take_more, length-take-le, Elements.{All-cons, All-head, All-tail}}},
   cell_core.specs.declared.cell.Label.{Label},
   multi_index.specs.Axes.{HaveLevels, with_one, first_of, tuples_with},
 }
@@ -11,41 +11,23 @@ four_with true x xs = x ∷ (xs ++ replicate (3 - length xs) x)
 four_with false x xs = xs ++ replicate (4 - length xs) x
 
 module _ {X : Type 0} (x : X) where
-  -- the next of the others is written
-  put_next : (old : List X) (m : ℕ) (y : X) → set (old ++ replicate (suc m) x) (length old) y ≡ (old ++ y ∷ []) ++ replicate m x
-  put_next [] m y = refl
-  put_next (a ∷ old) m y = cc (put_next old m y)
-
-  -- the first of the others is read
-  read_next : (old : List X) (m : ℕ) → take (suc (length old)) (old ++ replicate (suc m) x) ≡ old ++ x ∷ []
-  read_next [] m = refl
-  read_next (a ∷ old) m = cc (read_next old m)
-
-  read_only : (old others : List X) → take (length old) (old ++ others) ≡ old
-  read_only [] _ = refl
-  read_only (a ∷ old) others = cc (read_only old others)
-
-  counted : (old : List X) (y : X) → length (old ++ y ∷ []) ≡ suc (length old)
-  counted [] y = refl
-  counted (a ∷ old) y = ap suc (counted old y)
-
   pub written : (outer : Bool) (old : List X) (y : X) (place : ℕ) → length old ≤ 2 → place ≡ first_of outer + length old → set (four_with outer x old) place y ≡ four_with outer x (old ++ y ∷ [])
   written true old y place few at =
       let left : 3 - length old ≡ suc (2 - length old) = omega arith in
-      let next : 2 - length old ≡ 3 - length (old ++ y ∷ []) = omega (arith, counted old y) in
+      let next : 2 - length old ≡ 3 - length (old ++ y ∷ []) = omega (arith, length_push old y) in
       let here : place ≡ suc (length old) = omega (arith, at) in
-      grind (arith, put_next)
+      grind (arith, set-append_seam, append_assoc)
   written false old y place few at =
       let left : 4 - length old ≡ suc (3 - length old) = omega arith in
-      let next : 3 - length old ≡ 4 - length (old ++ y ∷ []) = omega (arith, counted old y) in
+      let next : 3 - length old ≡ 4 - length (old ++ y ∷ []) = omega (arith, length_push old y) in
       let here : place ≡ length old = omega (arith, at) in
-      grind (arith, put_next)
+      grind (arith, set-append_seam, append_assoc)
 
   pub all_written : (outer : Bool) (old : List X) (n : ℕ) → length old ≤ 3 → n ≡ length old → take (n + 1) (four_with outer x old) ≡ with_one outer x old
-  all_written true _ n few long = grind (arith, read_only)
+  all_written true _ n few long = grind (arith, take-append_seam)
   all_written false old n few long =
       let left : 4 - length old ≡ suc (3 - length old) = omega arith in
-      grind (arith, read_next)
+      grind (arith, take-append-add)
 
 -- tuples with one label more have one level more
 pub levels_with : (outer : Bool) (levels : ℕ) (labels : List Label) (tuples : List (List Label)) → HaveLevels levels tuples → HaveLevels (levels + 1) (tuples_with outer labels tuples)
@@ -56,7 +38,7 @@ levels_with outer levels (l ∷ labels) (t ∷ tuples) alike =
   where
     longer : (b : Bool) → length (with_one b l t) ≡ levels + 1
     longer true = let size = All-head (λ t. length t ≡ levels) t tuples alike in omega arith
-    longer false = let size = All-head (λ t. length t ≡ levels) t tuples alike in omega (arith, counted l t l)
+    longer false = let size = All-head (λ t. length t ≡ levels) t tuples alike in omega (arith, length_push t l)
 
 -- one more tuple
 pub added_more : (outer : Bool) (k : ℕ) (labels : List Label) (tuples : List (List Label)) (d : Label) → k < length labels → k < length tuples

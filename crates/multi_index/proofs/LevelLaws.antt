@@ -1,6 +1,6 @@
 -- Some levels of an axis, by their places.
 use Rattle.{
-  std.{proofs.{Common.{◌≡◌, ◌∙◌, ap, sym, refl, arith, ℕ, ◌+◌, ◌<◌, List, [], ◌∷◌, ◌++◌, length, map, take, drop, set, remove, swap, slice_index_or, Option, None, All}, lemmas.List.{take_more, take_more_set, map-append, map-id, map-set, take-map, drop-map, get_or-map, length-map, Elements.{All-head, All-tail, All-map}, FromFn.{fill_by_all, length-range_with_len, get_or-range_with_len, map-range_with_len_more}}}, specs.List.{range_with_len}},
+  std.{proofs.{Common.{◌≡◌, ◌∙◌, ap, sym, refl, arith, ℕ, ◌+◌, ◌<◌, List, [], ◌∷◌, ◌++◌, length, map, take, drop, set, remove, swap, slice_index_or, Option, None, All}, lemmas.List.{take_more, take_more_set, map_more, map-append, map-id, map-set, take-map, drop-map, get_or-map, length-map, Elements.{All-head, All-tail, All-map}, FromFn.{fill_by_all, length-range_with_len, get_or-range_with_len, map-range_with_len_more}}}, specs.List.{range_with_len}},
   cell_core.specs.declared.cell.Label.{Label, TheVariants.{Na}},
   index_core.specs.Labels.{labels_at},
   multi_index.specs.Axes.{AxisValue, HaveLevels, at_levels, without_level, without_leading, with_swapped},
@@ -16,10 +16,7 @@ one_level_more _ _ level before pushed = cc (map-id (range_with_len 0 level), ma
 -- one more of what is read at places
 pub one_read_more : {X : Type 0} (f : ℕ → X) (room : List X) (order : List ℕ) (k : ℕ) (x : X) → k < length room → k < length order → x ≡ f (slice_index_or order k 0)
     → take k room ≡ map f (take k order) → take (k + 1) (set room k x) ≡ map f (take (k + 1) order)
-one_read_more f room order k x fits lt is before =
-    take_more_set room k x fits
-    ∙ (λ j. before j ++ is j ∷ [])
-    ∙ sym (ap (map f) (take_more order k 0 lt) ∙ map-append f (take k order) (slice_index_or order k 0 ∷ []))
+one_read_more = grind (arith, take_more_set, map_more)
 
 -- what is read at all places, at those but one, at the later ones, and with two exchanged
 swap-map : {X Y : Type 0} (f : X → Y) (xs : List X) (i j : ℕ) → i < length xs → j < length xs → map f (swap xs i j) ≡ swap (map f xs) i j

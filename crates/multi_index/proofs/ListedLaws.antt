@@ -1,6 +1,6 @@
 -- Leading labels in a list of tuples, and slices of tuples in order.
 use Rattle.{
-  std.{proofs.{Common.{◌≡◌, ◌∙◌, ap, sym, refl, arith, ℕ, zero, suc, ◌+◌, ◌<◌, ◌≤◌, Bool, true, false, not, ◌&&◌, List, [], ◌∷◌, length, drop, slice_index_or, Option, Some, Ok}, lemmas.{Bool.Decides.{nat_tests}, List.{drop_more, drop_all}}}, specs.{Ordering.{is_lt, is_gt, ordering_then}, declared.cmp.Ordering.{Ordering, TheVariants.{Less, Equal, Greater}}}},
+  std.{proofs.{Common.{◌≡◌, ◌∙◌, ap, sym, refl, arith, ℕ, zero, suc, ◌+◌, ◌<◌, ◌≤◌, Bool, true, false, not, ◌&&◌, List, [], ◌∷◌, length, drop, slice_index_or, Option, Some, Ok}, lemmas.{Bool.Decides.{nat_tests}, List.{drop_more, drop_all}, Option.{get_or_from_slice_get}}}, specs.{Prelude.{slice_get}, Ordering.{is_lt, is_gt, ordering_then}, declared.cmp.Ordering.{Ordering, TheVariants.{Less, Equal, Greater}}}},
   cell_core.specs.declared.{cell.Label.{Label}, grid.Rows.{Rows}},
   meaning.specs.Text.{Text},
   pick_meaning.{specs.{Leading.{leads, leading_cmp}, Rows.{rows_of, rows_between}, Slices.{is_in_order, reaches, stays_within, label_slice, leading_slice, slice_on}}, proofs.{OrderLaws.{sorted_in_order}, LeadingLaws.{leading_below, leading_within}, RowLaws.{when_so}}},
@@ -9,17 +9,9 @@ use Rattle.{
 
 -- leading labels, one more at a time
 module _ {L : Type 0} (same : L → L → Bool) where
-  leads_both : (key tuple : List L) (level : ℕ) (d : L) → level < length key → level < length tuple
-      → leads same (drop level key) (drop level tuple) ≡ (same (slice_index_or key level d) (slice_index_or tuple level d) && leads same (drop (level + 1) key) (drop (level + 1) tuple))
-  leads_both = grind (arith, drop_more)
-
-  pub leads_more : (key tuple : List L) (level : ℕ) (d : L) (whole : Bool) → level < length key → level < length tuple → same (slice_index_or key level d) (slice_index_or tuple level d) ≡ true
-      → leads same (drop level key) (drop level tuple) ≡ whole → leads same (drop (level + 1) key) (drop (level + 1) tuple) ≡ whole
-  leads_more key tuple level d _ lt inside is before = cc (leads_both key tuple level d lt inside)
-
-  pub leads_not : (key tuple : List L) (level : ℕ) (d : L) (whole : Bool) → level < length key → level < length tuple → same (slice_index_or key level d) (slice_index_or tuple level d) ≡ false
-      → leads same (drop level key) (drop level tuple) ≡ whole → false ≡ whole
-  leads_not key tuple level d _ lt inside is before = cc (leads_both key tuple level d lt inside)
+  pub leads_step : (key tuple : List L) (level : ℕ) (k t : L) → level < length key → level < length tuple → slice_get key level ≡ Some k → slice_get tuple level ≡ Some t
+      → leads same (drop level key) (drop level tuple) ≡ (same k t && leads same (drop (level + 1) key) (drop (level + 1) tuple))
+  leads_step key tuple level k t lt inside at there = cc (drop_more key level k lt, drop_more tuple level t inside, get_or_from_slice_get key level k k at, get_or_from_slice_get tuple level t t there)
 
   pub leads_all : (key tuple : List L) (level : ℕ) (whole : Bool) → length key ≤ level → leads same (drop level key) (drop level tuple) ≡ whole → true ≡ whole
   leads_all = grind (arith, drop_all)
@@ -29,40 +21,18 @@ module _ {L : Type 0} (same : L → L → Bool) where
   leads_short (k ∷ key) [] _ = refl
   leads_short (k ∷ key) (l ∷ tuple) lt = grind (arith, leads_short key tuple (omega arith))
 
+-- what decides is the first that differs
+pub stays : (o rest : Ordering) → (o ≡ Equal → ⊥) → ordering_then o rest ≡ o
+stays = grind arith
+
 -- a bound, one label more at a time
 module _ {L : Type 0} (cmp : L → L → Ordering) where
-  stands_both : (tuple bound : List L) (level : ℕ) (d : L) → level < length tuple → level < length bound
-      → leading_cmp cmp (drop level tuple) (drop level bound) ≡ ordering_then (cmp (slice_index_or tuple level d) (slice_index_or bound level d)) (leading_cmp cmp (drop (level + 1) tuple) (drop (level + 1) bound))
-  stands_both = grind (arith, drop_more)
+  pub stands_step : (tuple bound : List L) (level : ℕ) (t b : L) → level < length tuple → level < length bound → slice_get tuple level ≡ Some t → slice_get bound level ≡ Some b
+      → leading_cmp cmp (drop level tuple) (drop level bound) ≡ ordering_then (cmp t b) (leading_cmp cmp (drop (level + 1) tuple) (drop (level + 1) bound))
+  stands_step tuple bound level t b inside lt there at = cc (drop_more tuple level t inside, drop_more bound level b lt, get_or_from_slice_get tuple level t t there, get_or_from_slice_get bound level b b at)
 
-  pub stands_on : (tuple bound : List L) (level : ℕ) (d : L) (whole : Ordering) → level < length tuple → level < length bound → cmp (slice_index_or tuple level d) (slice_index_or bound level d) ≡ Equal
-      → leading_cmp cmp (drop level tuple) (drop level bound) ≡ whole → leading_cmp cmp (drop (level + 1) tuple) (drop (level + 1) bound) ≡ whole
-  stands_on tuple bound level d _ inside lt is before = cc (stands_both tuple bound level d inside lt)
-
-  pub stands_apart : (tuple bound : List L) (level : ℕ) (d : L) (order whole : Ordering) → level < length tuple → level < length bound → order ≡ cmp (slice_index_or tuple level d) (slice_index_or bound level d) → (order ≡ Equal → ⊥)
-      → leading_cmp cmp (drop level tuple) (drop level bound) ≡ whole → order ≡ whole
-  stands_apart tuple bound level d _ _ inside lt is apart before =
-      stays _ _ apart
-      ∙ ap (λ o. ordering_then o (leading_cmp cmp (drop (level + 1) tuple) (drop (level + 1) bound))) is
-      ∙ sym (stands_both _ _ _ d inside lt)
-      ∙ before
-    where
-      stays : (o rest : Ordering) → (o ≡ Equal → ⊥) → o ≡ ordering_then o rest
-      stays Less _ _ = refl
-      stays Equal _ apart = absurd (apart refl)
-      stays Greater _ _ = refl
-
-  pub stands_short : (tuple bound : List L) (level : ℕ) (whole : Ordering) → length tuple ≤ level → level < length bound → leading_cmp cmp (drop level tuple) (drop level bound) ≡ whole → Less ≡ whole
-  stands_short tuple bound level _ all lt before = sym (none_left _ (left _ _ lt)) ∙ ap (λ l. leading_cmp cmp l (drop level bound)) (sym (drop_all level tuple all)) ∙ before
-    where
-      none_left : (bs : List L) → 1 ≤ length bs → leading_cmp cmp [] bs ≡ Less
-      none_left [] some = absurd (omega arith)
-      none_left (b ∷ bs) _ = refl
-
-      left : (bs : List L) (k : ℕ) → k < length bs → 1 ≤ length (drop k bs)
-      left [] k lt = absurd (omega arith)
-      left (b ∷ bs) zero lt = omega arith
-      left (b ∷ bs) (suc k) lt = left bs k (omega arith)
+  pub stands_short : (d : L) (tuple bound : List L) (level : ℕ) (whole : Ordering) → length tuple ≤ level → level < length bound → leading_cmp cmp (drop level tuple) (drop level bound) ≡ whole → Less ≡ whole
+  stands_short d tuple bound level _ all lt before = cc (drop_all level tuple all, drop_more bound level d lt)
 
   pub stands_equal : (tuple bound : List L) (level : ℕ) (whole : Ordering) → length bound ≤ level → leading_cmp cmp (drop level tuple) (drop level bound) ≡ whole → Equal ≡ whole
   stands_equal = grind (arith, drop_all)
@@ -103,4 +73,4 @@ module _ (texts : List Text) (tuples : List (List Label)) (sorted : is_in_order 
 -- a slice on one level, and on several
 module _ {X : Type 0} (cmp : X → X → Ordering) (lower upper : Option X) (xs : List X) where
   pub on_one : (levels : ℕ) → levels ≡ 1 → slice_on levels cmp lower upper xs ≡ label_slice cmp lower upper xs
-  on_one _ one = search (when_so, nat_tests)
+  on_one _ one = search nat_tests

@@ -23,7 +23,7 @@ singles_same a b x y r e f is = (
 )
 
 -- a tuple of an axis
-tuple_there : (axis : AxisValue) (row : ℕ) → row < length axis.tuples → slice_get axis.tuples row ≡ Some (slice_index_or axis.tuples row [])
+pub tuple_there : (axis : AxisValue) (row : ℕ) → row < length axis.tuples → slice_get axis.tuples row ≡ Some (slice_index_or axis.tuples row [])
 tuple_there = search slice_get-get_or
 
 -- the same labels at each level are the same tuple

@@ -15,25 +15,10 @@ pub levels_of_taken : (tuples : List (List Label)) (places : List ℕ) (levels :
 levels_of_taken tuples places levels alike inside =
     All-map (λ t. length t ≡ levels) (λ place. slice_index_or tuples place []) places (λ k d h. alike (slice_index_or places k d) [] (inside k d h))
 
--- one more tuple is taken
-pub one_more_taken : (tuples : List (List Label)) (places : List ℕ) (k place : ℕ) (tuple : List Label) (taken taken' : List (List Label))
-    → taken ≡ tuples_at tuples (take k places) → k < length places → slice_get places k ≡ Some place → slice_get tuples place ≡ Some tuple → taken' ≡ taken ++ tuple ∷ []
-    → taken' ≡ tuples_at tuples (take (k + 1) places)
-one_more_taken tuples places k _ tuple _ _ before inside at is pushed =
-    let same : slice_index_or tuples (slice_index_or places k 0) [] ≡ tuple = grind (arith, get_or_from_slice_get)
-    in
-    cc (take_more places k 0 inside, map-append (λ p. slice_index_or tuples p []) (take k places) (slice_index_or places k 0 ∷ []))
-
--- one more tuple is copied
-pub one_more_copied : (tuples : List (List Label)) (k : ℕ) (tuple : List Label) (copied copied' : List (List Label))
-    → copied ≡ take k tuples → k < length tuples → slice_get tuples k ≡ Some tuple → copied' ≡ copied ++ tuple ∷ [] → copied' ≡ take (k + 1) tuples
-one_more_copied tuples k tuple _ _ before inside is pushed = cc (take_more tuples k [] inside, get_or_from_slice_get tuples k tuple [] is)
-
 -- a tuple of one label
 pub only_label_is : (t : List Label) (l : Label) → length t ≡ 1 → slice_get t 0 ≡ Some l → t ≡ l ∷ []
-only_label_is [] l one at = cc
 only_label_is (x ∷ []) l one at = search
-only_label_is (x ∷ (y ∷ ys)) l one at = search
+only_label_is t l one at = absurd (omega arith)
 
 -- one more label of tuples of one label
 pub one_more_single : (labels labels' : List Label) (tuples : List (List Label)) (row : ℕ) (t : List Label) (l : Label)

@@ -1,87 +1,105 @@
 -- What is gathered from rows is what is gathered from their cells.
 use Rattle.{
-  std.{proofs.{Common.{◌≡◌, ℕ, zero, suc, ◌+◌, ◌<◌, ◌≤◌, Bool, true, not, cond, List, [], ◌∷◌, map, refl, ap, arith, Option, Some, None, fold}, Math.Bool.{beq}}, specs.{List.{range_with_len}, declared.cmp.Ordering.{Ordering}, Ordering.{is_lt}}},
-  cell_core.specs.declared.cell.Cell.{Cell},
-  meaning.specs.{Cell.{CellValue, na_cell, datum}, Column.{tabulate}, Reduce.{is_present, present, lesser, greater}, Operator.{cell_cmp}},
-  nullable_array.specs.Folds.{step_row, folded, least_step, greatest_step},
-  column_core.proofs.CellRows.{map-map},
+  std.{proofs.{Common.{◌≡◌, ℕ, zero, suc, ◌+◌, ◌<◌, Bool, true, false, not, ◌||◌, ◌&&◌, List, [], ◌∷◌, length, map, refl, ap, arith, ℤ, pos, ◌+ℤ◌, Option, Some, None, Ok, fold}, Math.Bool.{beq}, lemmas.List.{Elements.{recursion_from_All}, Folds.{fold-map}, FromFn.{map-range_with_len_more}, Sums.{fold_push}}}, specs.{Int.{int_wrap, w64}, List.{AllByRecursion, range_with_len}, declared.cmp.Ordering.{Ordering}, Ordering.{int_cmp, bool_cmp, nat_cmp}, Cmp.Lexicographic.{slice_cmp}}},
+  cell_core.specs.declared.cell.{Cell.{Cell, TheVariants.{Int, Bool as truth}}, Kind.TheVariants.{Text as string}, TextId.{TextId}},
+  meaning.specs.{Cell.{CellValue, na_cell, int_cell, truth_cell as truth_value_cell, datum, text_of, IsGiven, AreGiven}, Column.{tabulate}, Reduce.{is_present, present, lesser, greater, number_in, is_true, reduction_cell, reduction_takes, reduce_column}, Operator.{cell_cmp}},
+  nullable_array.specs.{declared.ops.Reduction.{Reduction, TheVariants.{Sum, Min, Max, Any, All, Count}}, Distincts.{present_values}, Folds.{step_row, folded, sum_step, one_of_truth, is_not_zero, least_step, greatest_step, reduction_of}},
+  column_core.{specs.Columns.{column_value, column_with, number_cell, truth_cell, text_cell}, proofs.CellRows.{map-map}},
 }
-
-fold-range : {S : Type 0} (f : S → ℕ → S) (s : S) (a n : ℕ) → fold f s (range_with_len a (suc n)) ≡ f (fold f s (range_with_len a n)) (a + n)
-fold-range f s a zero = ap (f s) (omega arith)
-fold-range f s a (suc n) = grind (arith, fold-range f (f s a) (a + 1) n)
 
 -- one row more
 pub folded_more : {S T : Type 0} (step : S → T → S) (s : S) (n : ℕ) (row : ℕ → Option T) → folded step s (n + 1) row ≡ step_row step (folded step s n row) (row n)
-folded_more step s n row =
-    let one : n + 1 ≡ suc n = omega arith in
-    let here : 0 + n ≡ n = omega arith in
-    cc (fold-range (λ t k. step_row step t (row k)) s 0 n)
+folded_more step s n row = cc (fold-map (step_row step) row s (range_with_len 0 (n + 1)), fold-map (step_row step) row s (range_with_len 0 n), map-range_with_len_more row 0 n n (omega arith), fold_push (step_row step) s (map row (range_with_len 0 n)) (row n))
 
 -- what no value changes stays
-row_stays : {S T : Type 0} (step : S → T → S) (t : S) → ((x : T) → step t x ≡ t) → (o : Option T) → step_row step t o ≡ t
-row_stays = grind arith
-
 pub folded_stays : {S T : Type 0} (step : S → T → S) (s t : S) (row : ℕ → Option T) (m d : ℕ) → ((x : T) → step t x ≡ t) → folded step s m row ≡ t → folded step s (m + d) row ≡ t
 folded_stays _ s t _ m zero law e = grind arith
 folded_stays step s t row m (suc d) law e =
     let next : m + suc d ≡ m + d + 1 = omega arith in
-    grind (arith, folded_more, row_stays, folded_stays step s t row m d law e)
+    grind (arith, folded_more, folded_stays step s t row m d law e)
 
 -- what a test of two truth values says
 pub changed : (a b : Bool) → not (beq a b) ≡ true → a ≡ not b
 changed = grind arith
 
-module _ {S T R : Type 0} (texts : List (List ℕ)) (cell : Option T → Cell) (g : R → CellValue → R) (step : S → T → S) (view : S → R) (missing : datum texts (cell None) ≡ na_cell)
-    (there : (x : T) → is_present (datum texts (cell (Some x))) ≡ true) (law : (s : S) (x : T) → g (view s) (datum texts (cell (Some x))) ≡ view (step s x)) where
-  one_seen : (s : S) (o : Option T) (rest : List CellValue) → fold g (view s) (present (datum texts (cell o) ∷ rest)) ≡ fold g (view (step_row step s o)) (present rest)
-  one_seen = grind arith
+rows_folded : {S T : Type 0} (step : S → T → S) (s : S) (rows : List (Option T)) → fold (step_row step) s rows ≡ fold step s (present_values rows)
+rows_folded step s [] = refl
+rows_folded step s (None ∷ rows) = rows_folded step s rows
+rows_folded step s (Some x ∷ rows) = rows_folded step (step s x) rows
 
-  rows_seen : (s : S) (row : ℕ → Option T) (ks : List ℕ) → fold g (view s) (present (map (λ k. datum texts (cell (row k))) ks)) ≡ view (fold (λ t k. step_row step t (row k)) s ks)
-  rows_seen s _ [] = refl
-  rows_seen s row (k ∷ ks) = search (one_seen, rows_seen (step_row step s (row k)) row ks)
+-- a fold of rows is one of the values that are present
+pub values_folded : {S T : Type 0} (step : S → T → S) (s : S) (n : ℕ) (row : ℕ → Option T) → folded step s n row ≡ fold step s (present_values (tabulate n row))
+values_folded step s n row = cc (fold-map (step_row step) row s (range_with_len 0 n), rows_folded step s (tabulate n row))
 
-  -- a fold of the present cells
-  pub folded_seen : (s : S) (n : ℕ) (row : ℕ → Option T) → fold g (view s) (present (map (datum texts) (tabulate n (λ k. cell (row k))))) ≡ view (folded step s n row)
-  folded_seen s n row = cc (map-map (λ k. cell (row k)) (datum texts) (range_with_len 0 n), rows_seen s row (range_with_len 0 n))
+-- what reductions make of rows
+abbrev pub came : {T : Type 0} → (Option T → Cell) → (T → T → Ordering) → (T → ℤ) → (T → Bool) → Reduction → ℕ → (ℕ → Option T) → Cell
+came cell cmp number is Sum n row = Int (folded (λ s x. sum_step s (number x)) (pos 0) n row)
+came cell cmp number is Min n row = cell (folded (least_step cmp) None n row)
+came cell cmp number is Max n row = cell (folded (greatest_step cmp) None n row)
+came cell cmp number is Any n row = truth (folded (λ s x. s || is x) false n row)
+came cell cmp number is All n row = truth (folded (λ s x. s && is x) true n row)
+came cell cmp number is Count n row = Int (folded (λ s x. sum_step s (pos 1)) (pos 0) n row)
 
-choose : {T : Type 0} (texts : List (List ℕ)) (cell : Option T → Cell) (b : Bool) (x y : T) → cond b (datum texts (cell (Some x))) (datum texts (cell (Some y))) ≡ datum texts (cell (cond b (Some x) (Some y)))
-choose = grind arith
+module _ {T : Type 0} (texts : List (List ℕ)) (cell : Option T → Cell) (missing : datum texts (cell None) ≡ na_cell) (there : (x : T) → is_present (datum texts (cell (Some x))) ≡ true) where
+  rows_present : (rows : List (Option T)) → present (map (λ o. datum texts (cell o)) rows) ≡ map (λ x. datum texts (cell (Some x))) (present_values rows)
+  rows_present [] = refl
+  rows_present (None ∷ rows) = grind (arith, rows_present rows)
+  rows_present (Some x ∷ rows) = grind (arith, rows_present rows)
 
--- the least and the greatest of the cells of rows
-pub least_seen : {T : Type 0} (texts : List (List ℕ)) (cell : Option T → Cell) (cmp : T → T → Ordering) → datum texts (cell None) ≡ na_cell → ((x : T) → is_present (datum texts (cell (Some x))) ≡ true)
-    → ((b : T) (c : CellValue) → lesser (datum texts (cell (Some b))) c ≡ cond (is_lt (cell_cmp c (datum texts (cell (Some b))))) c (datum texts (cell (Some b))))
-    → ((x y : T) → cell_cmp (datum texts (cell (Some x))) (datum texts (cell (Some y))) ≡ cmp x y) → (n : ℕ) (row : ℕ → Option T)
-    → fold lesser na_cell (present (map (datum texts) (tabulate n (λ k. cell (row k))))) ≡ datum texts (cell (folded (least_step cmp) None n row))
-least_seen texts cell cmp missing present_there there same n row = cc (folded_seen texts cell lesser (least_step cmp) (λ o. datum texts (cell o)) missing present_there (grind (arith, choose)) None n row)
+  -- the present cells
+  pub cells_present : (n : ℕ) (row : ℕ → Option T) → present (map (datum texts) (tabulate n (λ k. cell (row k)))) ≡ map (λ x. datum texts (cell (Some x))) (present_values (tabulate n row))
+  cells_present n row = cc (rows_present (tabulate n row), map-map (λ k. cell (row k)) (datum texts) (range_with_len 0 n), map-map row (λ o. datum texts (cell o)) (range_with_len 0 n))
 
-pub greatest_seen : {T : Type 0} (texts : List (List ℕ)) (cell : Option T → Cell) (cmp : T → T → Ordering) → datum texts (cell None) ≡ na_cell → ((x : T) → is_present (datum texts (cell (Some x))) ≡ true)
-    → ((b : T) (c : CellValue) → greater (datum texts (cell (Some b))) c ≡ cond (is_lt (cell_cmp (datum texts (cell (Some b))) c)) c (datum texts (cell (Some b))))
-    → ((x y : T) → cell_cmp (datum texts (cell (Some x))) (datum texts (cell (Some y))) ≡ cmp x y) → (n : ℕ) (row : ℕ → Option T)
-    → fold greater na_cell (present (map (datum texts) (tabulate n (λ k. cell (row k))))) ≡ datum texts (cell (folded (greatest_step cmp) None n row))
-greatest_seen texts cell cmp missing present_there there same n row = cc (folded_seen texts cell greater (greatest_step cmp) (λ o. datum texts (cell o)) missing present_there (grind (arith, choose)) None n row)
+  module _ {S R : Type 0} (g : R → CellValue → R) (step : S → T → S) (view : S → R) (law : (s : S) (x : T) → g (view s) (datum texts (cell (Some x))) ≡ view (step s x)) where
+    values_seen : (s : S) (xs : List T) → fold g (view s) (map (λ x. datum texts (cell (Some x))) xs) ≡ view (fold step s xs)
+    values_seen s [] = refl
+    values_seen s (x ∷ xs) = cc (law s x, values_seen (step s x) xs)
 
--- what holds of each row holds of the least and the greatest
-module _ {T : Type 0} (P : Option T → Type 0) (none : P None) (cmp : T → T → Ordering) where
-  picks : (b : Bool) (x y : T) → P (Some x) → P (Some y) → P (cond b (Some x) (Some y))
-  picks = grind arith
+    -- a fold of the present cells
+    pub folded_seen : (s : S) (n : ℕ) (row : ℕ → Option T) → fold g (view s) (present (map (datum texts) (tabulate n (λ k. cell (row k))))) ≡ view (folded step s n row)
+    folded_seen s n row = cc (cells_present n row, values_seen s (present_values (tabulate n row)), values_folded step s n row)
 
-  least_keeps : (s : Option T) (x : T) → P s → P (Some x) → P (least_step cmp s x)
-  least_keeps = grind (arith, picks)
+  -- the reductions of the cells
+  module _ (cmp : T → T → Ordering) (number : T → ℤ) (is : T → Bool) (same : (x y : T) → cell_cmp (datum texts (cell (Some x))) (datum texts (cell (Some y))) ≡ cmp x y) (numbers : (x : T) → number_in (datum texts (cell (Some x))) ≡ number x)
+      (truths : (x : T) → is_true (datum texts (cell (Some x))) ≡ is x) (n : ℕ) (row : ℕ → Option T) where
+    pub reduced_seen : (op : Reduction) → reduction_cell (reduction_of op) (map (datum texts) (tabulate n (λ k. cell (row k)))) ≡ datum texts (came cell cmp number is op n row)
+    reduced_seen Sum = ap int_cell (folded_seen (λ t c. int_wrap w64 (t +ℤ number_in c)) _ (λ s. s) (grind arith) _ n row)
+    reduced_seen Min = cc (folded_seen lesser (least_step cmp) (λ o. datum texts (cell o)) (grind arith) None n row)
+    reduced_seen Max = cc (folded_seen greater (greatest_step cmp) (λ o. datum texts (cell o)) (grind arith) None n row)
+    reduced_seen Any = ap truth_value_cell (folded_seen _ _ (λ s. s) (λ s x. ap (λ b. s || b) (truths x)) false n row)
+    reduced_seen All = ap truth_value_cell (folded_seen _ _ (λ s. s) (λ s x. ap (λ b. s && b) (truths x)) true n row)
+    reduced_seen Count = ap int_cell (folded_seen _ _ (λ s. s) (λ s x. refl) _ n row)
 
-  greatest_keeps : (s : Option T) (x : T) → P s → P (Some x) → P (greatest_step cmp s x)
-  greatest_keeps = grind (arith, picks)
+module _ (texts : List (List ℕ)) (op want : Reduction) (n : ℕ) where
+  pub numbers_reduced : (row : ℕ → Option ℤ) (v : CellValue) → op ≡ want → v ≡ datum texts (came number_cell int_cmp (λ x. x) is_not_zero want n row) → v ≡ reduction_cell (reduction_of op) (map (datum texts) (tabulate n (λ k. number_cell (row k))))
+  numbers_reduced row v is e = cc (reduced_seen texts number_cell refl (λ x. refl) int_cmp (λ x. x) is_not_zero (λ x y. refl) (λ x. refl) (λ x. refl) n row op)
 
-  rows_keep : (step : Option T → T → Option T) → ((s : Option T) (x : T) → P s → P (Some x) → P (step s x)) → (row : ℕ → Option T) (a n : ℕ) (s : Option T) → P s → ((k : ℕ) → a ≤ k → k < a + n → P (row k)) → P (fold (λ t k. step_row step t (row k)) s (range_with_len a n))
-  rows_keep _ _ _ a zero s p h = p
-  rows_keep step keeps row a (suc n) s p h = rows_keep _ keeps row (a + 1) n _ (one _ (h a (omega arith) (omega arith))) (λ k le lt. h k (omega arith) (omega arith))
-    where
-      one : (o : Option T) → P o → P (step_row step s o)
-      one None q = p
-      one (Some x) q = keeps s x p q
+  pub truths_reduced : (row : ℕ → Option Bool) (v : CellValue) → op ≡ want → v ≡ datum texts (came truth_cell bool_cmp one_of_truth (λ x. x) want n row) → v ≡ reduction_cell (reduction_of op) (map (datum texts) (tabulate n (λ k. truth_cell (row k))))
+  truths_reduced row v is e = cc (reduced_seen texts truth_cell refl (λ x. refl) bool_cmp one_of_truth (λ x. x) (λ x y. refl) (grind arith) (λ x. refl) n row op)
 
-  pub least_kept : (n : ℕ) (row : ℕ → Option T) → ((k : ℕ) → k < n → P (row k)) → P (folded (least_step cmp) None n row)
-  least_kept n row h = rows_keep _ least_keeps row 0 n _ none (λ k le lt. h k (omega arith))
+  pub texts_reduced : (row : ℕ → Option TextId) (r : Cell) → op ≡ want → r ≡ came text_cell (λ x y. slice_cmp nat_cmp (text_of texts x) (text_of texts y)) (λ x. pos 0) (λ x. false) want n row → reduction_takes (reduction_of want) string ≡ true
+      → reduce_column (reduction_of op) (column_value texts (column_with string text_cell n row)) ≡ Ok (datum texts r)
+  texts_reduced row r is e takes = cc (reduced_seen texts text_cell refl (λ x. refl) _ _ _ (λ x y. refl) (λ x. refl) (λ x. refl) n row op)
 
-  pub greatest_kept : (n : ℕ) (row : ℕ → Option T) → ((k : ℕ) → k < n → P (row k)) → P (folded (greatest_step cmp) None n row)
-  greatest_kept n row h = rows_keep _ greatest_keeps row 0 n _ none (λ k le lt. h k (omega arith))
+-- texts that are given
+module _ (texts : List (List ℕ)) where
+  abbrev pub AreKnown : List TextId → Type 0
+  AreKnown ids = AllByRecursion (λ id. id.0 < length texts) ids
+
+  value_given : (row : ℕ → Option TextId) (ks : List ℕ) → AllByRecursion (IsGiven texts) (map (λ k. text_cell (row k)) ks) → AreKnown (present_values (map row ks))
+  value_given row [] h = tt
+  value_given row (k ∷ ks) (h, hs) = grind (arith, value_given row ks hs)
+
+  pub values_given : (n : ℕ) (row : ℕ → Option TextId) → AreGiven texts (tabulate n (λ k. text_cell (row k))) → AreKnown (present_values (tabulate n row))
+  values_given n row g = value_given row _ (recursion_from_All _ _ g)
+
+  -- and stay so, where a step chooses one of them
+  abbrev Keeps : (Option TextId → TextId → Option TextId) → Type 0
+  Keeps step = (s : Option TextId) (x : TextId) → IsGiven texts (text_cell s) → x.0 < length texts → IsGiven texts (text_cell (step s x))
+
+  values_keep : (step : Option TextId → TextId → Option TextId) → Keeps step → (s : Option TextId) (xs : List TextId) → IsGiven texts (text_cell s) → AreKnown xs → IsGiven texts (text_cell (fold step s xs))
+  values_keep _ _ s [] g h = g
+  values_keep step keeps s (x ∷ xs) g (h, hs) = values_keep step keeps _ xs (keeps s x g h) hs
+
+  pub rows_keep : (step : Option TextId → TextId → Option TextId) (n : ℕ) (row : ℕ → Option TextId) (o : Option TextId) (r : Cell) → AreGiven texts (tabulate n (λ k. text_cell (row k))) → r ≡ text_cell o → o ≡ folded step None n row → Keeps step → IsGiven texts r
+  rows_keep step n row _ _ g is e keeps = rw (is, e, values_folded step None n row) (values_keep step keeps None _ tt (values_given n row g))

@@ -1,9 +1,8 @@
 -- Numbers that are counted by marks at their places.
 use Rattle.{
-  std.{proofs.{Common.{◌≡◌, ℕ, ◌+◌, ◌≤◌, ℤ, Bool, cond, List, [], length, Option, arith}, lemmas.Cmp.{int_eq_equiv}}, specs.Ordering.{int_eq}},
+  std.{proofs.Common.{◌≡◌, ℕ, ◌+◌, ◌≤◌, ℤ, Bool, cond, List, [], length, Option, arith}, specs.Ordering.{int_eq}},
   indexmap.specs.IndexSet.{insert_key},
-  nullable_array.{specs.{Distincts.{AreMarked, IsMarkedMore, present_values}, Folds.{step_row, folded}}, proofs.{FoldLaws.{folded_more}, DistinctLaws.{each_value_once}}},
-  meaning.specs.{Column.{tabulate}, Reduce.{distinct}},
+  nullable_array.{specs.{Distincts.{AreMarked, IsMarkedMore}, Folds.{step_row, folded}}, proofs.FoldLaws.{folded_more}},
 }
 
 -- a row more
@@ -15,7 +14,3 @@ marked_step = grind (arith, folded_more)
 
 pub one_at_most : (added : Bool) (more count k : ℕ) → more ≡ cond added 1 0 → count ≤ k → count + more ≤ k + 1
 one_at_most = grind arith
-
--- all rows
-pub all_counted : (row : ℕ → Option ℤ) (n k count : ℕ) → k ≡ n → count ≡ length (folded (insert_key int_eq) [] k row) → count ≡ length (distinct int_eq (present_values (tabulate n row)))
-all_counted = grind (arith, each_value_once, int_eq_equiv)

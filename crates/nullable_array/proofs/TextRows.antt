@@ -1,14 +1,10 @@
 -- Laws of the texts of rows.
 use Rattle.{
-  std.proofs.{Common.{◌≡◌, ℕ, ◌+◌, ◌<◌, List, [], ◌++◌, length, take, slice_set, sym, arith, append_assoc, append-nil, Bool, Option, is_some, unwrap_or, inl, inr}, Math.ListN.{get_or-append}, lemmas.{Bool.{cases_eq}, List.{length-append, take_at}}},
+  std.proofs.{Common.{◌≡◌, ℕ, ◌+◌, ◌<◌, List, ◌++◌, length, take, slice_set, arith, append_assoc, Bool, Option, is_some, unwrap_or, inl, inr}, Math.ListN.{get_or-append}, lemmas.{Bool.{cases_eq}, List.{length-append, take_at}}},
   cell_core.specs.declared.cell.{TextId.{TextId}, Kind.TheVariants.{Text as string}},
   meaning.specs.{Cell.{text_of, AreGiven, IsLonger}, Column.{tabulate}},
   column_core.{specs.{Lanes.{option_at}, Columns.{CellColumn, text_cell, text_value, column_value, column_with}, Rows.{IsTextRow, AreTexts}}, proofs.{ColumnLaws.{given-tabulate}, CellRows.{map-map, range-same}, RowsMade.{option-set_same, option-set_other}}},
 }
-
--- no dictionary is longer than itself by nothing
-pub longer_self : (texts : List (List ℕ)) → IsLonger texts texts
-longer_self texts = ([], sym (append-nil texts))
 
 pub longer_trans : (a b c : List (List ℕ)) → IsLonger a b → IsLonger b c → IsLonger a c
 longer_trans a b c (m, e) (n, f) = grind (arith, append_assoc)
@@ -30,17 +26,10 @@ text_written _ _ _ i values present o blank longer w hv hp row k h =
       | inr other ↦ rw (option-set_other values present i k (unwrap_or o blank) (is_some o) other) (row_stays _ _ _ _ longer (w k (omega (arith, other))))
     ]
 
--- a column of texts, made through the fronts of vectors
-pub column_made : (count n m : ℕ) (values ws : List TextId) (present qs : List Bool) (col : CellColumn) → count ≡ n → length values ≡ n → length present ≡ m
-    → col ≡ column_with string text_cell (length (take n (values ++ ws))) (option_at (take n (values ++ ws)) (take m (present ++ qs))) → col ≡ column_with string text_cell count (option_at values present)
-column_made _ n m values ws present qs _ same hv hp e = cc (take_at values ws n hv, take_at present qs m hp)
-
--- its texts are those that were to be written
-pub texts_made : (texts : List (List ℕ)) (at : ℕ → Option (List ℕ)) (count : ℕ) (values : List TextId) (present : List Bool) (col : CellColumn) → AreTexts texts at count values present
-    → col ≡ column_with string text_cell count (option_at values present) → column_value texts col ≡ record { kind = string; cells = tabulate count (λ k. text_value (at k)) }
-texts_made = grind (arith, map-map, range-same)
-
--- and they are given
-pub texts_given : (texts : List (List ℕ)) (at : ℕ → Option (List ℕ)) (count : ℕ) (values : List TextId) (present : List Bool) (col : CellColumn) → AreTexts texts at count values present
-    → col ≡ column_with string text_cell count (option_at values present) → AreGiven texts col.cells
-texts_given _ _ _ _ _ _ w e = rw e (given-tabulate _ _ _ (λ k lt. (w k lt).1))
+-- a column of texts, made through the fronts of vectors: its texts are those that were to be written, and they are given
+pub text_made : (texts : List (List ℕ)) (at : ℕ → Option (List ℕ)) (count n m : ℕ) (values ws : List TextId) (present qs : List Bool) (col : CellColumn) → AreTexts texts at count values present
+    → col ≡ column_with string text_cell (length (take n (values ++ ws))) (option_at (take n (values ++ ws)) (take m (present ++ qs))) → count ≡ n → length values ≡ n → length present ≡ m
+    → (column_value texts col ≡ record { kind = string; cells = tabulate count (λ k. text_value (at k)) }) × AreGiven texts col.cells
+text_made texts at count n m values ws present qs col w e same hv hp =
+    let made : col ≡ column_with string text_cell count (option_at values present) = cc (take_at values ws n hv, take_at present qs m hp) in
+    (grind (arith, map-map, range-same), rw made (given-tabulate _ _ _ (λ k lt. (w k lt).1)))

@@ -1,9 +1,11 @@
 -- Truth values are told by two flags: whether one is True, and whether all are.
 use Rattle.{
-  std.{proofs.{Common.{◌≡◌, ℕ, Bool, true, false, not, ◌&&◌, ◌||◌, List, [], ◌∷◌, length, length-append, map, refl, arith, Option, fold}, Math.Bool.{beq}, lemmas.List.Folds.{list_any-append}}, specs.{List.{list_any, range_with_len}, Cmp.{bool_eq_equiv}}},
+  std.{proofs.{Common.{◌∙◌, ◌≡◌, ℕ, Bool, true, false, not, ◌&&◌, ◌||◌, List, [], ◌∷◌, length, length-append, refl, arith, Option, fold}, Math.Bool.{beq}, lemmas.List.Folds.{list_any-append}}, specs.{List.{list_any}, Cmp.{bool_eq_equiv}}},
   indexmap.specs.IndexSet.{insert_key},
-  meaning.specs.{Column.{tabulate}, Reduce.{distinct}},
-  nullable_array.{specs.Distincts.{present_values, truths_told, truths_of}, proofs.DistinctLaws.{each_value_once, values_folded}},
+  meaning.specs.{Column.{tabulate}, Reduce.{distinct, distinct_count}},
+  cell_core.specs.declared.cell.Kind.TheVariants.{Boolean},
+  column_core.specs.Columns.{CellColumn, column_value, column_with, truth_cell},
+  nullable_array.{specs.Distincts.{present_values, truths_told, truths_of}, proofs.{DistinctLaws.{all_seen, distinct_seen, truths_apart, anything}, FoldLaws.{values_folded}}},
 }
 
 -- the flags tell the truth values that were seen
@@ -17,7 +19,10 @@ all_told [] _ _ _ t = t
 all_told (x ∷ xs) _ _ _ t = all_told xs _ _ _ (grind (arith, list_any-append, beq, length-append))
 
 -- as many different truth values are present as the flags tell
-pub truths_counted : (n : ℕ) (row : ℕ → Option Bool) → truths_of n row ≡ length (distinct beq (present_values (tabulate n row)))
+truths_counted : (n : ℕ) (row : ℕ → Option Bool) → truths_of n row ≡ length (distinct beq (present_values (tabulate n row)))
 truths_counted n row =
-    let ks = range_with_len 0 n in
-    cc (values_folded (λ s x. s || x) row false ks, values_folded (λ s x. s && x) row true ks, (all_told (present_values (map row ks)) [] false true record { has_true = refl; has_false = refl; count = refl }).count, values_folded (insert_key beq) row [] ks, each_value_once beq bool_eq_equiv n row)
+    let values = present_values (tabulate n row) in
+    cc (values_folded (λ s x. s || x) false n row, values_folded (λ s x. s && x) true n row, (all_told values [] false true record { has_true = refl; has_false = refl; count = refl }).count, all_seen beq bool_eq_equiv [] values)
+
+pub truths_distinct : (texts : List (List ℕ)) (n : ℕ) (row : ℕ → Option Bool) (col : CellColumn) → column_with Boolean truth_cell n row ≡ col → truths_of n row ≡ distinct_count (column_value texts col).cells
+truths_distinct texts n row col is = rw (← is) (truths_counted n row ∙ distinct_seen _ truth_cell refl (λ x. refl) _ _ (λ x y p q. truths_apart x y) n row (anything _))

@@ -1,6 +1,6 @@
 -- Lists in order.
 use Rattle.{
-  std.{proofs.{Common.{◌≡◌, refl, arith, ℕ, zero, suc, ◌+◌, ◌-◌, ◌<◌, ◌≤◌, Bool, true, false, not, ◌&&◌, List, [], ◌∷◌, length, drop, slice_index_or}, lemmas.{Cmp.{upto}, List.{drop_more, length-drop}}}, specs.{Cmp.{IsTotalOrder}, List.Sorted.{IsSortedBy}, Ordering.{is_lt, is_gt, ordering_reverse}, declared.cmp.Ordering.{Ordering}}},
+  std.{proofs.{Common.{◌≡◌, refl, arith, ℕ, zero, suc, ◌+◌, ◌-◌, ◌<◌, ◌≤◌, Bool, true, false, not, ◌&&◌, List, [], ◌∷◌, length, drop, slice_index_or}, lemmas.{Cmp.{upto}, List.{drop_more, length-drop}}}, specs.{Cmp.{IsTotalOrder}, List.Sorted.{IsSortedBy}, Ordering.{is_lt, is_gt}, declared.cmp.Ordering.{Ordering}}},
   pick_meaning.specs.Slices.{goes_on_in_order, is_in_order},
 }
 
@@ -52,9 +52,6 @@ module _ {X : Type 0} (cmp : X → X → Ordering) where
 
   pub sorted_in_order : (xs : List X) → is_in_order cmp xs ≡ true → IsSortedBy (λ x y. is_lt (cmp x y)) xs
   sorted_in_order = grind (arith, neighbours)
-
-pub lt_reversed : (r : Ordering) → is_lt (ordering_reverse r) ≡ is_gt r
-lt_reversed = grind arith
 
 module _ {K : Type 0} {R : K → K → Ordering} (o : IsTotalOrder R) where
   -- what isn't greater than an element below a bound lies below the bound

@@ -1,7 +1,7 @@
 -- Laws of lists of rows.
 use Rattle.{
-  std.{proofs.{Common.{◌≡◌, ◌∙◌, ap, refl, arith, ℕ, zero, suc, ◌+◌, ◌-◌, ◌<◌, ◌≤◌, Bool, true, false, List, [], ◌∷◌, ◌++◌, length, take, map, slice_index_or, All, Ok, Err, if◌then◌else◌}, lemmas.List.{take_more, length-take-le, append-nil, map-id}}, specs.List.{range_with_len}},
-  pick_meaning.specs.{Faults.{not_there}, Rows.{rows_where, are_some}, Labels.{unless_none}},
+  std.{proofs.{Common.{◌≡◌, ◌∙◌, ap, refl, arith, ℕ, zero, suc, ◌+◌, ◌-◌, ◌<◌, ◌≤◌, Bool, true, false, List, [], ◌∷◌, ◌++◌, length, take, map, slice_index_or, All, Ok, if◌then◌else◌}, lemmas.List.{take_more, length-take-le, append-nil, map-id}}, specs.List.{range_with_len}},
+  pick_meaning.specs.{Rows.{rows_where, are_some}, Labels.{unless_none}},
 }
 
 -- a test that is known
@@ -77,11 +77,6 @@ rows_in_interval p d row (suc low) high (x ∷ xs) within before inside behind =
     cc (when_not (p x) (row ∷ rows_where p (row + 1) xs) (rows_where p (row + 1) xs) (before 0 (omega arith) (omega arith)), rows_in_interval p d (row + 1) low (high - 1) xs (omega arith) (λ k lt in'. before (suc k) (omega arith) (omega arith)) (λ k le lt. inside (suc k) (omega arith) (omega arith)) (λ k le lt. behind (suc k) (omega arith) (omega arith)))
 
 -- a key without a row, and one with some
-pub none_there : {K : Type 0} (key : K) (rows : List ℕ) → length rows ≡ 0 → unless_none key rows ≡ Err (not_there key)
-none_there = grind arith
 
 pub some_there : {K : Type 0} (key : K) (rows : List ℕ) → are_some rows ≡ true → unless_none key rows ≡ Ok rows
 some_there = grind arith
-
-pub some_of_length : (rows : List ℕ) → (length rows ≡ 0 → ⊥) → are_some rows ≡ true
-some_of_length = grind arith

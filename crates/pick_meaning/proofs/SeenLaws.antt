@@ -1,6 +1,6 @@
 -- Keys pick the same rows where labels are seen otherwise: with their texts, or as tuples of one label.
 use Rattle.{
-  std.{proofs.{Common.{◌≡◌, refl, arith, ℕ, suc, ◌+◌, Bool, true, ◌&&◌, List, [], ◌∷◌, map, All, Option, Result, if◌then◌else◌}, lemmas.List.{length-map}}, specs.{Option.{option_map}, Ordering.{is_eq, ordering_then}, declared.cmp.Ordering.{Ordering, TheVariants.{Equal}}, Cmp.Lexicographic.{pointwise}}},
+  std.{proofs.{Common.{◌≡◌, refl, arith, ℕ, suc, ◌+◌, Bool, ◌&&◌, List, [], ◌∷◌, map, All, Option, Result, if◌then◌else◌}, lemmas.List.{length-map}}, specs.{Option.{option_map}, Ordering.{is_eq, ordering_then}, declared.cmp.Ordering.{Ordering, TheVariants.{Equal}}, Cmp.Lexicographic.{pointwise}}},
   pick_meaning.{specs.{Faults.{PickFault, then_pick, pick_seen}, Leading.{leads, leading_cmp}, Labels.{rows_of_key, rows_of_keys}, Slices.{goes_on_in_order, is_in_order, reaches, stays_within, sorted_slice, row_of_bound, first_row, end_row, label_slice, unfound_slice, slice_on}, Masks.{cell_of_label, kept_by_label, masked_rows}}, proofs.RowLaws.{rows_where-map}},
 }
 
@@ -99,10 +99,3 @@ single_rows same labels k = rows_of_key-map (λ l. Unit {0}) (leads same) same _
 pub single_slice : {L : Type 0} (cmp : L → L → Ordering) (lower upper : Option L) (labels : List L)
     → label_slice (leading_cmp cmp) (option_map (λ l. l ∷ []) lower) (option_map (λ l. l ∷ []) upper) (map (λ l. l ∷ []) labels) ≡ pick_seen (λ l. l ∷ []) (label_slice cmp lower upper labels)
 single_slice = search (label_slice-map, leading_single)
-
-and_true : (b : Bool) → (b && true) ≡ b
-and_true = grind arith
-
-pub single_mask : {L : Type 0} (same : L → L → Bool) (xs labels : List L) (mask : List Bool)
-    → masked_rows (pointwise same) (map (λ l. l ∷ []) xs) (map (λ l. l ∷ []) labels) mask ≡ pick_seen (λ l. l ∷ []) (masked_rows same xs labels mask)
-single_mask {L} _ xs _ mask = masked_rows-map (λ l. Unit {0}) _ _ _ (λ x y t u. and_true _) xs _ mask _ (λ k d lt. tt)

@@ -10,7 +10,6 @@ pub mod PartnerLaws
 pub mod StandLaws
 pub mod LeaderLaws
 pub mod RunLaws
-pub mod NotedLaws
 pub mod ValueLaws
 pub mod PairLaws
 pub mod Hints

@@ -1,6 +1,6 @@
 -- Numbers of labels packed with the numbers beside them.
 use Rattle.{
-  std.{proofs.{Common.{◌≡◌, ◌<◌, ◌≤◌, ◌+◌, ◌*◌, ◌==◌, ◌&&◌, true, false, ℕ, List, map, take, max, refl, sym, subst, length, slice_index_or, arith, All}, Math.Nat.{mul-le-mul_right}, lemmas.{Nat.{same_from_place}, Bool.{eq-eqb, eqb-true, eqb-false, ne_eqb}, List.{length-map, get_or-map, take_more, Elements.{All-map, All-push}, FromFn.{length-map-range_with_len, get_or-map-range_with_len, get_or-range_with_len, length-range_with_len}}}}, specs.{Prelude.{slice_index}, List.{range_with_len}}},
+  std.{proofs.{Common.{◌≡◌, ◌<◌, ◌≤◌, ◌+◌, ◌*◌, ◌==◌, ◌&&◌, ℕ, List, map, take, max, ap, length, slice_index_or, arith, All}, Math.Nat.{mul-le-mul_right}, lemmas.{Nat.{same_from_place}, Bool.Decides.{nat_tests}, List.{length-map, get_or-map, Elements.{All-more}, FromFn.{length-map-range_with_len, get_or-map-range_with_len}}}}, specs.{Prelude.{slice_index}, List.{range_with_len}}},
   cell_core.specs.declared.cell.Label.{Label, TheVariants.{Na}},
   index_core.specs.Labels.{same_number},
   row_keys.specs.{Keys.{same_pair}, Numbers.{StandFor}},
@@ -8,14 +8,7 @@ use Rattle.{
 
 -- two packed numbers are equal exactly where both parts are
 pub packed_tell : (s a b c d : ℕ) → b < s → d < s → ((a == c) && (b == d)) ≡ (a * s + b == c * s + d)
-packed_tell s a b c d hb hd =
-    elim (a == c) as (λ x. (a == c) ≡ x → (x && (b == d)) ≡ (a * s + b == c * s + d)) [
-      | true ↦ grind (arith, eq-eqb, eqb-true, ne_eqb, eqb-false, same_from_place)
-      | false ↦ λ e. sym (ne_eqb _ _ (λ same. eqb-false a c e (same_from_place a b c d s hb hd same).0))
-    ] refl
-
-abbrev pub label_of : Label × ℕ → Label
-label_of pair = pair.0
+packed_tell s a b c d = grind (arith, nat_tests, same_from_place a b c d s)
 
 -- the number of a row's label and the number beside it in one
 abbrev pub pair_number : List ℕ → List (Label × ℕ) → ℕ → ℕ → ℕ
@@ -23,7 +16,7 @@ pair_number labels keys scale i = slice_index labels i * scale + (slice_index_or
 
 -- the greatest so far
 pub greatest_more : (keys : List (Label × ℕ)) (i most most' : ℕ) (pair : Label × ℕ) → i < length keys → slice_index_or keys i pair ≡ pair → most' ≡ max most pair.1 → All (λ (p : Label × ℕ). p.1 ≤ most) (take i keys) → All (λ (p : Label × ℕ). p.1 ≤ most') (take (i + 1) keys)
-greatest_more keys i _ most' pair lt here is within = grind (arith, take_more keys i pair lt, All-push (λ (p : Label × ℕ). p.1 ≤ most') (take i keys) pair (λ k d below. omega (arith, within k d below, is)) (omega (arith, is)))
+greatest_more keys i _ most' pair lt here is within = All-more (λ (p : Label × ℕ). p.1 ≤ most') keys i pair lt (λ k d below. omega (arith, within k d below)) (omega (arith, ap (λ (p : Label × ℕ). p.1) here))
 
 module _ (keys : List (Label × ℕ)) (labels : List ℕ) (first second scale most : ℕ) (stand : StandFor same_number Na (map (λ (pair : Label × ℕ). pair.0) keys) labels)
     (below : All (λ n. n ≤ first) labels) (within : All (λ (pair : Label × ℕ). pair.1 ≤ second) keys) (is : scale ≡ second + 1) (room : most ≡ first * (second + 1) + second) where
@@ -38,11 +31,7 @@ module _ (keys : List (Label × ℕ)) (labels : List ℕ) (first second scale mo
     here = grind (arith, get_or-map-range_with_len)
 
     pub pairs_below : All (λ n. n ≤ most) numbers
-    pairs_below =
-        subst (λ (l : List ℕ). All (λ n. n ≤ most) l) (sym made)
-        (All-map (λ n. n ≤ most) (pair_number labels keys scale) (range_with_len 0 (length keys)) (λ k d lt.
-        let inside : k < length keys = omega (arith, lt, length-range_with_len 0 (length keys)) in
-        subst (λ (n : ℕ). pair_number labels keys scale n ≤ most) (grind (arith, get_or-range_with_len)) (pair_below k inside)))
+    pairs_below k = grind (arith, get_or-map-range_with_len, length-map-range_with_len, pair_below k)
 
     pub pairs_stand : StandFor (same_pair same_number) (Na, 0) keys numbers
     pairs_stand =
@@ -54,8 +43,5 @@ module _ (keys : List (Label × ℕ)) (labels : List ℕ) (first second scale mo
         part : (i : ℕ) → i < length keys → (slice_index_or keys i (Na, 0)).1 < scale
         part i lt = omega (arith, within i (Na, 0) lt, is)
 
-        label_at : (i : ℕ) → i < length keys → slice_index_or (map (λ (pair : Label × ℕ). pair.0) keys) i Na ≡ (slice_index_or keys i (Na, 0)).0
-        label_at i lt = grind (arith, get_or-map)
-
         labels_alike : (i j : ℕ) → i < length keys → j < length keys → same_number (slice_index_or keys i (Na, 0)).0 (slice_index_or keys j (Na, 0)).0 ≡ (slice_index labels i == slice_index labels j)
-        labels_alike i j hi hj = grind (arith, label_at, length-map)
+        labels_alike i j hi hj = grind (arith, stand.tells i j, get_or-map (λ (pair : Label × ℕ). pair.0) keys i (Na, 0) Na, get_or-map (λ (pair : Label × ℕ). pair.0) keys j (Na, 0) Na, length-map)

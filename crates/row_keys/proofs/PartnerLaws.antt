@@ -1,19 +1,15 @@
 -- The codes of two sides that are numbered together, and the partners of a key by its code.
 use Rattle.{
-  std.{proofs.{Common.{◌≡◌, ◌∙◌, ◌<◌, ◌++◌, ℕ, List, [], map, take, drop, length, ap, sym, subst, slice_index_or, All}, lemmas.{List.{length-map, FromFn.{length-map-range_with_len}}, Simd.{map-map}}}, specs.Cmp.{IsEquivalence, Lexicographic.{lists_equiv}}},
+  std.{proofs.{Common.{◌≡◌, ◌<◌, ◌++◌, ℕ, List, map, take, drop, length, arith, All}, lemmas.{List.{map-append, take_at, drop_at, length-map, FromFn.{length-map-range_with_len}}, Simd.{map-map}}}, specs.Cmp.{IsEquivalence, Lexicographic.{lists_equiv}}},
   cell_core.specs.{declared.cell.Label.{Label}, contracts.cell.LabelEq.TheImpl.Laws.{laws-law}},
-  meaning.specs.Reduce.{distinct},
   multi_index.proofs.LevelLaws.{maps_alike},
-  row_keys.{specs.{Keys.{same_tuple, codes_of, first_rows}, Buckets.{buckets_of}, Partners.{rows_with, rows_coded, AreCodesBelow}}, proofs.{KeyLaws.{position_in}, JoinLaws.{rank, count, IsKnown, left_codes, right_codes, left_known, right_known, codes_below, bucket_of_key}}},
+  row_keys.{specs.{Keys.{same_tuple, codes_of, first_rows}, Buckets.{buckets_of}, Partners.{rows_with, rows_coded, AreCodesBelow}}, proofs.{KeyLaws.{position_in}, JoinLaws.{rank, count, IsKnown, left_known, right_known, codes_below, bucket_of_key}}},
 }
 
 pub tuple_laws : IsEquivalence same_tuple
 tuple_laws = lists_equiv laws-law
 
 module _ (a b : List (List Label)) where
-  abbrev keys_of_both : List (List Label)
-  keys_of_both = distinct same_tuple (a ++ b)
-
   abbrev pub code_of : List Label → ℕ
   code_of = rank same_tuple tuple_laws a b
 
@@ -21,37 +17,30 @@ module _ (a b : List (List Label)) where
   how_many = count same_tuple tuple_laws a b
 
   pub firsts_counted : (firsts : List ℕ) → firsts ≡ first_rows same_tuple (a ++ b) → length firsts ≡ how_many
-  firsts_counted _ first = ap length first ∙ length-map keys_of_both _
+  firsts_counted = grind (arith, length-map)
 
   -- the codes of either side
   module _ (codes part : List ℕ) (n : ℕ) (coded : codes ≡ codes_of same_tuple (a ++ b)) (size : n ≡ length a) where
     pub left_is : part ≡ take n codes → part ≡ map code_of a
-    left_is is = is ∙ (λ i. take (size i) (coded i)) ∙ left_codes _ tuple_laws a b
+    left_is = grind (arith, map-append, take_at, length-map)
 
     pub right_is : part ≡ drop n codes → part ≡ map code_of b
-    right_is is = is ∙ (λ i. drop (size i) (coded i)) ∙ right_codes _ tuple_laws a b
+    right_is = grind (arith, map-append, drop_at, length-map)
 
-  pub left_below : (part : List ℕ) (m : ℕ) → part ≡ map code_of a → m ≡ how_many → All (λ c. c < m) part
-  left_below part m are same = subst (λ k. All (λ c. c < k) part) (sym same) (subst (All (λ c. c < how_many)) (sym are) (codes_below _ tuple_laws a b a (left_known _ tuple_laws a b)))
+  module _ (part : List ℕ) (m : ℕ) where
+    pub left_below : part ≡ map code_of a → m ≡ how_many → All (λ c. c < m) part
+    left_below are same = rw (are, same) (codes_below _ tuple_laws a b a (left_known _ tuple_laws a b))
 
-  pub right_below : (part : List ℕ) (m : ℕ) → part ≡ map code_of b → m ≡ how_many → All (λ c. c < m) part
-  right_below part m are same = subst (λ k. All (λ c. c < k) part) (sym same) (subst (All (λ c. c < how_many)) (sym are) (codes_below _ tuple_laws a b b (right_known _ tuple_laws a b)))
+    pub right_below : part ≡ map code_of b → m ≡ how_many → All (λ c. c < m) part
+    right_below are same = rw (are, same) (codes_below _ tuple_laws a b b (right_known _ tuple_laws a b))
 
   pub buckets_counted : (m : ℕ) (codes : List ℕ) (rows : List (List ℕ)) → rows ≡ buckets_of m codes → length rows ≡ m
-  buckets_counted m _ _ made = ap length made ∙ length-map-range_with_len _ 0 m
+  buckets_counted = grind (arith, length-map-range_with_len)
 
   -- the partners of each key of the left
   module _ (m : ℕ) (of_keys of_rows : List ℕ) (rows : List (List ℕ)) (same : m ≡ how_many) (keys : of_keys ≡ map code_of a) (among : of_rows ≡ map code_of b) (made : rows ≡ buckets_of m of_rows) where
     pub partners_are : rows_coded of_keys rows ≡ map (rows_with b) a
-    partners_are =
-        ap (λ codes. rows_coded codes rows) keys
-        ∙ map-map (λ c. slice_index_or rows c []) code_of a
-        ∙ maps_alike _ _ _ each a (left_known _ tuple_laws a b)
-      where
-        each : (k : List Label) → IsKnown same_tuple tuple_laws a b k → slice_index_or rows (code_of k) [] ≡ rows_with b k
-        each k known =
-            ap (λ l. slice_index_or l (code_of k) []) (made ∙ (λ j. buckets_of (same j) (among j)))
-            ∙ bucket_of_key _ tuple_laws a b k b (right_known _ tuple_laws a b) (position_in _ _ known)
+    partners_are = rw (keys, map-map, made, same, among) (maps_alike (IsKnown same_tuple tuple_laws a b) _ _ (λ k known. bucket_of_key _ tuple_laws a b k b (right_known _ tuple_laws a b) (position_in _ _ known)) a (left_known _ tuple_laws a b))
 
     pub partners_below : AreCodesBelow of_keys rows
-    partners_below = left_below _ _ keys (buckets_counted m _ _ made ∙ same)
+    partners_below = left_below _ _ keys (grind (arith, length-map-range_with_len))

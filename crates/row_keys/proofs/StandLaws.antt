@@ -1,11 +1,9 @@
 -- Numbers that stand for keys are numbered as the keys are.
 use Rattle.{
-  std.{proofs.{Common.{◌≡◌, ◌+◌, ◌<◌, Bool, ℕ, List, [], ◌∷◌, ◌++◌, map, refl, sym, length, slice_index_or, nat_eq, arith}, lemmas.List.FromFn.{fill_by_all, get_or-range_with_len, length-range_with_len, map-range_with_len_more}}, specs.List.{range_with_len, All}},
+  std.{proofs.{Common.{◌≡◌, ◌+◌, Bool, ℕ, List, [], ◌∷◌, ◌++◌, map, refl, sym, length, slice_index_or, nat_eq, arith}, lemmas.List.FromFn.{fill_by_all, map-range_with_len_more}}, specs.List.{range_with_len}},
+  multi_index.proofs.LevelLaws.{levels_below},
   row_keys.{specs.{Keys.{codes_of, first_rows}, Numbers.{StandFor}}, proofs.RecodeLaws.{AreNumbers, renumbered}},
 }
-
-rows_within : (n : ℕ) → All (λ i. i < n) (range_with_len 0 n)
-rows_within = grind (arith, length-range_with_len, get_or-range_with_len)
 
 -- one row more
 pub row_more : (f : ℕ → ℕ) (row n : ℕ) (numbers numbers' : List ℕ) → n ≡ f row → numbers ≡ map f (range_with_len 0 row) → numbers' ≡ numbers ++ n ∷ [] → numbers' ≡ map f (range_with_len 0 (row + 1))
@@ -15,12 +13,7 @@ row_more = grind (arith, map-range_with_len_more)
 read : {X : Type 0} (none : X) (xs : List X) (n : ℕ) → length xs ≡ n → xs ≡ map (λ (i : ℕ). slice_index_or xs i none) (range_with_len 0 n)
 read _ xs n long = fill_by_all _ xs n _ long (λ k lt. refl)
 
-pub stand_codes : {K : Type 0} (eq : K → K → Bool) (none : K) (keys : List K) (numbers codes firsts : List ℕ) → StandFor eq none keys numbers → AreNumbers nat_eq numbers codes firsts → AreNumbers eq keys codes firsts
-stand_codes {K} eq none keys numbers codes firsts stand are = rw (read none keys (length keys) refl) (renumbered _ nat_eq _ eq _ (λ i j hi hj. sym (stand.tells i j hi hj))
-    (range_with_len 0 (length keys)) (rows_within _) codes firsts
-    (rw (← read 0 numbers (length keys) stand.count) are))
-
--- the same by the clauses of a call that numbers these
 pub codes_stand : {K : Type 0} (eq : K → K → Bool) (none : K) (keys : List K) (numbers made codes firsts : List ℕ) → StandFor eq none keys numbers → made ≡ numbers → codes ≡ codes_of nat_eq made → firsts ≡ first_rows nat_eq made → AreNumbers eq keys codes firsts
-codes_stand eq _ _ _ _ _ _ stand is coded first =
-    stand_codes eq _ _ _ _ _ stand (search nat_eq)
+codes_stand eq none keys numbers _ codes firsts stand is coded first =
+    rw (read none keys (length keys) refl) (renumbered _ nat_eq _ eq _ (λ i j hi hj. sym (stand.tells i j hi hj)) (range_with_len 0 (length keys)) (levels_below _) codes firsts
+    (rw (← read 0 numbers (length keys) stand.count, ← is) (record { coded = coded; first = first })))

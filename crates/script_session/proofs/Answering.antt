@@ -3,7 +3,7 @@ use Rattle.{
   std.{proofs.Common.{arith, ◌≡◌, ℕ, Bool, true, false, nat_eq, List, [], ◌∷◌, Option, Some, None, refl, sym, ◌∙◌, ap, IsSome}, specs.Prelude.{if◌then◌else◌, Result, Ok, Err, OnErr, IsErrAnd, ⊤}},
   meaning.specs.{Text.{Text, Contents, same_text}, Fault.{FaultValue}},
   table_meaning.specs.Table.{Table},
-  frame_store.{specs.{Shown.{table_in}, declared.{object.ObjId.{ObjId}, arguments.{Value.{Value, TheVariants.{Object, Scalar}}, Argument.{Argument, TheVariants.{Nothing}}}, fault.OpFault.{OpFault}}, World.{World, objects_of, entry_in, Keeps, Sets}}, proofs.Settling.{seen_later}},
+  frame_store.{specs.{Shown.{table_in}, declared.{object.ObjId.{ObjId}, arguments.{Value.{Value, TheVariants.{Object}}, Argument.{Argument, TheVariants.{Nothing}}}, fault.OpFault.{OpFault}}, World.{World, objects_of, entry_in, Keeps, Sets}}, proofs.Settling.{seen_later}},
   script_meaning.specs.{State.{State}, Reading.{Files, Reading, Reads, at_once}, Statement.{Answer, with_value, done, refused, then_answer, set_answer, is_chained, statement_result}},
   script_evaluation.{specs.Evaluates.{Moment, Evaluates}, proofs.Evaluations.{moment_of}},
   settings.specs.Assigned.{without},
@@ -35,14 +35,11 @@ module _ (bs : Bindings) (meant : Result Table FaultValue) (old new : World) (gi
       ∙ ap (λ o. value.table (table_in o)) (sym (ap (λ f. f k.0) sets.0.2 ∙ ap (λ b. if b then objects_of new id.0 else objects_of old k.0) other))
       ∙ entry_seen new (Object k)
 
-  scalar_same : (m : Text) (c : _) → value_at bs m ≡ Some (Scalar c) → entry_in old (Scalar c) ≡ entry_in new (Scalar c)
-  scalar_same = grind (arith, seen_later)
-
   named_set : (n : Text) → value_at bs n ≡ Some (Object id) → set_answer (state_over bs old) (Some n) meant ≡ done (state_over bs new) [] false
-  named_set = grind (arith, same_state, value_at-same, nat_eq_self, scalar_same, nat_eq, nat_same, entry_seen, other_same)
+  named_set = grind (arith, same_state, value_at-same, nat_eq_self, seen_later, nat_eq, nat_same, entry_seen, other_same)
 
   unnamed_set : is_named bs id.0 ≡ false → set_answer (state_over bs old) None meant ≡ done (state_over bs new) [] true
-  unnamed_set = grind (arith, same_state, scalar_same, nat_eq, true_false, named_object, nat_same, other_same)
+  unnamed_set = grind (arith, same_state, seen_later, nat_eq, true_false, named_object, nat_same, other_same)
 
 pub set_state : (bs : Bindings) (o : Option Text) (on : Value) (meant : Result Table FaultValue) (old new : World) → AreGiven bs old.texts → IsOf bs o on → Sets (Ok tt) on meant old new
     → set_answer (state_over bs old) o meant ≡ done (state_over bs new) [] (is_chained o)

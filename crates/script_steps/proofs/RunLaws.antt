@@ -29,10 +29,6 @@ part_of _ _ _ rest f = (f.0, f.1 ++ rest, more _ f.2, f.3, grind (arith, append_
     more [] none _ = none refl
     more (b ∷ bs) some is = cc
 
--- a text that leaves something of a whole is shorter
-part-length : (whole text rest : Text) → rest ≢ [] → whole ≡ text ++ rest → length text < length whole
-part-length = grind (arith, length-append, nil_from_length)
-
 -- the result of one step, and then of others
 abbrev pub first_then : RunStep → List RunStep → Ending → RunResult
 first_then step others ending = record { steps = step ∷ others; ending = ending }
@@ -48,7 +44,7 @@ module _ (old new : Outside) where
     unfolding part_of
     unwritten_first out part =
         let all : AppendsPart old.err new.err (errors_of (step ∷ others)) = search part_of in
-        grind (arith, lt-ltb, part-length, nothing_yet, appended-nil)
+        grind (arith, lt-ltb, length-append, nil_from_length, nothing_yet, appended-nil)
 
     -- they were written, but not what it prints
     unwritten_output : AppendsFront old.out new.out step.output → new.err ≡ appended old.err step.errors → HasRisen old.out_faults new.out_faults → EndsUnwritten (Is (first_then step others ending)) old new

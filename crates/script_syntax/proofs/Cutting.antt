@@ -5,12 +5,9 @@ use Rattle.{
   script_syntax.specs.Cut.{is_closed, IsPieceFrom, IsEnded, AreCutFrom, IsCut},
 }
 
-concat_into : (b : ℕ) (ps : List (List ℕ)) → concat (into_first b ps) ≡ b ∷ concat ps
-concat_into b ps = grind arith
-
 chosen : {A : Type 0} (P : A → Type 0) (t : Bool) (x y : A) → (t ≡ true → P x) → (t ≡ false → P y) → P (choose t x y)
 unfolding choose
-chosen P t x y f g = grind arith
+chosen = grind arith
 
 cut_joined : (mode : Mode) (opened closed : ℕ) (bs : List ℕ) → concat (cut mode opened closed bs) ≡ bs
 unfolding cut
@@ -19,8 +16,8 @@ cut_joined mode opened closed (b ∷ bs) =
     chosen (λ ps. concat ps ≡ b ∷ bs) _ _ _
     (λ t. chosen (λ ps. concat ps ≡ b ∷ bs) _ _ _
     (λ u. cc (cut_joined plain 0 0 bs))
-    (λ u. search (concat_into, cut_joined plain opened closed bs)))
-    (λ t. search (concat_into, cut_joined (mode_after mode b) (opened + opens mode b) (closed + closes mode b) bs))
+    (λ u. grind (arith, cut_joined plain opened closed bs)))
+    (λ t. grind (arith, cut_joined (mode_after mode b) (opened + opens mode b) (closed + closes mode b) bs))
 
 -- a byte before the rest of a piece, in which a line feed stands inside brackets
 module _ (b : ℕ) (mode next : Mode) (opened closed opened' closed' : ℕ)
@@ -30,8 +27,8 @@ module _ (b : ℕ) (mode next : Mode) (opened closed opened' closed' : ℕ)
   piece_into p only = ((λ e. absurd cc), one)
     where
       one : (front back : List ℕ) → b ∷ p ≡ front ++ 10 ∷ back → is_closed mode opened closed front ≡ true → back ≡ []
-      one [] back e c = grind arith
-      one (x ∷ front) back e c = grind arith
+      one [] = grind arith
+      one (x ∷ front) = grind arith
 
   cut_into : (ps : List (List ℕ)) → AreCutFrom next opened' closed' ps → AreCutFrom mode opened closed (into_first b ps)
   cut_into [] is = piece_into [] none
@@ -53,7 +50,7 @@ line_feed b mode opened closed is c = (((λ e. absurd cc), only), grind arith)
     only (x ∷ y ∷ front) back e d = absurd cc
 
 cut_after : (mode : Mode) (opened closed : ℕ) (p : List ℕ) (ps : List (List ℕ)) → IsPieceFrom mode opened closed p → IsEnded mode opened closed p → AreCutFrom plain 0 0 ps → AreCutFrom mode opened closed (p ∷ ps)
-cut_after mode opened closed p ps piece ended rest = grind arith
+cut_after = grind arith
 
 goes_line : (b : ℕ) (mode : Mode) (opened closed : ℕ) → eqb b 10 ≡ true → (front : List ℕ) → is_closed mode opened closed (b ∷ front) ≡ is_closed plain opened closed front
 unfolding is_closed choose
@@ -74,4 +71,4 @@ cut_pieces mode opened closed (b ∷ bs) =
     (λ t. grind (arith, cut_into, goes_on, cut_pieces (mode_after mode b) (opened + opens mode b) (closed + closes mode b) bs))
 
 pub is_cut : (bytes : List ℕ) → IsCut bytes
-is_cut bytes = search (cut_joined, cut_pieces)
+is_cut = search (cut_joined, cut_pieces)

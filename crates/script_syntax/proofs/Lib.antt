@@ -6,7 +6,6 @@ pub mod Gives
 pub mod Starts
 pub mod Complete
 pub mod Law
-pub mod Turns
 pub mod Loops
 pub mod Rooms
 pub mod PieceLaws

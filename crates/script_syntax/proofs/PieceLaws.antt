@@ -7,7 +7,7 @@ use Rattle.{
 }
 
 no_form : (form : Form) → SpellsForm form [] → ⊥
-no_form form s = grind (arith, expr_shorter)
+no_form = grind (arith, expr_shorter)
 
 pub blank_is_none : (piece : List ℕ) → IsBlank piece → (form : Form) → IsStatement form piece → ⊥
 blank_is_none piece blank form (ts, l, s, d) = no_form _ (subst (SpellsForm form) (Lexes-blank ts _ blank l) s)
@@ -29,9 +29,9 @@ one_statement form ts piece text filled l read =
 
 -- a piece that was found to be filled isn't blank
 pub filled_of : (blank : Bool) (piece : List ℕ) → (IsTrue blank ↔ IsBlank piece) → blank ≡ false → IsBlank piece → ⊥
-filled_of blank piece means false_ is = grind arith
+filled_of = grind arith
 
 -- the tokens that were found are those of the piece that the text is
 pub lexes_of : {A : Type 0} (found : Option A) (x : A) (view : A → List Token) (text piece : List ℕ) (None' : Type 0) → found ≡ Some x → MatchOption found None' (λ y. Lexes (view y) text)
     → text ≡ piece → Lexes (view x) piece
-lexes_of found x view text piece None' is lexes same = grind arith
+lexes_of = grind arith

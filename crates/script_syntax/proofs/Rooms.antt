@@ -1,15 +1,14 @@
 -- What is read within a depth, by what is read one depth lower.
 use Rattle.{
-  std.{proofs.Common.{◌≡◌, ℕ, suc, length, List, Option, Some, None, Result, refl, arith}, specs.Borrow.{Bor}},
-  language_meaning.specs.{Token.{open_paren, open_bracket, close_bracket}, Tree.{ArgList, many}},
+  std.{proofs.Common.{◌≡◌, ℕ, suc, List, Option, None, Result, refl, arith}, specs.Borrow.{Bor}},
   script_tokens.specs.declared.token.Token.{Token},
-  script_syntax.specs.{declared.refusal.Refusal.{Refusal}, Found.{Fails, Finds}, Reading.{and_then, or_else, after_mark, argument_with, expr_at, argument_at}},
+  script_syntax.specs.{declared.refusal.Refusal.{Refusal}, Found.{Finds}, Reading.{argument_with, expr_at, argument_at}},
 }
 use Rattle.language_meaning.specs.Token as spec
 use Rattle.script_syntax.specs.At as at
 
 pub finds_as : {X Y : Type 0} (view : X → Y) (deep : Y → ℕ) (m n : ℕ) (r : Result (X × ℕ × Bor (List Token)) Refusal) (one two : Option (Y × List spec.Token)) → m ≡ n → two ≡ one → Finds view deep m r one → Finds view deep n r two
-finds_as view deep m n r one two e f h = grind arith
+finds_as = grind arith
 
 pub expr_none : (room l : ℕ) (ts : List spec.Token) → room ≡ 0 → expr_at room l ts ≡ None
 unfolding expr_at
@@ -26,13 +25,3 @@ expr_deeper room less l ts e = rw e refl
 pub argument_deeper : (room less : ℕ) (ts : List spec.Token) → room ≡ suc less → argument_at room ts ≡ at.argument_with less ts
 unfolding argument_at
 argument_deeper room less ts e = rw e refl
-
--- what begins with a bracket
-module _ (room : ℕ) (ts us : List spec.Token) (no_paren : after_mark open_paren ts ≡ None) (bracket : after_mark open_bracket ts ≡ Some us) where
-  pub list_fails : (r : Refusal) → Fails r (at.items room close_bracket (length us) us) → Fails r (at.argument_with room ts)
-  unfolding argument_with and_then or_else
-  list_fails r f = grind arith
-
-  pub list_found : (l : ArgList) (vs : List spec.Token) → at.items room close_bracket (length us) us ≡ Some (l, vs) → at.argument_with room ts ≡ Some (many l, vs)
-  unfolding argument_with and_then or_else
-  list_found l vs s = search

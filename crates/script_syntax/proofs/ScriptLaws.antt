@@ -43,7 +43,7 @@ module _ (piece : List ℕ) (rest : List (List ℕ)) (left line : ℕ) (made : L
       counted = omega arith
 
       same_left : (fewer : ℕ) → left ≡ suc fewer → fewer ≡ left - 1
-      same_left fewer is = omega arith
+      same_left = omega arith
 
       only : (ss : List tree.Statement) → ArePieces left line (piece ∷ rest) ss → (more : List tree.Statement) × (ss ≡ st ∷ more) × ArePieces (left - 1) (line + line_ends piece) rest more
       only ss (inl is) = absurd (one.3 is.1)
@@ -90,7 +90,7 @@ reads_all made left line bytes rest none so_far =
 -- the statement of a piece was added
 pub settled : (piece : List ℕ) (rest : List (List ℕ)) (left line : ℕ) (old new : List tree.Statement) (more : ℕ) (all : List (List ℕ)) (read : PieceRead)
     → IsPieceRead piece read → IsSettled left line read old new (Ok more) → Reads old left line (piece ∷ rest) all → Reads new more (line + line_ends piece) rest all
-settled piece rest left line old new more all read is done r = grind (arith, reads_blank, reads_statement)
+settled = grind (arith, reads_blank, reads_statement)
 
 -- the piece isn't right, or memory was refused
 pub unsettled : (bytes piece : List ℕ) (rest : List (List ℕ)) (left line : ℕ) (old new : List tree.Statement) (f : ParseFault) (read : PieceRead)
@@ -109,7 +109,7 @@ unsettled bytes piece rest left line old new (SyntaxAt at) Wrong small is done r
 -- the first piece, and the others
 pub reads_first : (made : List tree.Statement) (left line n : ℕ) (bytes front back : List ℕ) (all : List (List ℕ))
     → pieces bytes ≡ take n bytes ∷ pieces (drop n bytes) → front ≡ take n bytes → back ≡ drop n bytes → Reads made left line (pieces bytes) all → Reads made left line (front ∷ pieces back) all
-reads_first made left line n bytes front back all first is_front is_back r = grind arith
+reads_first = grind arith
 
 pub no_bytes : (bytes : List ℕ) → eqb (length bytes) 0 ≡ true → bytes ≡ []
 no_bytes [] is = refl

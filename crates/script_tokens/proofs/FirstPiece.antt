@@ -1,6 +1,6 @@
 -- The first piece, by its length, and the pieces after it.
 use Rattle.{
-  std.proofs.Common.{◌≡◌, ℕ, suc, ◌+◌, ◌<◌, Bool, List, [], ◌∷◌, length, take, drop, refl, arith, leb, eqb},
+  std.proofs.Common.{◌≡◌, ℕ, suc, ◌+◌, ◌<◌, List, [], ◌∷◌, length, take, drop, refl, arith, leb, eqb},
   language_meaning.specs.Pieces.{Mode, plain, mode_after, opens, closes, choose, cut, pieces},
 }
 
@@ -15,16 +15,10 @@ rest_len mode opened closed (b ∷ bs) =
 abbrev pub IsFirst : Mode → ℕ → ℕ → List ℕ → Type 0
 IsFirst mode opened closed bs = cut mode opened closed bs ≡ take (rest_len mode opened closed bs) bs ∷ pieces (drop (rest_len mode opened closed bs) bs)
 
-by_cases : (ends closes_all : Bool) (x y z : List (List ℕ)) (i j b : ℕ) (bs : List ℕ) → x ≡ (b ∷ take 0 bs) ∷ pieces (drop 0 bs) → y ≡ (b ∷ take i bs) ∷ pieces (drop i bs)
-    → z ≡ (b ∷ take j bs) ∷ pieces (drop j bs)
-    → choose ends (choose closes_all x y) z ≡ take (suc (choose ends (choose closes_all 0 i) j)) (b ∷ bs) ∷ pieces (drop (suc (choose ends (choose closes_all 0 i) j)) (b ∷ bs))
-unfolding choose
-by_cases = grind arith
-
 cut_first : (mode : Mode) (opened closed b : ℕ) (bs : List ℕ) → IsFirst mode opened closed (b ∷ bs)
-unfolding cut rest_len
-cut_first _ o c b [] = search by_cases
-cut_first mode o c b (e ∷ es) = search (by_cases, cut_first plain o c e es, cut_first (mode_after mode b) (o + opens mode b) (c + closes mode b) e es)
+unfolding cut rest_len choose
+cut_first _ o c b [] = grind arith
+cut_first mode o c b (e ∷ es) = grind (arith, cut_first plain o c e es, cut_first (mode_after mode b) (o + opens mode b) (c + closes mode b) e es)
 
 -- the first piece of bytes, where there are any
 pub pieces_first : (bytes : List ℕ) (n : ℕ) → n ≡ rest_len plain 0 0 bytes → 0 < length bytes → pieces bytes ≡ take n bytes ∷ pieces (drop n bytes)

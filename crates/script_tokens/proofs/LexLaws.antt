@@ -1,20 +1,19 @@
 -- A piece is read token by token.
 use Rattle.{
-  std.{proofs.{Common.{rules, ◌≡◌, ◌∙◌, sym, ap, subst, refl, ℕ, ◌≤◌, ◌<◌, true, false, ◌||◌, List, [], ◌∷◌, ◌++◌, Option, length, get_or, eqb, append_assoc, arith, inl, inr}, lemmas.{Bool.Decides.{nat_tests}, Str.{IsUtf8-nil}, List.{append-nil, map-append}}}, specs.{Prelude.{MatchOption}, Str.{IsUtf8}}},
+  std.{proofs.{Common.{rules, ◌≡◌, sym, ap, subst, refl, ℕ, ◌≤◌, ◌<◌, true, false, ◌||◌, List, [], ◌∷◌, ◌++◌, Option, length, get_or, eqb, append_assoc, arith, inl, inr}, lemmas.{Bool.Decides.{nat_tests}, Str.{IsUtf8-nil}, List.{append-nil, map-append}}}, specs.{Prelude.{MatchOption}, Str.{IsUtf8}}},
   language_meaning.specs.Token.{Token, text, op, mark, begins_word, is_digit, ends_line, IsQuote, IsToken, Lexes, skip, skip_comment},
-  script_tokens.{specs.{View.{token_of, tokens_of}, Absent.{BeginsNoToken, BeginsNoSign}, Quoted.{EndsNoText}}, proofs.{Runs.{true_or_false}, TokenLaws.{kind_at, kind_of, IsToken-kind, IsToken-unique, IsToken-shorter, IsToken-some, IsUtf8-after_token}, Texts.{IsUtf8-after_ascii}}},
+  script_tokens.{specs.{View.{token_of, tokens_of}, Absent.{BeginsNoToken, BeginsNoSign}, Quoted.{EndsNoText}}, proofs.{Runs.{true_or_false}, TokenLaws.{kind_at, kind_of, IsToken-kind, IsToken-unique, IsToken-shorter, IsUtf8-after_token}, Texts.{IsUtf8-after_ascii}}},
 }
 use Rattle.script_tokens.specs.declared.token.Token as code
 
 -- ---- one token
 
 pub no_token_short : (bytes : List ℕ) → length bytes < 1 → BeginsNoToken bytes
-no_token_short bytes short t rest is = omega (arith, IsToken-some t bytes rest is)
+no_token_short = grind (arith, IsToken-shorter)
 
 -- what follows a quote is text
 pub IsUtf8-after_quote : (b : ℕ) (bytes rest : List ℕ) → IsQuote b → bytes ≡ b ∷ rest → IsUtf8 bytes → IsUtf8 rest
-IsUtf8-after_quote b _ _ (inl e) is all = IsUtf8-after_ascii [] b _ (omega arith) (subst IsUtf8 is all)
-IsUtf8-after_quote b _ _ (inr e) is all = IsUtf8-after_ascii [] b _ (omega arith) (subst IsUtf8 is all)
+IsUtf8-after_quote b bytes rest is e all = IsUtf8-after_ascii [] b rest (grind arith) (subst IsUtf8 e all)
 
 pub no_text : (b : ℕ) (bytes rest : List ℕ) → IsQuote b → bytes ≡ b ∷ rest → EndsNoText b rest → BeginsNoToken bytes
 no_text b _ _ is e none (text s) after (quote, more, was, f, q) = grind arith
@@ -23,41 +22,24 @@ no_text b bytes _ is e none t after was =
     absurd (omega arith)
 
 no_sign_no_token : (bytes : List ℕ) → kind_at (get_or bytes 0 0) ≡ 3 → BeginsNoSign bytes → BeginsNoToken bytes
-no_sign_no_token _ sign none (op o) rest is = none.0 o rest is
-no_sign_no_token _ sign none (mark m) rest is = none.1 m rest is
-no_sign_no_token _ sign none t rest is =
-    let kinds = sym (IsToken-kind t _ _ is) ∙ sign in
-    absurd (omega arith)
-
-kind_of_sign : (b : ℕ) → begins_word b ≡ false → is_digit b ≡ false → (IsQuote b → ⊥) → kind_at b ≡ 3
-kind_of_sign = search (rules, true_or_false, nat_tests)
-
-match_none : {A : Type 0} (r : Option A) (P P' : Type 0) (Q : A → Type 0) → (P → P') → MatchOption r P Q → MatchOption r P' Q
-match_none r P P' Q = grind arith
+no_sign_no_token _ sign none (op o) = none.0 o
+no_sign_no_token _ sign none (mark m) = none.1 m
+no_sign_no_token _ sign none t = grind (arith, IsToken-kind t)
 
 pub only_signs : {A : Type 0} (r : Option A) (bytes : List ℕ) (Q : A → Type 0) → begins_word (get_or bytes 0 0) ≡ false → is_digit (get_or bytes 0 0) ≡ false → (IsQuote (get_or bytes 0 0) → ⊥)
     → MatchOption r (BeginsNoSign bytes) Q → MatchOption r (BeginsNoToken bytes) Q
-only_signs r bytes Q letter digit quote = search (match_none, no_sign_no_token, kind_of_sign)
+only_signs r bytes Q = grind (arith, no_sign_no_token, rules, true_or_false, nat_tests)
 
 -- ---- what is skipped
 
 mutual
   pub length-skip : (bs : List ℕ) → length (skip bs) ≤ length bs
   length-skip [] = omega arith
-  length-skip (b ∷ bs) = elim (true_or_false (eqb b 32 || eqb b 9 || ends_line b bs)) [
-    | inl blank ↦ let shorter = length-skip bs in rw blank (omega arith)
-    | inr other ↦ elim (true_or_false (eqb b 35)) [
-      | inl comment ↦ let shorter = length-skip_comment bs in rw (other, comment) (omega arith)
-      | inr none ↦ rw (other, none) (omega arith)
-    ]
-  ]
+  length-skip (b ∷ bs) = grind (arith, true_or_false, length-skip bs, length-skip_comment bs)
 
   length-skip_comment : (bs : List ℕ) → length (skip_comment bs) ≤ length bs
   length-skip_comment [] = omega arith
-  length-skip_comment (b ∷ bs) = elim (true_or_false (eqb b 10)) [
-    | inl ends ↦ let shorter = length-skip bs in rw ends (omega arith)
-    | inr goes_on ↦ let shorter = length-skip_comment bs in rw goes_on (omega arith)
-  ]
+  length-skip_comment (b ∷ bs) = grind (arith, true_or_false, length-skip bs, length-skip_comment bs)
 
 separator_is_ascii : (b : ℕ) (bs : List ℕ) → (eqb b 32 || eqb b 9 || ends_line b bs) ≡ true → b < 128
 separator_is_ascii = grind (arith, nat_tests)
@@ -93,7 +75,7 @@ pub record IsLexedTo (piece rest : List ℕ) (ts : List Token) : Type 0 where
 
 after_token : (t : Token) (rest after : List ℕ) (more : List Token) → IsToken t rest after → Lexes more rest → (others : List Token) × Lexes others (skip after)
 after_token t rest after [] is l = grind (arith, no_token_short)
-after_token t rest after (u ∷ us) is (r, was, l) = (us, subst (λ bs. Lexes us (skip bs)) (IsToken-unique u t rest r after was is).1 l)
+after_token t rest after (u ∷ us) is l = (us, rw (IsToken-unique u t rest l.0 after l.1 is).1 at l.2)
 
 lexed_step : (piece rest after : List ℕ) (ts : List Token) (t : Token) → IsLexedTo piece rest ts → IsToken t rest after
     → IsLexedTo piece (skip after) (ts ++ t ∷ [])
@@ -115,17 +97,15 @@ lexed_end _ [] ts so_far _ = rw (← append-nil ts) (so_far.grows [] refl)
 lexed_end _ (b ∷ bs) _ so_far none = absurd (omega arith)
 
 stops_there : (rest : List ℕ) (more : List Token) → 0 < length rest → BeginsNoToken rest → Lexes more rest → ⊥
-stops_there _ [] some none l = omega (arith, ap length l)
-stops_there _ (t ∷ ts) _ none (after, is, l) = none t after is
+stops_there rest [] = grind arith
+stops_there rest (t ∷ ts) = grind arith
 
 pub lexed_stops : (piece rest : List ℕ) (ts : List Token) → IsLexedTo piece rest ts → 0 < length rest → BeginsNoToken rest → (all : List Token) → Lexes all piece → ⊥
 lexed_stops = grind (arith, stops_there)
 
 -- a piece has one list of tokens
 pub Lexes-unique : (ts us : List Token) (bytes : List ℕ) → Lexes ts bytes → Lexes us bytes → ts ≡ us
-Lexes-unique [] [] _ l m = refl
-Lexes-unique [] (u ∷ us) _ l (r, is, m) = grind (arith, no_token_short)
-Lexes-unique (t ∷ ts) [] _ (r, is, l) m = grind (arith, no_token_short)
-Lexes-unique (t ∷ ts) (u ∷ us) _ (r, is, l) (s, was, m) =
-    let same = IsToken-unique t u _ r s is was in
-    search (Lexes-unique ts us (skip s) (subst (λ bs. Lexes ts (skip bs)) same.1 l) m)
+Lexes-unique [] [] = grind arith
+Lexes-unique [] (u ∷ us) = grind (arith, no_token_short)
+Lexes-unique (t ∷ ts) [] = grind (arith, no_token_short)
+Lexes-unique (t ∷ ts) (u ∷ us) = grind (arith, IsToken-unique, Lexes-unique ts us)

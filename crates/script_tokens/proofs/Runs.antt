@@ -26,18 +26,14 @@ not_both b holds fails = cc
 
 same_run : (p : ℕ → Bool) (front rest front' rest' : List ℕ) → front ++ rest ≡ front' ++ rest' → list_all p front ≡ true → list_all p front' ≡ true
     → begins_with p rest ≡ false → begins_with p rest' ≡ false → (front ≡ front') × (rest ≡ rest')
-same_run p [] _ [] _ e f g h k = (refl, e)
-same_run p [] _ (y ∷ ys) _ e f g h k = search (not_both, both_true)
-same_run p (x ∷ xs) _ [] _ e f g h k = search (not_both, both_true)
-same_run p (x ∷ xs) rest (y ∷ ys) rest' e f g h k =
-    let first : x ≡ y = cc in
-    let others : xs ++ rest ≡ ys ++ rest' = cc in
-    let same = same_run p xs _ ys _ others (both_true _ _ f).1 (both_true _ _ g).1 h k in
-    search
+same_run p [] rest [] rest' = grind arith
+same_run p [] rest (y ∷ ys) rest' = grind (arith, not_both, both_true)
+same_run p (x ∷ xs) rest [] rest' = grind (arith, not_both, both_true)
+same_run p (x ∷ xs) rest (y ∷ ys) rest' = grind (arith, both_true, same_run p xs rest ys rest')
 
 -- there is one run
 pub IsRun-unique : (p : ℕ → Bool) (xs front rest front' rest' : List ℕ) → IsRun p front xs rest → IsRun p front' xs rest' → (front ≡ front') × (rest ≡ rest')
-IsRun-unique p xs front rest front' rest' f g = grind (arith, same_run)
+IsRun-unique = grind (arith, same_run)
 
 pub prefix_len-le : (p : ℕ → Bool) (xs : List ℕ) → prefix_len p xs ≤ length xs
 prefix_len-le p [] = omega arith

@@ -1,36 +1,21 @@
 -- Bytes begin with an operator or a mark.
 use Rattle.{
-  std.proofs.{Common.{◌≡◌, ◌∙◌, refl, ℕ, Bool, false, ◌&&◌, if◌then◌else◌, Option, Some, None, eqb, List, [], ◌∷◌, drop, get_or, arith}, lemmas.Bool.Decides.{eqb_tells}},
-  language_meaning.specs.{Tree.{Binary, add, sub, mul, floor_div, mod_, eq, ne, lt, le, gt, ge, and, or, xor}, Token.{Token, op, mark, Mark, equals, dot, comma, colon, tilde, open_paren, close_paren, open_bracket, close_bracket, open_brace, close_brace, byte_of, spelling_of, may_grow, begins_with, IsToken}},
+  std.proofs.{Common.{◌≡◌, ◌⊎◌, inl, inr, refl, ℕ, false, if◌then◌else◌, Option, Some, None, eqb, List, [], ◌∷◌, drop, get_or, arith}, lemmas.Bool.Decides.{eqb_tells}},
+  language_meaning.specs.{Tree.{Binary, add, sub, mul, floor_div, mod_, eq, ne, lt, le, gt, ge, and, or, xor}, Token.{Token, op, mark, Mark, equals, dot, comma, colon, tilde, open_paren, close_paren, open_bracket, close_bracket, open_brace, close_brace, byte_of, spelling_of, begins_with, IsToken}},
   script_tokens.specs.Absent.{BeginsNoLongOperator, BeginsNoSign},
 }
 
 no_equals : (o : Binary) (a : ℕ) (rest : List ℕ) → spelling_of o ≡ a ∷ 61 ∷ [] → BeginsNoLongOperator (a ∷ rest) → begins_with (λ b. eqb b 61) rest ≡ false
 no_equals = grind (arith, eqb_tells)
 
-grown : Token → List ℕ → Bool
-grown t rest = may_grow t && begins_with (λ b. eqb b 61) rest
-
-short_stays : (o : Binary) (a : ℕ) (rest : List ℕ) → spelling_of o ≡ a ∷ [] → BeginsNoLongOperator (a ∷ rest) → grown (op o) rest ≡ false
-unfolding grown
-short_stays lt a _ s none = no_equals le a _ (cc) none
-short_stays gt a _ s none = no_equals ge a _ (cc) none
-short_stays _ a _ s _ = refl
-
 pub short_operator_stands : (o : Binary) (bytes rest : List ℕ) (a : ℕ) → spelling_of o ≡ a ∷ [] → bytes ≡ a ∷ rest → BeginsNoLongOperator bytes → IsToken (op o) bytes rest
-unfolding grown
-short_operator_stands o _ _ a s e none = (search, short_stays o a _ s (λ p b c after is was. none p b c after is (e ∙ was)))
-
-mark_stays : (m : Mark) (rest : List ℕ) → BeginsNoLongOperator (byte_of m ∷ rest) → grown (mark m) rest ≡ false
-unfolding grown
-mark_stays equals _ none = no_equals eq 61 _ refl none
-mark_stays _ _ _ = refl
+short_operator_stands lt bytes rest a s e none = grind (arith, no_equals le a rest, none le)
+short_operator_stands gt bytes rest a s e none = grind (arith, no_equals ge a rest, none ge)
+short_operator_stands _ bytes rest a s e none = grind arith
 
 pub mark_stands : (m : Mark) (bytes rest : List ℕ) (a : ℕ) → byte_of m ≡ a → bytes ≡ a ∷ rest → BeginsNoLongOperator bytes → IsToken (mark m) bytes rest
-unfolding grown
-mark_stands m bytes rest a s e none =
-    let same : bytes ≡ byte_of m ∷ rest = cc in
-    (same, mark_stays m rest (λ p b c after is was. grind arith))
+mark_stands equals bytes rest a s e none = grind (arith, no_equals eq a rest, none eq)
+mark_stands _ bytes rest a s e none = grind arith
 
 pub no_sign : (bytes : List ℕ) (a : ℕ) → get_or bytes 0 0 ≡ a → BeginsNoLongOperator bytes → ((o : Binary) → spelling_of o ≡ a ∷ [] → ⊥) → ((m : Mark) → byte_of m ≡ a → ⊥) → BeginsNoSign bytes
 no_sign = grind arith
@@ -88,3 +73,17 @@ operator_reads = grind (arith, sign)
 pub mark_reads : (m : Mark) (bytes rest : List ℕ) → IsToken (mark m) bytes rest → sign bytes ≡ Some (mark m, rest)
 unfolding sign longer long short
 mark_reads = grind (arith, sign)
+
+pub sign_sound : (bytes rest : List ℕ) (t : Token) → sign bytes ≡ Some (t, rest) → IsToken t bytes rest
+unfolding sign longer long short
+sign_sound [] = grind arith
+sign_sound (a ∷ []) = grind (arith, eqb_tells)
+sign_sound (a ∷ b ∷ bs) = grind (arith, eqb_tells)
+
+-- bytes begin with a sign, or they don't
+pub sign_decided : (bytes : List ℕ) → ((t : Token) × (rest : List ℕ) × IsToken t bytes rest) ⊎ BeginsNoSign bytes
+sign_decided bytes = go (sign bytes) refl
+  where
+    go : (found : Option (Token × List ℕ)) → sign bytes ≡ found → ((t : Token) × (rest : List ℕ) × IsToken t bytes rest) ⊎ BeginsNoSign bytes
+    go None is = inr (grind (arith, operator_reads, mark_reads))
+    go (Some (t, rest)) is = inl (t, rest, sign_sound bytes rest t is)

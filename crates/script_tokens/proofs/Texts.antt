@@ -17,20 +17,16 @@ quoted_run _ [] _ _ _ _ e _ q = rw e q
 quoted_run quote (b ∷ bs) _ after more end e all q = grind (arith, nat_tests, quoted_run quote bs (bs ++ after) after more end refl (both_true (is_plain quote b) _ all).1 q)
 
 quoted_after_run : (quote : ℕ) (front bytes after s end : List ℕ) → bytes ≡ front ++ after → list_all (is_plain quote) front ≡ true → IsQuoted quote s bytes end → (more : Text) × IsQuoted quote more after end
-quoted_after_run _ [] _ _ s _ e all q = grind arith
-quoted_after_run _ (b ∷ bs) _ _ [] _ e all q = grind (arith, nat_tests)
-quoted_after_run quote (b ∷ bs) _ after (c ∷ cs) _ e all (others, inl a, q) =
-    let same : others ≡ bs ++ after = cc (e, a.0) in
-    quoted_after_run _ bs _ _ cs _ same (both_true (is_plain quote b) _ all).1 q
-quoted_after_run _ (b ∷ bs) _ _ (c ∷ cs) _ e all (others, inr (x, f, g), q) = grind (arith, nat_tests)
+quoted_after_run quote [] bytes after s = grind arith
+quoted_after_run quote (b ∷ bs) bytes after [] = grind (arith, nat_tests)
+quoted_after_run quote (b ∷ bs) bytes after (c ∷ cs) = grind (arith, nat_tests, both_true, quoted_after_run quote bs (bs ++ after) after cs)
 
 pub read_plain : (quote : ℕ) (bytes rest front after pushed : List ℕ) (s s' : Text) → IsReadTo quote bytes rest s → IsRun (is_plain quote) front rest after → pushed ≡ front → s' ≡ s ++ pushed → IsReadTo quote bytes after s'
 read_plain = grind (arith, append_assoc, quoted_run, quoted_after_run)
 
 after_an_escape : (quote c : ℕ) (rest next s end : List ℕ) → quote ≢ 92 → IsEscape c rest next → IsQuoted quote s rest end → (more : Text) × IsQuoted quote more next end
-after_an_escape _ c _ _ [] _ apart (e, f, g) q = grind arith
-after_an_escape _ c _ _ (d ∷ ds) _ apart (e, f, g) (others, inl a, q) = grind arith
-after_an_escape _ c _ _ (d ∷ ds) _ apart (e, f, g) (others, inr (x, h, k), q) = grind arith
+after_an_escape quote c rest next [] = grind arith
+after_an_escape quote c rest next (d ∷ ds) = grind arith
 
 read_escape : (quote c : ℕ) (bytes rest next : List ℕ) (s : Text) → quote ≢ 92 → IsReadTo quote bytes rest s → IsEscape c rest next → IsReadTo quote bytes next (s ++ c ∷ [])
 read_escape _ c _ _ _ s apart so_far escape = record {

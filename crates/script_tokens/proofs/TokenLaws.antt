@@ -2,7 +2,7 @@
 use Rattle.{
   std.{proofs.{Common.{◌≡◌, ◌≢◌, ◌∙◌, sym, ap, refl, ℕ, ◌≤◌, ◌<◌, ◌^◌, Bool, true, ◌||◌, eqb, ltb, if◌then◌else◌, subst, List, [], ◌∷◌, ◌++◌, length, length-append, get_or, decimal, Result, Ok, arith, rules}, lemmas.{Bool.Decides.{nat_tests}, Fmt.{decimal_nonempty, decimal_injective, decimal-digits_value, parse-decimal}, Str.Parse.{IsNumeralModel, numerals_by_value, parse_digits}}}, specs.{Str.{IsUtf8, Parse.{ParsesUnsigned, digits_value}}, List.{list_all}}},
   meaning.specs.Text.{Text},
-  language_meaning.specs.{Tree.{Binary}, Token.{Token, word, int, text, op, mark, Mark, byte_of, spelling_of, is_digit, begins_word, continues_word, begins_with, IsRun, IsTextByte, IsQuoted, IsToken}},
+  language_meaning.specs.{Tree.{Binary}, Token.{Token, word, int, text, op, mark, spelling_of, is_digit, begins_word, continues_word, begins_with, IsRun, IsTextByte, IsQuoted, IsToken}},
   script_tokens.proofs.{Runs.{both_true, not_both, IsRun-unique}, Signs.{operator_reads, mark_reads}, Texts.{quoted_ends, IsUtf8-after_ascii}},
 }
 
@@ -32,28 +32,20 @@ kind_of (mark m) = 3
 pub kind_of_digits : (bytes : List ℕ) → begins_with is_digit bytes ≡ true → kind_at (get_or bytes 0 0) ≡ 1
 kind_of_digits = grind (arith, nat_tests)
 
-kind_of_mark : (m : Mark) → kind_at (byte_of m) ≡ 3
-kind_of_mark = grind arith
-
 -- the first byte tells which kind of token stands there
 pub IsToken-kind : (t : Token) (bytes rest : List ℕ) → IsToken t bytes rest → kind_at (get_or bytes 0 0) ≡ kind_of t
-IsToken-kind x _ _ t = grind (arith, word_begins, kind_of_digits, int_begins, kind_of_mark)
+IsToken-kind = grind (arith, word_begins, kind_of_digits, int_begins)
 
 -- a byte of a text, and what follows it, are the only ones
 IsTextByte-unique : (quote c d : ℕ) (bytes more others : List ℕ) → IsTextByte quote c bytes more → IsTextByte quote d bytes others → (c ≡ d) × (more ≡ others)
 IsTextByte-unique = grind arith
 
-no_quote_is_text : (quote c : ℕ) (bytes rest more : List ℕ) → quote ≢ 92 → bytes ≡ quote ∷ rest → IsTextByte quote c bytes more → ⊥
-no_quote_is_text = grind arith
-
 -- a text that ends with this quote, and what follows it, are the only ones
 pub IsQuoted-unique : (quote : ℕ) (s u bytes rest rest' : List ℕ) → quote ≢ 92 → IsQuoted quote s bytes rest → IsQuoted quote u bytes rest' → (s ≡ u) × (rest ≡ rest')
-IsQuoted-unique _ [] [] _ _ _ apart p q = search
-IsQuoted-unique _ [] (d ∷ ds) _ _ _ apart p (more, b, q) = search no_quote_is_text
-IsQuoted-unique _ (c ∷ cs) [] _ _ _ apart (more, b, p) q = search no_quote_is_text
-IsQuoted-unique quote (c ∷ cs) (d ∷ ds) _ rest rest' apart (more, a, p) (others, b, q) =
-    let first = IsTextByte-unique _ c d _ _ _ a b in
-    search (IsQuoted-unique quote cs ds others rest rest' apart (subst (λ bs. IsQuoted quote cs bs rest) first.1 p) q)
+IsQuoted-unique quote [] [] = grind arith
+IsQuoted-unique quote [] (d ∷ ds) = grind arith
+IsQuoted-unique quote (c ∷ cs) [] = grind arith
+IsQuoted-unique quote (c ∷ cs) (d ∷ ds) = grind (arith, IsTextByte-unique, IsQuoted-unique quote cs ds)
 
 -- the token that bytes begin with, and the rest, are the only ones
 pub IsToken-unique : (t u : Token) (bytes rest rest' : List ℕ) → IsToken t bytes rest → IsToken u bytes rest' → (t ≡ u) × (rest ≡ rest')
@@ -101,15 +93,6 @@ pub no_int : (bytes digits rest : List ℕ) → IsRun is_digit digits bytes rest
     → ((n : ℕ) → n ≤ 2 ^ 63 → digits ≡ decimal n → ⊥) → (t : Token) (after : List ℕ) → IsToken t bytes after → ⊥
 no_int bytes digits rest run e none (int n) after t = none n t.1 (IsRun-unique is_digit bytes digits rest (decimal n) after run t.0).0
 no_int bytes digits rest run e none t after is = grind (arith, IsToken-kind, kind_of_digits)
-
--- no bytes begin with no token
-pub IsToken-some : (t : Token) (bytes rest : List ℕ) → IsToken t bytes rest → 0 < length bytes
-IsToken-some (word w) [] _ t = grind (arith, word_begins)
-IsToken-some (int n) [] _ t = search (rules, int_begins)
-IsToken-some (text s) [] _ (quote, more, is, e, q) = absurd cc
-IsToken-some (op o) [] _ t = grind (arith, ap length t.0)
-IsToken-some (mark m) [] _ t = absurd cc
-IsToken-some t (b ∷ bs) _ is = omega arith
 
 -- what follows a token is shorter
 pub IsToken-shorter : (t : Token) (bytes rest : List ℕ) → IsToken t bytes rest → length rest < length bytes

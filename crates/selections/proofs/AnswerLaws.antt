@@ -1,15 +1,12 @@
 -- What a form answers with a new object.
 use Rattle.{
-  std.{proofs.{Common.{◌≡◌, ℕ, true, List, arith, nat_eq, Option, Some, None, Result, Ok}, Math.ListN.{get_or-map}}, specs.Prelude.{IsSome}},
+  std.{proofs.{Common.{◌≡◌, ℕ, List, arith, Option, Some, None, Result, Ok}, Math.ListN.{get_or-map}}, specs.Prelude.{IsSome}},
   cell_core.specs.declared.cell.Cell.{Cell},
   meaning.specs.{Text.{Text}, Fault.{FaultValue}},
   table_meaning.specs.{Settled.{IsSettled}, Table.{ColumnOf, NumberedTable, table_value, heading_value, column_value, column_at}, Value.{Entry}},
   frame_store.{specs.{declared.{arguments.Value.TheVariants.{Object}, object.ObjId.{ObjId}}, Parts.{HeadingList}, Objects.{Tables, with_object, table_or}, Shown.{shown, headings_value, columns_value, FormAnswers}}, proofs.Settling.{object_settled, columns_name_part}},
 }
 use Rattle.table_meaning.specs.Value as value
-
-nat_eq_self : (n : ℕ) → nat_eq n n ≡ true
-nat_eq_self = grind arith
 
 -- a live object has a table
 pub live_is : (o : Option NumberedTable) → IsSome o → o ≡ Some (table_or o)

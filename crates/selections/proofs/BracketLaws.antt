@@ -1,11 +1,11 @@
 -- What brackets take.
 use Rattle.{
-  std.{proofs.{Common.{arith, ◌≡◌, ◌∙◌, ap, sym, ℕ, List, [], ◌∷◌, map, length, ◌++◌, Option, Some, None, Result, Ok, Err}, lemmas.List.{length-map}}, specs.List.{range_with_len}},
+  std.{proofs.{Common.{arith, ◌≡◌, ◌∙◌, ap, sym, ℕ, List, [], ◌∷◌, map, length, ◌++◌, Option, Some, None, Ok}, lemmas.List.{length-map}}, specs.List.{range_with_len}},
   cell_core.specs.declared.{cell.Cell.{Cell}, grid.Shape.TheVariants.{Frame}},
-  meaning.specs.{Text.{Text}, Cell.{CellValue, na_cell, datum, LabelValue}, Operator.{cell_label}, Fault.{FaultValue, wrong_kind, then_value}},
-  table_meaning.specs.{Settled.{IsSettled}, Table.{NumberedTable, Table, table_value, tuple_value}, Value.{Entry, cell, table, GivenList, GivenSub, one, many, key_given, no_given}},
+  meaning.specs.{Text.{Text}, Cell.{CellValue, datum, LabelValue}, Operator.{cell_label}, Fault.{then_value}},
+  table_meaning.specs.{Settled.{IsSettled}, Table.{NumberedTable, table_value, tuple_value}, Value.{GivenList}},
   frame_store.specs.{declared.arguments.{Item.{Item}, Value.TheVariants.{Scalar}}, Objects.{Tables}, Arguments.{entry_of, items_of}, Shown.{cells_value}},
-  select_meaning.specs.{Keys.{Reach}, Select.{column_reach, columns_reach, list_reach, picked_result}},
+  select_meaning.specs.Select.{column_reach, list_reach, picked_result},
   selections.specs.{Selected.{scalars_in}, Plans.{rows_in, TakesAll, reach_of_plan}, declared.planning.Plan.{Plan}},
 }
 use Rattle.form_meaning.specs.Select as form
@@ -21,17 +21,8 @@ pub scalars_settled : (texts : List Text) (live : Tables) (items : List Item) (c
 scalars_settled texts _ _ _ is settled = λ more. ap cells_or (is (texts ++ more) ∙ ap scalars_in (settled more) ∙ sym (is texts))
 
 -- a scalar that is a settled value
-abbrev cell_in : Entry → CellValue
-cell_in (cell c) = c
-cell_in (table t) = na_cell
-
 pub cell_value_settled : (texts : List Text) (live : Tables) (c : Cell) → IsSettled (entry_of live) texts (Scalar c) → IsSettled datum texts c
 cell_value_settled = grind arith
-
--- what a list of scalars reaches
-abbrev list_of_scalars : Table → Option (List CellValue) → Result Reach FaultValue
-list_of_scalars t None = Err wrong_kind
-list_of_scalars t (Some cells) = columns_reach t (map cell_label cells)
 
 -- all rows of some columns
 module _ (texts : List Text) (t : NumberedTable) (plan : Plan) (all : TakesAll t plan.rows) where
@@ -48,10 +39,3 @@ module _ (texts : List Text) (t : NumberedTable) (plan : Plan) (all : TakesAll t
   column_planned = grind (arith, all_rows)
 
 -- a list that is a settled key
-abbrev pub list_in : GivenSub → GivenList
-list_in (key_given (many parts)) = parts
-list_in k = no_given
-
-abbrev pub value_in : GivenSub → Entry
-value_in (key_given (one v)) = v
-value_in k = cell na_cell

@@ -1,6 +1,6 @@
 -- What a plan answers, and a selection with it.
 use Rattle.{
-  std.proofs.{lemmas.List.{length-map, FromFn.{length-range_with_len}}, Common.{◌≡◌, ◌∙◌, refl, ap, sym, subst, arith, ℕ, ◌<◌, List, [], ◌∷◌, length, slice_index_or, All, Option, Some, None, Result, Ok, Err}, Math.ListN.{get_or-map}},
+  std.proofs.{lemmas.List.{length-map, FromFn.{length-range_with_len}}, Common.{◌≡◌, ◌∙◌, refl, ap, sym, subst, arith, ℕ, ◌<◌, List, [], ◌∷◌, length, slice_index_or, All, Option, Some, None, Result, Ok}, Math.ListN.{get_or-map}},
   column_core.proofs.MoveLaws.{get_or-tabulate},
   cell_core.specs.declared.cell.{Cell.{Cell, TheVariants.{Na}}, Label.{Label}},
   meaning.specs.{Text.{Text}, Cell.{CellValue, datum}, Fault.{FaultValue, then_value}},
@@ -15,8 +15,8 @@ use Rattle.selections.specs.declared.planning.Form.TheVariants as answer
 -- the only row is one of the table's
 pub row_inside : (taken : Taken) (t : NumberedTable) (row : ℕ) → AreTakenFrom t taken → rows_in taken ≡ row ∷ [] → row < length t.labels
 row_inside (Slice rows) t row below is = subst (λ (l : List ℕ). All (λ place. place < length t.labels) l) is (grind (arith, length-map, length-range_with_len, get_or-tabulate)) 0 row (omega arith)
-row_inside (Listed places) t row below is = subst (λ (l : List ℕ). All (λ place. place < length t.labels) l) is below 0 row (omega arith)
-row_inside (Under places count) t row below is = subst (λ (l : List ℕ). All (λ place. place < length t.labels) l) is below.0 0 row (omega arith)
+row_inside (Listed places) t row below is = (rw is at below) 0 row (omega arith)
+row_inside (Under places count) t row below is = (rw is at below.0) 0 row (omega arith)
 
 -- the name of a single column
 pub single_heading : (s t : NumberedTable) (columns : List ℕ) (place : ℕ) (heading : Option Label) (headings : HeadingList) → s ≡ t → columns ≡ place ∷ [] → heading ≡ slice_index_or s.headings place None
@@ -29,7 +29,7 @@ gathered s t _ _ _ at same is = cc
 
 pub gathered_with : (s t : NumberedTable) (columns : List ℕ) (name : Option Label) (labels : List (Option Label)) (headings : HeadingList) → s ≡ t → name ≡ s.columns_name → labels ≡ headings_at t columns
     → headings ≡ record { columns_name = name; labels = labels } → headings ≡ headings_with t.columns_name t columns
-gathered_with s t _ _ _ _ at named is made = search
+gathered_with = grind arith
 
 -- what is picked by a plan, by its form
 pub plan_meant : (texts : List Text) (live : Tables) (on : ObjId) (source : NumberedTable) (plan : Plan) (form : Form) (rows columns : List ℕ) → live on.0 ≡ Some source → plan.form ≡ form → rows_in plan.rows ≡ rows → levels_lost plan.rows ≡ 0
@@ -55,10 +55,6 @@ cell_made _ store on source plan row place c live_is settled form rows whole col
 module _ (texts : List Text) (store : Store) (on : Value) (id : ObjId) (source : NumberedTable) (way : Way) (first : GivenSub) (second : Option GivenSub) (is : on ≡ Object id) (live_is : tables store id.0 ≡ Some source) where
   selected : select_result (entry_in (world store texts) on) way first second ≡ then_value (way_reach way (table_value texts source) first second) (picked_result (table_value texts source))
   selected = grind (arith, read_is)
-
-  pub select_refused : (why : OpFault) → IsSettledWorld (world store texts) → PlansBy texts source (Err why) (way_reach way (table_value texts source) first second)
-      → Forms (Err why) (select_result (entry_in (world store texts) on) way first second) (world store texts) (world store texts)
-  select_refused = grind (arith, selected, longer_self)
 
   pub select_made : (plan : Plan) (result : Result Value OpFault) (new : World) → PlansBy texts source (Ok plan) (way_reach way (table_value texts source) first second)
       → Forms result (picked_result (object_value (tables store) texts id) (reach_of_plan plan)) (world store texts) new → Forms result (select_result (entry_in (world store texts) on) way first second) (world store texts) new

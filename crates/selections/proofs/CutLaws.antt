@@ -1,13 +1,13 @@
 -- Rows and columns that are cut from a table, as they are seen.
 use Rattle.{
-  std.{proofs.{Common.{◌≡◌, ◌∙◌, refl, ap, sym, subst, arith, ℕ, suc, ◌+◌, ◌<◌, List, [], ◌∷◌, map, length, slice_index_or, All, Option, None, Result, Err}, lemmas.List.{length-map, Elements.{All-nil, All-cons}}}, specs.{Prelude.{IsSome}, List.{range_with_len}}},
+  std.{proofs.{Common.{◌≡◌, ◌∙◌, refl, ap, sym, arith, ℕ, suc, ◌+◌, ◌<◌, List, [], ◌∷◌, map, length, slice_index_or, All, Option, None, Err}, lemmas.List.{length-map}}, specs.{Prelude.{IsSome}, List.{range_with_len}}},
   cell_core.specs.{Texts.{AreDistinct}, declared.{cell.{Cell.{Cell, TheVariants.{Na}}, Label.{Label}}, grid.Shape.{Shape, TheVariants.{Series, Frame}}}},
-  meaning.specs.{Text.{Text}, Cell.{CellValue, na_cell, datum, LabelValue}, FaultOf.{fault_of}, Fault.{FaultValue}},
-  table_meaning.specs.{Settled.{IsSettled}, Table.{ColumnOf, NumberedTable, Table, table_value, heading_value, column_at, no_column}, Valid.{IsWhole}, Value.{Entry}},
+  meaning.specs.{Text.{Text}, Cell.{CellValue, na_cell, datum}, FaultOf.{fault_of}},
+  table_meaning.specs.{Settled.{IsSettled}, Table.{ColumnOf, NumberedTable, table_value, heading_value, column_at, no_column}, Valid.{IsWhole}},
   form_meaning.specs.{Finish.{unless_repeated, limited, finished}, Select.{heading_at, columns_frame}},
   select_meaning.specs.Select.{column_rows, cut, without_leading, as_series},
   frame_store.{specs.{Parts.{HeadingList}, Shown.{headings_value}, World.{world, IsSettledWorld, Forms}, declared.{store.Store.{Store}, fault.OpFault.{OpFault, TheVariants.{Refused, NoMemory}}}}, proofs.Settling.{longer_self, columns_name_part, headings_part}},
-  selections.{specs.{Selected.{heading_of, headings_at}, Headings.{NamesRepeated, repeated_heading}, Chosen.{cells_at, chosen, AreSettledHeadings}, Picked.{headed_by}, Plans.{rows_in, levels_lost, AreTakenFrom, taken_table, CanTake}, declared.planning.Taken.{Taken}}, proofs.{AnswerLaws.{column_seen, own_name, own_labels}, HeadingLaws.{repeated_seen, different}, PickedLaws.{list_is, places_inside, places_count}, PlaceLaws.{heading_seen, heading_settled}, RefusalLaws.{repeated_settled}, TakenLaws.{labels_seen, columns_seen, taken_seen}}},
+  selections.{specs.{Selected.{headings_at}, Headings.{NamesRepeated, repeated_heading}, Chosen.{cells_at, chosen, AreSettledHeadings}, Picked.{headed_by}, Plans.{rows_in, levels_lost, AreTakenFrom, taken_table, CanTake}, declared.planning.Taken.{Taken}}, proofs.{AnswerLaws.{column_seen, own_name, own_labels}, HeadingLaws.{repeated_seen, different}, PickedLaws.{list_is, listed_is, places_inside, places_count}, PlaceLaws.{heading_seen, heading_settled}, RefusalLaws.{repeated_settled}, TakenLaws.{labels_seen, columns_seen, taken_seen}}},
 }
 
 -- the headings of columns
@@ -17,12 +17,11 @@ headings_seen texts t (p ∷ ps) = search (heading_seen, headings_seen texts t p
 
 headings_settled : (texts : List Text) (t : NumberedTable) (places : List ℕ) → IsSettled headings_value texts t.headings → IsSettled headings_value texts (headings_at t places)
 headings_settled _ t [] _ = λ more. refl
-headings_settled _ t (p ∷ ps) settled = λ more j. heading_settled _ _ p _ refl settled more j ∷ headings_settled _ t ps settled more j
+headings_settled texts t (p ∷ ps) settled = λ more. cc (heading_settled texts t.headings p (slice_index_or t.headings p None) refl settled more, headings_settled texts t ps settled more)
 
 all_labelled : (t : NumberedTable) (places : List ℕ) → All IsSome t.headings → All (λ p. p < length t.headings) places → All IsSome (headings_at t places)
-all_labelled t [] _ _ = All-nil IsSome
-all_labelled t (p ∷ ps) some below =
-    All-cons IsSome (heading_of t p) (headings_at t ps) (some p None (below 0 p (omega arith))) (all_labelled t ps some (λ k d lt. below (suc k) d (omega arith)))
+all_labelled t [] _ _ = grind arith
+all_labelled t (p ∷ ps) some below = grind (arith, all_labelled t ps some (λ k d lt. below (suc k) d (omega arith)), some p None (below 0 p (omega arith)))
 
 -- those of these columns, with a name of the columns or none
 abbrev pub headings_with : Option Label → NumberedTable → List ℕ → HeadingList
@@ -37,45 +36,32 @@ module _ (texts : List Text) (rows columns : List ℕ) (t : NumberedTable) where
   series_seen _ is = cc (cut_seen Series None)
 
   pub frame_seen : (headings : HeadingList) → headings ≡ headings_with t.columns_name t columns → t.shape ≡ Frame → table_value texts (chosen Frame headings rows columns t) ≡ cut (table_value texts t) rows columns
-  frame_seen _ is frame =
-      ap (λ (h : HeadingList). table_value texts (chosen Frame h rows columns t)) is
-      ∙ cut_seen _ _
-      ∙ ap (λ (s : Shape). record (cut (table_value texts t) rows columns) { shape = s }) (sym frame)
+  frame_seen _ is frame = grind (arith, cut_seen Frame t.columns_name)
 
--- what is taken, as a Series and as a frame
-module _ (texts : List Text) (taken : Taken) (columns : List ℕ) (t : NumberedTable) where
-  abbrev lost : Table → Table
-  lost = without_leading (levels_lost taken)
-
-  pub series_shown : (headings : HeadingList) → headings ≡ headings_with None t columns → table_value texts (taken_table Series headings taken columns t) ≡ as_series (lost (cut (table_value texts t) (rows_in taken) columns))
-  series_shown = grind (arith, taken_seen, series_seen)
+-- what is taken, as a Series
+pub series_shown : (texts : List Text) (taken : Taken) (columns : List ℕ) (t : NumberedTable) (headings : HeadingList) → headings ≡ headings_with None t columns
+    → table_value texts (taken_table Series headings taken columns t) ≡ as_series (without_leading (levels_lost taken) (cut (table_value texts t) (rows_in taken) columns))
+series_shown = grind (arith, taken_seen, series_seen)
 
 -- all rows of some columns
 rows_all : {C : Type 0} (d : C) (n : ℕ) (c : ColumnOf C) → length c.cells ≡ n → record { kind = c.kind; cells = map (λ row. slice_index_or c.cells row d) (range_with_len 0 n) } ≡ c
-rows_all {C} d n c is =
-    let cell : ℕ → C = λ row. slice_index_or c.cells row d in
-    ap (λ (cells : List C). record { kind = c.kind; cells = cells })
-    (cc (list_is cell c.cells 0 d (λ k lt. let e : 0 + k ≡ k = omega arith in ap cell e)))
+rows_all {C} d n c is = ap (λ (cells : List C). record { kind = c.kind; cells = cells }) (cc (listed_is c.cells d))
 
 each_all : (n : ℕ) (cs : List (ColumnOf CellValue)) → All (λ c. length c.cells ≡ n) cs → map (column_rows (range_with_len 0 n)) cs ≡ cs
 each_all n [] _ = refl
-each_all n (c ∷ cs) filled = λ j. rows_all na_cell n c (filled 0 c (omega arith)) j ∷ each_all n cs (λ k d lt. filled (suc k) d (omega arith)) j
+each_all n (c ∷ cs) filled = cc (rows_all na_cell n c (filled 0 c (omega arith)), each_all n cs (λ k d lt. filled (suc k) d (omega arith)))
 
 columns_filled : (texts : List Text) (t : NumberedTable) (columns : List ℕ) → IsWhole t → All (λ place. place < length t.columns) columns
     → All (λ c. length c.cells ≡ length t.labels) (map (column_at (table_value texts t).columns) columns)
 columns_filled _ t [] whole below = grind arith
-columns_filled texts t (p ∷ ps) whole below =
-    All-cons (λ (c : ColumnOf CellValue). length c.cells ≡ length t.labels) (column_at (table_value texts t).columns p) (map (column_at (table_value texts t).columns) ps)
-    (grind (arith, column_seen texts t.columns p, length-map (column_at t.columns p).cells (datum texts), whole.filled p no_column (below 0 p (omega arith))))
-    (columns_filled _ t ps whole (λ k d lt. below (suc k) d (omega arith)))
+columns_filled texts t (p ∷ ps) whole below = grind (arith, columns_filled texts t ps whole (λ k d lt. below (suc k) d (omega arith)), column_seen texts t.columns p, length-map (column_at t.columns p).cells (datum texts), whole.filled p no_column (below 0 p (omega arith)))
 
 pub all_rows_cut : (texts : List Text) (t : NumberedTable) (rows columns : List ℕ) → IsWhole t → All (λ place. place < length t.columns) columns → rows ≡ range_with_len 0 (length t.labels)
     → cut (table_value texts t) rows columns ≡ columns_frame (table_value texts t) columns
 all_rows_cut texts t _ columns whole below all =
     let T = table_value texts t in
     let count : length t.labels ≡ length T.labels = search length-map in
-    let label : ℕ → List LabelValue = λ row. slice_index_or T.labels row [] in
-    let labels : map label (range_with_len 0 (length t.labels)) ≡ T.labels = cc (list_is label T.labels 0 [] (λ k lt. let e : 0 + k ≡ k = omega arith in ap label e)) in
+    let labels : map (λ row. slice_index_or T.labels row []) (range_with_len 0 (length t.labels)) ≡ T.labels = cc (listed_is T.labels []) in
     ap (λ (l : List ℕ). cut T l columns) all
     ∙ (λ j. record (columns_frame T columns) { labels = labels j; columns = each_all (length t.labels) (map (column_at T.columns) columns) (search columns_filled) j })
 
@@ -83,8 +69,7 @@ all_rows_cut texts t _ columns whole below all =
 pub whole_chosen : (shape : Shape) (headings : HeadingList) (rows columns : List ℕ) (t : NumberedTable) → IsWhole t → rows ≡ range_with_len 0 (length t.labels) → columns ≡ range_with_len 0 (length t.columns)
     → chosen shape headings rows columns t ≡ headed_by shape headings t
 whole_chosen _ _ _ _ t whole all each =
-    let label : ℕ → List Label = λ row. slice_index_or t.labels row [] in
-    let labels : map label (range_with_len 0 (length t.labels)) ≡ t.labels = list_is _ _ 0 [] (λ k lt. let e : 0 + k ≡ k = omega arith in ap label e) in
+    let labels = listed_is t.labels [] in
     let column : ℕ → ColumnOf Cell = λ place. cells_at (range_with_len 0 (length t.labels)) (column_at t.columns place) in
     let columns_are : map column (range_with_len 0 (length t.columns)) ≡ t.columns =
     list_is _ _ 0 _ (λ k lt. let e : 0 + k ≡ k = omega arith in ap column e ∙ rows_all Na _ _ (whole.filled k _ lt)) in
@@ -107,27 +92,24 @@ pub series_given : (texts : List Text) (t : NumberedTable) (columns : List ℕ) 
 series_given = grind (arith, headings_settled)
 
 pub frame_given : (texts : List Text) (t : NumberedTable) (columns : List ℕ) (headings : HeadingList) → headings ≡ headings_with t.columns_name t columns → IsSettled table_value texts t → AreSettledHeadings texts headings
-frame_given texts t _ _ is settled = subst (AreSettledHeadings texts) (sym is) (search (columns_name_part, headings_settled, headings_part))
+frame_given texts t _ _ is settled = rw is (search (columns_name_part, headings_settled, headings_part))
 
 pub own_given : (texts : List Text) (t : NumberedTable) (headings : HeadingList) → headings ≡ own_headings t → IsSettled table_value texts t → AreSettledHeadings texts headings
 own_given = search (own_name, own_labels)
 
 -- unless a heading stands again, by numbers
-abbrev unless_again : Table → Option LabelValue → Result Entry FaultValue
-unless_again t o = unless_repeated o (limited t)
+module _ (texts : List Text) (t : NumberedTable) (columns : List ℕ) (distinct : AreDistinct texts) (settled : IsSettled headings_value texts t.headings) where
+  finished_is : (lost : ℕ) (rows : List ℕ) (found : Option Label) → repeated_heading (headings_at t columns) ≡ found
+      → finished (without_leading lost (cut (table_value texts t) rows columns)) ≡ unless_repeated (heading_value texts found) (limited (without_leading lost (cut (table_value texts t) rows columns)))
+  finished_is _ _ _ is = cc (headings_seen texts t columns, repeated_seen texts (headings_at t columns) distinct (headings_settled texts t columns settled))
 
-finished_is : (texts : List Text) (t : NumberedTable) (lost : ℕ) (rows columns : List ℕ) (found : Option Label) → AreDistinct texts → IsSettled headings_value texts t.headings → repeated_heading (headings_at t columns) ≡ found
-    → finished (without_leading lost (cut (table_value texts t) rows columns)) ≡ unless_again (without_leading lost (cut (table_value texts t) rows columns)) (heading_value texts found)
-finished_is texts t _ _ columns _ distinct settled is = cc (headings_seen texts t columns, repeated_seen texts (headings_at t columns) distinct (headings_settled texts t columns settled))
+  pub frame_meant : (taken : Taken) (headings : HeadingList) → t.shape ≡ Frame → headings ≡ headings_with t.columns_name t columns → repeated_heading (headings_at t columns) ≡ None
+      → limited (table_value texts (taken_table Frame headings taken columns t)) ≡ finished (without_leading (levels_lost taken) (cut (table_value texts t) (rows_in taken) columns))
+  frame_meant taken _ frame is none = grind (arith, taken_seen, frame_seen, finished_is (levels_lost taken) (rows_in taken) None none)
 
-pub frame_meant : (texts : List Text) (t : NumberedTable) (taken : Taken) (columns : List ℕ) (headings : HeadingList) → AreDistinct texts → IsSettled headings_value texts t.headings → t.shape ≡ Frame → headings ≡ headings_with t.columns_name t columns
-    → repeated_heading (headings_at t columns) ≡ None
-    → limited (table_value texts (taken_table Frame headings taken columns t)) ≡ finished (without_leading (levels_lost taken) (cut (table_value texts t) (rows_in taken) columns))
-frame_meant texts t taken columns _ distinct settled frame is none = grind (arith, taken_seen, frame_seen, finished_is texts t (levels_lost taken) (rows_in taken) columns None distinct settled none)
-
-pub frame_refused : (texts : List Text) (store : Store) (t : NumberedTable) (lost : ℕ) (rows columns : List ℕ) (why : OpFault) → AreDistinct texts → IsSettled headings_value texts t.headings → NamesRepeated why (repeated_heading (headings_at t columns))
-    → IsSettledWorld (world store texts) → Forms (Err why) (finished (without_leading lost (cut (table_value texts t) rows columns))) (world store texts) (world store texts)
-frame_refused texts _ t lost rows _ (Refused code) distinct settled named left =
-    let meant = finished_is _ t lost rows _ _ distinct settled named.1 ∙ ap (λ c. Err (fault_of texts c)) (sym named.2) in
-    search (repeated_settled, headings_settled, longer_self)
-frame_refused _ _ t _ _ _ NoMemory distinct settled named left = search longer_self
+  pub frame_refused : (store : Store) (lost : ℕ) (rows : List ℕ) (why : OpFault) → NamesRepeated why (repeated_heading (headings_at t columns)) → IsSettledWorld (world store texts)
+      → Forms (Err why) (finished (without_leading lost (cut (table_value texts t) rows columns))) (world store texts) (world store texts)
+  frame_refused _ lost rows (Refused code) named left =
+      let meant = finished_is lost rows _ named.1 ∙ ap (λ c. Err (fault_of texts c)) (sym named.2) in
+      search (repeated_settled, headings_settled, longer_self)
+  frame_refused _ _ _ NoMemory named left = search longer_self

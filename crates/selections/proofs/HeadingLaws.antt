@@ -1,6 +1,6 @@
 -- Headings that are told apart by the numbers of their texts.
 use Rattle.{
-  std.{proofs.{Common.{◌≡◌, ◌∙◌, ◌<◌, ◌+◌, refl, ap, ℕ, zero, suc, Bool, true, false, not, ◌||◌, cond, List, [], ◌∷◌, map, length, drop, slice_index_or, Option, Some, None, All, if◌then◌else◌, arith, rules}, Math.Seq.{drop-cons}, lemmas.List.Folds.{list_any-append}}, specs.{Prelude.{◌≢◌, IsSome, AllPairs}, Bool.{Decides}, List.{list_any, position_from}, Map.{lookup}}},
+  std.{proofs.{Common.{◌≡◌, ◌<◌, ◌+◌, refl, ℕ, zero, suc, Bool, false, ◌||◌, cond, List, [], ◌∷◌, map, length, drop, slice_index_or, Option, Some, None, All, if◌then◌else◌, arith, rules}, Math.Seq.{drop-cons}, lemmas.List.Folds.{list_any-append}}, specs.{Prelude.{◌≢◌, IsSome, AllPairs}, Bool.{Decides}, List.{list_any, position_from}, Map.{lookup}}},
   indexmap.specs.IndexSet.{insert_key},
   cell_core.specs.{declared.cell.Label.{Label}, Texts.{AreDistinct}},
   meaning.specs.Text.{Text},
@@ -22,14 +22,6 @@ pub heading_decides : (a b : Option Label) → Decides (same_heading a b) (a ≡
 heading_decides = grind arith
 
 -- a list that is settled, part by part
-abbrev first_or : {Y : Type 0} → Y → List Y → Y
-first_or d [] = d
-first_or d (y ∷ ys) = y
-
-abbrev others : {Y : Type 0} → List Y → List Y
-others [] = []
-others (y ∷ ys) = ys
-
 pub head_settled : {X Y : Type 0} (view : List Text → X → Y) (texts : List Text) (x : X) (xs : List X) → IsSettled (λ ts. map (view ts)) texts (x ∷ xs) → IsSettled view texts x
 head_settled = grind arith
 
@@ -46,59 +38,33 @@ same_seen _ (Some a) (Some b) distinct f g = search (same_by_number, heading_lab
 any_seen : (texts : List Text) (h : Option Label) (hs : List (Option Label)) → AreDistinct texts → IsSettled heading_value texts h → IsSettled headings_value texts hs
     → list_any (same_heading h) hs ≡ list_any (finish.same_heading (heading_value texts h)) (headings_value texts hs)
 any_seen _ h [] _ _ _ = refl
-any_seen _ h (g ∷ gs) distinct here settled =
-    λ j. same_seen _ h g distinct here (search head_settled) j || any_seen _ h gs distinct here (grind arith) j
+any_seen texts h (g ∷ gs) distinct here settled = cc (same_seen texts h g distinct here (search head_settled), any_seen texts h gs distinct here (grind arith))
 
 pub repeated_seen : (texts : List Text) (hs : List (Option Label)) → AreDistinct texts → IsSettled headings_value texts hs → heading_value texts (repeated_heading hs) ≡ first_repeated (headings_value texts hs)
 repeated_seen _ [] _ _ = refl
-repeated_seen texts (h ∷ hs) distinct settled =
-    go (repeated_seen _ hs distinct (grind arith)) _
-    ∙ ap (λ b. if b then heading_value texts h else first_repeated (headings_value texts hs)) (any_seen _ h hs distinct (search head_settled) (grind arith))
-  where
-    go : heading_value texts (repeated_heading hs) ≡ first_repeated (headings_value texts hs) → (b : Bool)
-        → heading_value texts (if b then h else repeated_heading hs) ≡ (if b then heading_value texts h else first_repeated (headings_value texts hs))
-    go _ true = refl
-    go later false = later
+repeated_seen texts (h ∷ hs) distinct settled = grind (arith, repeated_seen texts hs distinct (grind arith), any_seen texts h hs distinct (search head_settled) (grind arith))
 
 -- headings of which none stands again are different
-or_first : (a b : Bool) → (a || b) ≡ false → a ≡ false
-or_first = grind arith
-
 or_second : (a b : Bool) → (a || b) ≡ false → b ≡ false
 or_second = grind arith
-
-not_both : (b : Bool) → b ≡ false → b ≡ true → ⊥
-not_both = grind arith
 
 not_among : (h : Option Label) (hs : List (Option Label)) → list_any (same_heading h) hs ≡ false → (j : ℕ) (d : Option Label) → j < length hs → h ≢ slice_index_or hs j d
 not_among h [] none j d lt = absurd (omega arith)
 not_among h (g ∷ gs) none zero d lt = grind arith
 not_among h (g ∷ gs) none (suc j) d lt = not_among h gs (search or_second) j d (omega arith)
 
-not_again : (b : Bool) (h rest : Option Label) → IsSome h → (if b then h else rest) ≡ None → b ≡ false
+not_again : (b : Bool) (h rest : Option Label) → IsSome h → (if b then h else rest) ≡ None → (b ≡ false) × (rest ≡ None)
 not_again = grind arith
-
-none_later : (b : Bool) (h rest : Option Label) → IsSome h → (if b then h else rest) ≡ None → rest ≡ None
-none_later = grind arith
 
 pub different : (hs : List (Option Label)) → All IsSome hs → repeated_heading hs ≡ None → AllPairs (λ a b. a ≢ b) hs
 different [] all none i j d before lt = absurd (omega arith)
 different (h ∷ hs) all none i zero d before lt = absurd (omega arith)
 different (h ∷ hs) all none zero (suc j) d before lt =
-    not_among h hs (not_again _ h _ (all 0 h (omega arith)) none) j d (omega arith)
+    not_among h hs (not_again _ h _ (all 0 h (omega arith)) none).0 j d (omega arith)
 different (h ∷ hs) all none (suc i) (suc j) d before lt =
-    different hs (λ k g below. all (suc k) g (omega arith)) (none_later _ h _ (all 0 h (omega arith)) none) i j d (omega arith) (omega arith)
+    different hs (λ k g below. all (suc k) g (omega arith)) (not_again _ h _ (all 0 h (omega arith)) none).1 i j d (omega arith) (omega arith)
 
 -- one heading more, from the last on
-among : (q h : Option Label) (keys : List (Option Label)) → list_any (same_heading h) keys ≡ true → same_heading q h ≡ true → list_any (same_heading q) keys ≡ true
-among = grind arith
-
-or_there : (a k : Bool) → (a ≡ true → k ≡ true) → k ≡ (a || k)
-or_there = grind arith
-
-or_swapped : (a k : Bool) → (k || (a || false)) ≡ (a || k)
-or_swapped = grind arith
-
 key_more : (q h : Option Label) (keys : List (Option Label)) → list_any (same_heading q) (insert_key same_heading keys h) ≡ (same_heading q h || list_any (same_heading q) keys)
 key_more = search (rules, list_any-append)
 
@@ -109,29 +75,7 @@ pub later_step : (hs keys keys' : List (Option Label)) (p : ℕ) (d q : Option L
     → keys' ≡ insert_key same_heading keys (slice_index_or hs p d) → list_any (same_heading q) keys' ≡ list_any (same_heading q) (drop p hs)
 later_step = grind (arith, key_more, drop_at)
 
-not_not : (b : Bool) → false ≡ not b → b ≡ true
-not_not = grind arith
-
-not_true : (b : Bool) → true ≡ not b → b ≡ false
-not_true = grind arith
-
-repeated_from : (hs keys : List (Option Label)) (p : ℕ) (d found : Option Label) (b : Bool) → p < length hs → ((q : Option Label) → list_any (same_heading q) keys ≡ list_any (same_heading q) (drop (p + 1) hs))
-    → found ≡ repeated_heading (drop (p + 1) hs) → list_any (same_heading (slice_index_or hs p d)) keys ≡ b → (if b then slice_index_or hs p d else found) ≡ repeated_heading (drop p hs)
-repeated_from = grind (arith, drop_at)
-
--- a heading that stands again, and one that doesn't
-pub repeated_here : (hs keys : List (Option Label)) (p : ℕ) (d found : Option Label) → p < length hs → ((q : Option Label) → list_any (same_heading q) keys ≡ list_any (same_heading q) (drop (p + 1) hs))
-    → found ≡ repeated_heading (drop (p + 1) hs) → false ≡ not (list_any (same_heading (slice_index_or hs p d)) keys) → slice_index_or hs p d ≡ repeated_heading (drop p hs)
-repeated_here hs _ p d _ lt so_far was new = repeated_from hs _ p d _ true lt so_far was (search not_not)
-
-pub repeated_later : (hs keys : List (Option Label)) (p : ℕ) (d found : Option Label) → p < length hs → ((q : Option Label) → list_any (same_heading q) keys ≡ list_any (same_heading q) (drop (p + 1) hs))
-    → found ≡ repeated_heading (drop (p + 1) hs) → true ≡ not (list_any (same_heading (slice_index_or hs p d)) keys) → found ≡ repeated_heading (drop p hs)
-repeated_later hs _ p d _ lt so_far was new = repeated_from hs _ p d _ false lt so_far was (search not_true)
-
 -- the first place of each heading, with one heading more before the others
-same_swapped : (a b : Option Label) → same_heading a b ≡ same_heading b a
-same_swapped = grind arith
-
 pub first_places_more : (hs : List (Option Label)) (p : ℕ) (d h : Option Label) (es es' : List (Option Label × ℕ)) → p < length hs → h ≡ slice_index_or hs p d
     → ((q : Option Label) → lookup (same_heading q) es' ≡ cond (same_heading h q) (Some p) (lookup (same_heading q) es)) → HaveFirstPlaces es (p + 1) (drop (p + 1) hs) → HaveFirstPlaces es' p (drop p hs)
 first_places_more = grind (arith, drop_at)

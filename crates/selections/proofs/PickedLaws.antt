@@ -1,6 +1,6 @@
 -- Rows and places of another table.
 use Rattle.{
-  std.{proofs.{Common.{◌≡◌, ◌∙◌, ℕ, suc, zero, ◌+◌, ◌<◌, pos, List, [], ◌∷◌, length, map, refl, ap, sym, arith, All, Option, Some, ◌++◌}, lemmas.List.FromFn.{get_or-range_with_len, length-range_with_len}}, specs.{Prelude.{slice_index_or}, List.{range_with_len}}},
+  std.{proofs.{Common.{take, ◌≡◌, ◌∙◌, ℕ, suc, zero, ◌+◌, ◌<◌, pos, List, [], ◌∷◌, length, map, refl, ap, sym, arith, All, Option, Some, ◌++◌}, lemmas.{Option.{get_or_from_slice_get}, List.{map-append, take_more, FromFn.{get_or-range_with_len, length-range_with_len}}}}, specs.{Prelude.{slice_index_or, slice_get}, List.{range_with_len}}},
   cell_core.specs.declared.grid.Rows.{Rows},
   table_meaning.specs.Table.{NumberedTable},
   frame_store.specs.Objects.{table_or},
@@ -14,6 +14,16 @@ list_is f (x ∷ xs) a d h =
     let later : (k : ℕ) → k < length xs → f (a + 1 + k) ≡ slice_index_or xs k d = λ k lt. let e : a + 1 + k ≡ a + suc k = omega arith in ap f e ∙ h (suc k) (omega arith) in
     grind (arith, list_is f xs (a + 1) d later)
 
+-- a list is what stands at its places
+pub listed_is : {C : Type 0} (xs : List C) (d : C) → map (λ k. slice_index_or xs k d) (range_with_len 0 (length xs)) ≡ xs
+listed_is xs d = list_is _ xs 0 d (λ k lt. let e : 0 + k ≡ k = omega arith in ap (λ k. slice_index_or xs k d) e)
+
+-- one more place's
+pub mapped_more : {C : Type 0} (f : ℕ → C) (places : List ℕ) (k place : ℕ) (c : C) (before after : List C) → k < length places → slice_get places k ≡ Some place → c ≡ f place
+    → before ≡ map f (take k places) → after ≡ before ++ c ∷ [] → after ≡ map f (take (k + 1) places)
+mapped_more f places k place _ _ _ lt at is was pushed =
+    pushed ∙ (λ j. was j ++ is j ∷ []) ∙ sym (cc (take_more places k 0 lt, get_or_from_slice_get places k place 0 at, map-append f (take k places) (slice_index_or places k 0 ∷ [])))
+
 -- all rows of so many
 abbrev pub all_rows : ℕ → Rows
 all_rows count = record { start = 0; step = pos 1; count = count }
@@ -24,8 +34,7 @@ range_suc a zero = grind arith
 range_suc a (suc n) = grind (arith, range_suc (a + 1) n)
 
 pub one_more_place : (places places' : List ℕ) (place : ℕ) → places ≡ range_with_len 0 place → places' ≡ places ++ place ∷ [] → places' ≡ range_with_len 0 (place + 1)
-one_more_place _ _ place before pushed =
-    pushed ∙ (λ j. before j ++ (let e : place ≡ 0 + place = omega arith in e) j ∷ []) ∙ sym (range_suc 0 _) ∙ ap (range_with_len 0) (let e : suc place ≡ place + 1 = omega arith in e)
+one_more_place = grind (arith, range_suc 0)
 
 pub places_inside : (places : List ℕ) (count limit : ℕ) → places ≡ range_with_len 0 count → count ≡ limit → All (λ place. place < limit) places
 places_inside = grind (arith, get_or-range_with_len, length-range_with_len)

@@ -1,13 +1,13 @@
 -- A row across columns.
 use Rattle.{
-  std.{proofs.{Common.{◌≡◌, ◌∙◌, refl, ap, arith, ℕ, zero, suc, ◌+◌, ◌<◌, Bool, true, false, ◌&&◌, List, [], ◌∷◌, ◌++◌, map, take, drop, length, slice_index_or, Result, Ok, Err, Some, if◌then◌else◌}, lemmas.{List.{map-append, take_more}, Option.{get_or_from_slice_get}}, Math.Seq.{drop-cons, drop-length}}, specs.{Prelude.{slice_get, ◌≢◌}, List.{list_all}}},
+  std.{proofs.{Common.{◌≡◌, ◌∙◌, refl, ap, arith, ℕ, zero, suc, ◌+◌, ◌<◌, Bool, true, false, ◌&&◌, List, [], ◌∷◌, ◌++◌, map, take, drop, length, Result, Ok, Err, Some, if◌then◌else◌}, lemmas.Option.{get_or_from_slice_get}, Math.Seq.{drop-cons, drop-length}}, specs.{Prelude.{slice_get, ◌≢◌}, List.{list_all}}},
   cell_core.specs.declared.cell.{Kind.{Kind, TheVariants.{Int64}}, Cell.{Cell}},
   meaning.specs.{Text.{Text}, Fault.{FaultValue, wrong_kind}},
   column_core.specs.Columns.{CellColumn},
   table_meaning.{specs.Table.{NumberedTable, table_value, column_at}, proofs.KindLaws.{kind_itself}},
   form_meaning.specs.Finish.{same_kind},
   select_meaning.specs.Select.{kind_across, one_kind},
-  selections.{specs.Across.{HaveKind, cell_across, cells_across}, proofs.AnswerLaws.{column_seen}},
+  selections.{specs.Across.{HaveKind, cell_across, cells_across}, proofs.{AnswerLaws.{column_seen}, PickedLaws.{mapped_more}}},
 }
 
 -- the kinds of columns
@@ -41,25 +41,25 @@ pub one_kind_is : (texts : List Text) (t : NumberedTable) (places : List ℕ) �
 one_kind_is texts t places = grind (arith, first_seen texts t places, all_seen texts t (first_kind t places) places)
 
 -- the kinds from one on
-from_kind : (kind : Kind) (t : NumberedTable) (places : List ℕ) (k place : ℕ) → k < length places → slice_get places k ≡ Some place → all_of kind t (drop k places) ≡ (same_kind (kind_at t place) kind && all_of kind t (drop (suc k) places))
-from_kind _ t places k place lt at = cc (drop-cons places k 0 lt, get_or_from_slice_get places k place 0 at)
+module _ (t : NumberedTable) (places : List ℕ) (k place : ℕ) (lt : k < length places) (at : slice_get places k ≡ Some place) where
+  from_kind : (kind : Kind) → all_of kind t (drop k places) ≡ (same_kind (kind_at t place) kind && all_of kind t (drop (suc k) places))
+  from_kind _ = cc (drop-cons places k 0 lt, get_or_from_slice_get places k place 0 at)
 
-pub kinds_refused : (texts : List Text) (t : NumberedTable) (places : List ℕ) (k place : ℕ) (next : Kind) → k < length places → slice_get places k ≡ Some place → next ≡ kind_at t place → same_kind next (first_kind t places) ≡ false
-    → all_of (first_kind t places) t (drop k places) ≡ all_of (first_kind t places) t places → one_kind (map (column_at (table_value texts t).columns) places) ≡ Err wrong_kind
-kinds_refused texts t places k place _ lt at is other before =
-    let kind = first_kind t places in
-    let none : all_of kind t places ≡ false = cc (from_kind kind t places k place lt at) in
-    cc (one_kind_is texts t places)
+  pub kinds_refused : (texts : List Text) (next : Kind) → next ≡ kind_at t place → same_kind next (first_kind t places) ≡ false → all_of (first_kind t places) t (drop k places) ≡ all_of (first_kind t places) t places
+      → one_kind (map (column_at (table_value texts t).columns) places) ≡ Err wrong_kind
+  kinds_refused texts _ is other before =
+      let kind = first_kind t places in
+      let none : all_of kind t places ≡ false = cc (from_kind kind) in
+      cc (one_kind_is texts t places)
 
-pub kinds_more : (t : NumberedTable) (places : List ℕ) (k place : ℕ) (next : Kind) → k < length places → slice_get places k ≡ Some place → next ≡ kind_at t place → same_kind next (first_kind t places) ≡ true
-    → all_of (first_kind t places) t (drop k places) ≡ all_of (first_kind t places) t places → all_of (first_kind t places) t (drop (k + 1) places) ≡ all_of (first_kind t places) t places
-kinds_more t places k place _ lt at is same before =
-    let kind = first_kind t places in
-    let step : k + 1 ≡ suc k = omega arith in
-    cc (from_kind kind t places k place lt at)
+  pub kinds_more : (next : Kind) → next ≡ kind_at t place → same_kind next (first_kind t places) ≡ true → all_of (first_kind t places) t (drop k places) ≡ all_of (first_kind t places) t places
+      → all_of (first_kind t places) t (drop (k + 1) places) ≡ all_of (first_kind t places) t places
+  kinds_more _ is same before =
+      let step : k + 1 ≡ suc k = omega arith in
+      cc (from_kind (first_kind t places))
 
-pub first_is : (t : NumberedTable) (places : List ℕ) (k place : ℕ) → k ≡ 0 → k < length places → slice_get places k ≡ Some place → first_kind t places ≡ kind_at t place
-first_is = grind arith
+  pub first_is : k ≡ 0 → first_kind t places ≡ kind_at t place
+  first_is = grind arith
 
 pub kinds_done : (texts : List Text) (t : NumberedTable) (places : List ℕ) (k : ℕ) (kind : Kind) → k ≡ length places → kind ≡ kind_after k t places → all_of (first_kind t places) t (drop k places) ≡ all_of (first_kind t places) t places
     → one_kind (map (column_at (table_value texts t).columns) places) ≡ Ok kind
@@ -74,21 +74,14 @@ each_kind kind t (p ∷ ps) e =
     let here = both _ _ e in
     grind (arith, each_kind kind t ps here.1)
 
-pub have_kind : (t : NumberedTable) (places : List ℕ) (k : ℕ) (kind : Kind) → k ≡ length places → kind ≡ kind_after k t places → all_of (first_kind t places) t (drop k places) ≡ all_of (first_kind t places) t places → HaveKind kind t places
-have_kind = grind (arith, each_kind, drop-length)
-
 -- one more cell of a row
-pub kind_there : (kind : Kind) (t : NumberedTable) (places : List ℕ) (k place : ℕ) → HaveKind kind t places → k < length places → slice_get places k ≡ Some place → kind_at t place ≡ kind
-kind_there = grind (arith, get_or_from_slice_get)
-
 pub cell_more : (kind : Kind) (row : ℕ) (t : NumberedTable) (places : List ℕ) (k place : ℕ) (cell : Cell) (column made made' : CellColumn) → k < length places → slice_get places k ≡ Some place
     → column_at t.columns place ≡ record { kind = column.kind; cells = column.cells } → slice_get column.cells row ≡ Some cell → made ≡ cells_across kind row t (take k places)
     → made' ≡ record { kind = made.kind; cells = made.cells ++ cell ∷ [] } → made' ≡ cells_across kind row t (take (k + 1) places)
-cell_more kind row t places k _ cell _ _ _ lt at is here before pushed =
-    let this : cell ≡ cell_across t row (slice_index_or places k 0) = grind (arith, get_or_from_slice_get) in
-    pushed
-    ∙ (λ j. record { kind = (before j).kind; cells = (before j).cells ++ this j ∷ [] })
-    ∙ ap (λ (l : List Cell). record { kind = kind; cells = l }) (cc (take_more places k 0 lt, map-append (cell_across t row) (take k places) (slice_index_or places k 0 ∷ [])))
+cell_more kind row t _ _ place cell _ _ _ lt at is here before pushed =
+    let this : cell ≡ cell_across t row place = grind (arith, get_or_from_slice_get) in
+    let cells = mapped_more (cell_across t row) _ _ _ _ _ _ lt at this (ap (λ (c : CellColumn). c.cells) before) refl in
+    pushed ∙ (λ j. record { kind = (before j).kind; cells = cells j })
 
 -- the kind of the columns so far
 pub kind_later : (t : NumberedTable) (places : List ℕ) (k : ℕ) (kind : Kind) → 0 < k → kind ≡ kind_after k t places → kind ≡ first_kind t places

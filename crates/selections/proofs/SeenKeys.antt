@@ -1,16 +1,16 @@
 -- Keys pick by texts what they pick by numbers, and a fault names a label whose text was given its number.
 use Rattle.{
-  std.{proofs.{Common.{◌≡◌, ◌∙◌, refl, ap, sym, arith, ◌<◌, ◌≤◌, ℕ, ℤ, suc, ◌+◌, Bool, true, ◌&&◌, nat_lt, List, [], ◌∷◌, ◌++◌, map, length, All, Option, Some, None, Result, Ok, Err, if◌then◌else◌}, lemmas.List.{length-map, Elements.{All-cons}, FromFn.{length-range_with_len, get_or-range_with_len}}}, specs.{Prelude.{IfSome, IfOk}, List.{range_with_len}, Option.{option_map}, declared.cmp.Ordering.{Ordering}, Cmp.Lexicographic.{pointwise}}},
+  std.{proofs.{Common.{◌≡◌, ◌∙◌, refl, ap, sym, arith, ◌<◌, ℕ, ℤ, suc, ◌+◌, Bool, List, [], ◌∷◌, ◌++◌, map, All, Option, Some, None, Result, Ok, Err}, lemmas.List.{length-map, Elements.{All-cons}, FromFn.{length-range_with_len, get_or-range_with_len}}}, specs.{Prelude.{IfSome}, List.{range_with_len}, Option.{option_map}, declared.cmp.Ordering.{Ordering}, Cmp.Lexicographic.{pointwise}}},
   cell_core.specs.{declared.cell.Label.{Label}, Texts.{AreDistinct}},
-  indexers.specs.{Picks.{PicksBy, pick_of, IsSpanned}, declared.keys.{PosKey.{PosKey}, Picked.{Picked}, LocKey.{LocKey}, KeyFault.{KeyFault}}, Keys.{label_key, place_key}},
+  indexers.specs.{Picks.{PicksBy, pick_of}, declared.keys.{PosKey.{PosKey}, Picked.{Picked}, LocKey.{LocKey}, KeyFault.{KeyFault}}, Keys.{label_key, place_key}},
   meaning.specs.{Text.{Text}, Cell.{LabelValue, label_datum, label_cmp}, Fault.{FaultValue, then_value}},
-  selections.{proofs.HeadingLaws.{label_decides, head_settled, rest_settled}, specs.Reaches.{label_key_value, tuples_value, pick_value, found_result, PicksBelow}},
+  selections.{proofs.HeadingLaws.{label_decides, head_settled, rest_settled}, specs.Reaches.{label_key_value, tuples_value, pick_value, found_result}},
   table_meaning.specs.{Settled.{IsSettled}, Table.{tuple_value}},
   form_meaning.specs.{Binding.{same_label}, Infix.{same_tuple}},
   form_parts.{specs.Makes.{MakesBy}, proofs.LabelLaws.{same_by_number}},
   index_core.specs.Labels.{same_number, order_in},
   frame_store.specs.declared.fault.OpFault.{OpFault},
-  pick_meaning.{specs.{Faults.{PickFault, not_there, bound_not_unique, out_of_range, no_mask_label, step_zero, then_pick, pick_seen}, Positions.{row_or_fault, rows_at}, Leading.{leads, leading_cmp}, Labels.{unless_none, rows_of_key, rows_of_keys}, Slices.{first_row, slice_on}, Masks.{cell_or_fault, kept_by_label, masked_rows}, Keys.{LabelKey, one_key, each_key, between, Pick, listed_pick, sliced_pick, key_pick, picked_by_label, PlaceKey, one_place, each_place, place_slice, picked_by_place}}, proofs.SeenLaws.{then_seen, rows_of_key-map, rows_of_keys-map, slice_on-map}},
+  pick_meaning.{specs.{Faults.{PickFault, not_there, bound_not_unique, out_of_range, no_mask_label, step_zero, then_pick, pick_seen}, Positions.{row_or_fault, rows_at}, Leading.{leads, leading_cmp}, Labels.{unless_none, rows_of_key, rows_of_keys}, Slices.{slice_on}, Masks.{cell_or_fault, kept_by_label, masked_rows}, Keys.{LabelKey, one_key, each_key, Pick, listed_pick, sliced_pick, key_pick, picked_by_label, PlaceKey, one_place, each_place, place_slice, picked_by_place}}, proofs.SeenLaws.{then_seen, rows_of_key-map, rows_of_keys-map, slice_on-map}},
   select_meaning.specs.Keys.{found_pick, found_labels},
 }
 use Rattle.indexers.specs.declared.keys.LocKey.TheVariants as key
@@ -37,12 +37,7 @@ module _ {K : Type 0} (P : K → Type 0) where
 
   keys_in : {X : Type 0} (meets : K → X → Bool) (xs : List X) (keys : List K) → All P keys → FaultIn P (rows_of_keys meets xs keys)
   keys_in _ _ [] _ = tt
-  keys_in _ xs (key ∷ keys) given =
-      then_in _ _ (unless_in _ _ (given 0 key (omega arith)))
-      (λ rows. then_in _ _ (keys_in _ xs keys (λ k d lt. given (suc k) d (omega arith))) (λ more. tt))
-
-  first_in : (cmp : K → K → Ordering) (xs : List K) (bound : Option K) → IfSome bound P → FaultIn P (first_row cmp xs bound)
-  first_in = grind arith
+  keys_in meets xs (key ∷ keys) given = grind (arith, then_in, unless_in, keys_in meets xs keys (λ k d lt. given (suc k) d (omega arith)), given 0 key (omega arith))
 
   slice_on_in : (levels : ℕ) (cmp : K → K → Ordering) (lower upper : Option K) (xs : List K) → IfSome lower P → IfSome upper P → FaultIn P (slice_on levels cmp lower upper xs)
   slice_on_in = grind (arith, then_in)
@@ -52,10 +47,7 @@ module _ {K : Type 0} (P : K → Type 0) where
 
   kept_in : (same : K → K → Bool) (labels : List K) (mask : List Bool) (row : ℕ) (xs : List K) → All P xs → FaultIn P (kept_by_label same labels mask row xs)
   kept_in _ _ _ _ [] _ = tt
-  kept_in same labels mask row (x ∷ xs) given =
-      then_in _ _
-      (cell_in x _ _ (given 0 x (omega arith)))
-      (λ kept. then_in _ _ (kept_in same labels mask (row + 1) xs (λ k d lt. given (suc k) d (omega arith))) (λ rows. tt))
+  kept_in same labels mask row (x ∷ xs) given = grind (arith, then_in, cell_in, kept_in same labels mask (row + 1) xs (λ k d lt. given (suc k) d (omega arith)), given 0 x (omega arith))
 
   pub mask_in : (same : K → K → Bool) (xs labels : List K) (mask : List Bool) → All P xs → FaultIn P (masked_rows same xs labels mask)
   mask_in = grind (arith, kept_in)
@@ -76,14 +68,6 @@ one_of k = []
 abbrev each_of : LabelKey (List LabelValue) → List (List LabelValue)
 each_of (each_key ks) = ks
 each_of k = []
-
-abbrev lower_of : LabelKey (List LabelValue) → Option (List LabelValue)
-lower_of (between lower upper) = lower
-lower_of k = None
-
-abbrev upper_of : LabelKey (List LabelValue) → Option (List LabelValue)
-upper_of (between lower upper) = upper
-upper_of k = None
 
 abbrev tuple_or : Option (List LabelValue) → List LabelValue
 tuple_or None = []
@@ -147,9 +131,6 @@ module _ (texts : List Text) (distinct : AreDistinct texts) where
       ∙ then_seen _ (slice_on levels (leading_cmp (order_in texts)) lower upper tuples) _ _ (λ rows. refl)
 
 -- the same places, whatever the keys are
-place_seen : {K J : Type 0} (f : K → J) (count : ℕ) (z : ℤ) (row : Option ℕ) → row_or_fault count z row ≡ pick_seen f (row_or_fault count z row)
-place_seen = grind arith
-
 places_seen : {K J : Type 0} (f : K → J) (count : ℕ) (zs : List ℤ) → rows_at count zs ≡ pick_seen f (rows_at count zs)
 places_seen f _ [] = refl
 places_seen {K} {J} f count (z ∷ zs) = grind (arith, places_seen f count zs)
@@ -205,57 +186,3 @@ labels_found _ _ _ k r _ distinct given settled is picks =
 -- all of so many places
 pub range_below : (n : ℕ) → All (λ place. place < n) (range_with_len 0 n)
 range_below = grind (arith, length-range_with_len, get_or-range_with_len)
-
-pub column_within : (places : List ℕ) (count n : ℕ) → count ≡ n → n ≡ 1 → places ≡ range_with_len 0 count → PicksBelow n record { places = places; single = true; dropped = 0; span = None }
-column_within = grind arith
-
-both_so : (a b : Bool) → (a && b) ≡ true → (a ≡ true) × (b ≡ true)
-both_so = grind arith
-
-record IsLeft (levels : ℕ) (p : Pick) : Type 0 where
-  one : p.single ≡ true → length p.rows ≡ 1
-  whole : p.single ≡ true → p.dropped ≡ 0
-  kept : p.sliced ≡ true → p.dropped ≡ 0
-  left : p.dropped < levels
-
-abbrev LeavesBy : {K : Type 0} → ℕ → Result Pick (PickFault K) → Type 0
-LeavesBy levels (Ok p) = IsLeft levels p
-LeavesBy levels (Err f) = Unit {0}
-
-few_left : (n levels : ℕ) → 1 ≤ levels → (if nat_lt n levels then n else 0) < levels
-few_left = grind arith
-
-key_left : (levels : ℕ) (key : List Label) (rows : List ℕ) → 1 ≤ levels → IsLeft levels (key_pick levels key rows)
-key_left = grind arith
-
-sliced_left : (levels : ℕ) (rows : List ℕ) → 1 ≤ levels → IsLeft levels (sliced_pick rows)
-sliced_left = grind arith
-
--- what is found lies below
-module _ (count levels : ℕ) (r : Result Picked KeyFault) (out : Result Picked OpFault) (meant_pick : Result Pick (PickFault (List Label))) (is : out ≡ found_result r) (picks : PicksBy pick_of r meant_pick) (leaves : LeavesBy levels meant_pick) where
-  found_so : (P : Picked → Type 0) (s : Result Picked KeyFault) → PicksBy pick_of s meant_pick → IfOk s (λ picked. IsLeft levels (pick_of picked) → P picked) → IfOk (found_result s) P
-  found_so P = grind arith
-
-  found_left : (P : Picked → Type 0) → ((picked : Picked) → IsLeft levels (pick_of picked) → P picked) → IfOk out P
-  found_left P = grind arith
-
-  found_within : IfOk r (IsSpanned count) → IfOk r (λ picked. All (λ row. row < count) picked.places) → IfOk out (PicksBelow count)
-  found_within = grind arith
-
-pub places_within : (count : ℕ) (k : PosKey) (r : Result Picked KeyFault) (out : Result Picked OpFault) → out ≡ found_result r → PicksBy pick_of r (picked_by_place count (place_key k))
-    → IfOk r (IsSpanned count) → IfOk r (λ picked. All (λ row. row < count) picked.places) → IfOk out (PicksBelow count)
-places_within = grind arith
-
-pub places_left : (count : ℕ) (k : PosKey) (r : Result Picked KeyFault) (out : Result Picked OpFault) → out ≡ found_result r → PicksBy pick_of r (picked_by_place count (place_key k)) → IfOk out (λ picked. picked.dropped ≡ 0)
-places_left = grind arith
-
-module _ (texts : List Text) (levels : ℕ) (tuples : List (List Label)) (k : LocKey) (r : Result Picked KeyFault) (out : Result Picked OpFault) (some : 1 ≤ levels) (is : out ≡ found_result r)
-    (picks : PicksBy pick_of r (picked_by_label same_number (order_in texts) levels tuples (label_key k))) where
-  abbrev by_label : Result Pick (PickFault (List Label))
-  by_label = picked_by_label same_number (order_in texts) levels tuples (label_key k)
-
-  pub labels_within : IfOk r (IsSpanned (length tuples)) → IfOk r (λ picked. All (λ row. row < length tuples) picked.places) → IfOk out (PicksBelow (length tuples))
-  labels_within = grind (arith, sliced_left, key_left)
-
-  pub labels_left : IfOk out (λ picked. picked.dropped < levels)
-  labels_left = grind (arith, sliced_left, key_left)

@@ -2,13 +2,13 @@
 use Rattle.{
   std.{proofs.{Common.{◌≡◌, ◌∙◌, refl, ap, sym, arith, ℕ, suc, ◌<◌, pos, Bool, true, false, List, [], ◌∷◌, map, length, slice_index_or, All, Option, Some, None, Ok, Err, if◌then◌else◌, unwrap_or}, lemmas.{List.{length-map}, Option.{get_or_from_slice_get}}, Math.ListN.{get_or-map}}, specs.{Prelude.{◌≢◌, IsSome, slice_get, option_and_then}, List.{list_all}}},
   cell_core.specs.declared.{cell.{Kind.{Kind}, Cell.TheVariants.{Na}, Label.{Label}}, grid.Shape.TheVariants.{Series}},
-  meaning.specs.{Text.{Text}, Cell.{CellValue, na_cell, datum, label_datum, int}, Fault.{limit, then_value}},
+  meaning.specs.{Text.{Text}, Cell.{CellValue, datum, label_datum, int}, Fault.{limit, then_value}},
   table_meaning.specs.{Settled.{IsSettled}, Table.{ColumnOf, NumberedTable, table_value, tuple_value, heading_value, column_at}},
   form_meaning.specs.{Finish.{same_kind, limited, within_limits}, Select.{heading_at}},
   select_meaning.specs.Select.{kind_across, one_kind, column_rows, cut, first_cell, row_name, row_series, row_result},
   form_parts.specs.Makes.{MakesBy},
   frame_store.{specs.{Parts.{HeadingList, table_with}, Shown.{Makes}, declared.fault.OpFault.{OpFault}}, proofs.Settling.{settled_by}},
-  selections.{specs.{Across.{cell_across}, Reaches.{columns_axis, heading_tuple, tuples_value}, Selected.{as_it_is}}, proofs.{AnswerLaws.{column_seen}, PlaceLaws.{heading_seen}}},
+  selections.{specs.{Across.{cell_across}, Reaches.{columns_axis, tuples_value}, Selected.{as_it_is}}, proofs.{AnswerLaws.{column_seen}, PlaceLaws.{heading_seen}}},
 }
 use Rattle.table_meaning.specs.Value as value
 
@@ -17,28 +17,19 @@ kinds_all : (rows : List ℕ) (kind : Kind) (cs : List (ColumnOf CellValue)) →
 kinds_all _ _ [] = refl
 kinds_all rows kind (c ∷ cs) = cc (kinds_all rows kind cs)
 
-kind_first : (rows : List ℕ) (cs : List (ColumnOf CellValue)) → kind_across (map (column_rows rows) cs) ≡ kind_across cs
-kind_first = grind arith
-
 one_kind_rows : (rows : List ℕ) (cs : List (ColumnOf CellValue)) → one_kind (map (column_rows rows) cs) ≡ one_kind cs
 one_kind_rows rows cs = grind (arith, kinds_all rows (kind_across cs) cs)
 
 -- the parts of the Series
-label_seen : (texts : List Text) (h : Option Label) → IsSome h → unwrap_or (heading_value texts h) (int (pos 0)) ∷ [] ≡ tuple_value texts (heading_tuple h)
-label_seen = grind arith
-
 labels_seen : (texts : List Text) (t : NumberedTable) (places : List ℕ) → All IsSome t.headings → All (λ place. place < length t.headings) places
     → map (λ h. unwrap_or h (int (pos 0)) ∷ []) (map (heading_at (table_value texts t)) places) ≡ tuples_value texts (columns_axis t places).tuples
 labels_seen _ t [] _ _ = refl
-labels_seen texts t (p ∷ ps) some below =
-    λ j. (ap (λ h. unwrap_or h (int (pos 0)) ∷ []) (heading_seen texts _ p) ∙ label_seen _ _ (some p None (below 0 p (omega arith)))) j
-    ∷ labels_seen texts t ps some (λ k d lt. below (suc k) d (omega arith)) j
+labels_seen texts t (p ∷ ps) some below = grind (arith, labels_seen texts t ps some (λ k d lt. below (suc k) d (omega arith)), heading_seen texts t.headings p, some p None (below 0 p (omega arith)))
 
 cells_seen : (texts : List Text) (t : NumberedTable) (row : ℕ) (places : List ℕ)
     → map first_cell (map (column_rows (row ∷ [])) (map (column_at (table_value texts t).columns) places)) ≡ map (datum texts) (map (cell_across t row) places)
 cells_seen _ t _ [] = refl
-cells_seen texts t row (p ∷ ps) =
-    λ j. (ap (λ (c : ColumnOf CellValue). slice_index_or c.cells row na_cell) (column_seen _ _ p) ∙ get_or-map (datum texts) (column_at t.columns p).cells row Na) j ∷ cells_seen texts t row ps j
+cells_seen texts t row (p ∷ ps) = cc (cells_seen texts t row ps, column_seen texts t.columns p, get_or-map (datum texts) (column_at t.columns p).cells row Na)
 
 -- the name of a row: its label, or none where it has several
 pub name_of_one : (texts : List Text) (tuple : List Label) (l : Label) → length tuple ≡ 1 → slice_get tuple 0 ≡ Some l → Some (label_datum texts l) ≡ row_name (tuple_value texts tuple)
@@ -64,15 +55,7 @@ row_table t row name kind places = table_with Series (columns_axis t places) (ro
 module _ (t : NumberedTable) (row : ℕ) (label_name : Option Label) (kind : Kind) (places : List ℕ) (some : All IsSome t.headings) (below : All (λ place. place < length t.headings) places)
     (named : (ts : List Text) → heading_value ts label_name ≡ row_name (tuple_value ts (slice_index_or t.labels row []))) where
   series_seen : (texts : List Text) → row_series (cut (table_value texts t) (row ∷ []) places) kind ≡ table_value texts (row_table t row label_name kind places)
-  series_seen texts =
-      λ j. record {
-        shape = Series;
-        columns_name = None;
-        level_names = heading_value texts t.columns_name ∷ [];
-        labels = labels_seen texts t _ some below j;
-        headings = (ap row_name (get_or-map (tuple_value texts) t.labels row []) ∙ sym (named texts)) j ∷ [];
-        columns = record { kind = kind; cells = cells_seen texts t row places j } ∷ [];
-      }
+  series_seen texts = grind (arith, labels_seen texts t places some below, get_or-map (tuple_value texts) t.labels row [], named texts, cells_seen texts t row places)
 
   row_limited : (texts : List Text) (b : Bool) → within_limits (length places) 1 ≡ b → limited (table_value texts (row_table t row label_name kind places)) ≡ then_value (if b then Ok (table_value texts (row_table t row label_name kind places)) else Err limit) (λ t. Ok (value.table t))
   row_limited = grind (arith, length-map)

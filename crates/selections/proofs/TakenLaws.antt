@@ -1,13 +1,13 @@
 -- Rows that are taken from a table.
 use Rattle.{
-  std.{proofs.{Common.{◌≡◌, ◌∙◌, refl, ap, sym, arith, ℕ, ◌+◌, true, List, [], ◌∷◌, length, map, drop, slice_index_or, Some, None, Ok}, Math.ListN.{get_or-map}, lemmas.{List.{length-map, drop-map}, Simd.{map-map}}}, specs.{Prelude.{IsSome}, List.{range_with_len}}},
+  std.{proofs.{Common.{◌≡◌, ◌∙◌, refl, ap, sym, arith, ℕ, true, List, [], ◌∷◌, length, map, drop, slice_index_or, Some, None, Ok}, Math.ListN.{get_or-map}, lemmas.{List.{length-map, drop-map}, Simd.{map-map}}}, specs.{Prelude.{IsSome}, List.{range_with_len}}},
   cell_core.specs.declared.{cell.{Label.{Label}, Cell.{Cell, TheVariants.{Na}}}, grid.{Rows.{Rows}, Shape.{Shape}}},
   meaning.specs.{Text.{Text}, Cell.{CellValue, na_cell, datum}},
   table_meaning.specs.{Settled.{IsSettled}, Table.{ColumnOf, NumberedTable, column_at, table_value, tuple_value, column_value}, Change.{cut_columns}},
   form_meaning.specs.Finish.{limited, within_limits},
   select_meaning.specs.Select.{column_rows, rows_taken, without_leading},
   frame_store.{specs.{Objects.{tables, table_at, with_object}, World.{world, IsSettledWorld, Forms}, declared.{arguments.Value.TheVariants.{Object}, object.ObjId.{ObjId}, store.Store.{Store}}, Parts.{HeadingList, table_with, axis_of}}, proofs.Settling.{longer_self, settled_with, table_settled, level_names_part, labels_part, columns_part}},
-  selections.{proofs.{AnswerLaws.{column_seen, new_answers, table_is_settled}, PickedLaws.{list_is}, PlanLaws.{without_none}}, specs.{Chosen.{columns_at, chosen, chosen_under, AreSettledHeadings}, Plans.{rows_in, levels_lost, taken_table}, declared.planning.Taken.{Taken, TheVariants.{Slice, Listed, Under}}}},
+  selections.{proofs.{AnswerLaws.{column_seen, new_answers, table_is_settled}, PickedLaws.{listed_is}, PlanLaws.{without_none}}, specs.{Chosen.{columns_at, chosen, chosen_under, AreSettledHeadings}, Plans.{rows_in, levels_lost, taken_table}, declared.planning.Taken.{Taken, TheVariants.{Slice, Listed, Under}}}},
   multi_index.specs.Axes.{AxisValue, taken_axis},
   pick_meaning.specs.Rows.{rows_of},
 }
@@ -20,20 +20,19 @@ cut_is_chosen = grind (arith, map-map)
 -- what is chosen, as it is seen
 cells_seen : (texts : List Text) (rows : List ℕ) (cells : List Cell) → map (datum texts) (map (λ row. slice_index_or cells row Na) rows) ≡ map (λ row. slice_index_or (map (datum texts) cells) row na_cell) rows
 cells_seen _ [] _ = refl
-cells_seen texts (r ∷ rs) cells = λ j. sym (get_or-map (datum texts) cells r Na) j ∷ cells_seen texts rs cells j
+cells_seen texts (r ∷ rs) cells = cc (get_or-map (datum texts) cells r Na, cells_seen texts rs cells)
 
 pub labels_seen : (texts : List Text) (rows : List ℕ) (labels : List (List Label)) → map (tuple_value texts) (map (λ row. slice_index_or labels row []) rows) ≡ map (λ row. slice_index_or (map (tuple_value texts) labels) row []) rows
 labels_seen _ [] _ = refl
-labels_seen texts (r ∷ rs) labels = λ j. sym (get_or-map (tuple_value texts) labels r []) j ∷ labels_seen texts rs labels j
+labels_seen texts (r ∷ rs) labels = cc (get_or-map (tuple_value texts) labels r [], labels_seen texts rs labels)
 
 pub columns_seen : (texts : List Text) (rows columns : List ℕ) (t : NumberedTable) → map (column_value texts) (columns_at rows columns t) ≡ map (column_rows rows) (map (column_at (table_value texts t).columns) columns)
 columns_seen _ _ [] t = refl
-columns_seen texts rows (p ∷ ps) t =
-    λ j. (ap (λ (l : List CellValue). record { kind = (column_at t.columns p).kind; cells = l }) (cells_seen _ _ _) ∙ ap (column_rows rows) (sym (column_seen texts _ p))) j ∷ columns_seen texts rows ps t j
+columns_seen texts rows (p ∷ ps) t = cc (cells_seen texts rows (column_at t.columns p).cells, column_seen texts t.columns p, columns_seen texts rows ps t)
 
 -- all columns of some rows
 all_columns : (columns : List (ColumnOf CellValue)) → map (column_at columns) (range_with_len 0 (length columns)) ≡ columns
-all_columns columns = list_is _ _ 0 _ (λ k lt. let e : 0 + k ≡ k = omega arith in ap (column_at columns) e)
+all_columns columns = listed_is columns _
 
 pub chosen_rows : (texts : List Text) (headings : HeadingList) (rows columns : List ℕ) (t : NumberedTable) → headings ≡ record { columns_name = t.columns_name; labels = t.headings } → columns ≡ range_with_len 0 (length t.columns)
     → table_value texts (chosen t.shape headings rows columns t) ≡ rows_taken (table_value texts t) rows

@@ -1,27 +1,13 @@
 -- Lists of truth values.
 use Rattle.{
-  std.{proofs.Common.{◌≡◌, refl, arith, ℕ, ◌<◌, Bool, true, false, ◌&&◌, List, [], ◌∷◌, length, Option, Some, None}, specs.{Prelude.{nat_lt}, Option.{option_map}, List.{list_all}}},
-  cell_core.specs.declared.cell.Cell.{Cell},
-  meaning.specs.{Text.{Text}, Cell.{CellValue, datum}},
+  std.{proofs.Common.{◌≡◌, refl, arith, ◌<◌, Bool, true, false, ◌&&◌, List, [], ◌∷◌, length}, specs.List.{list_all}},
+  meaning.specs.Text.{Text},
   table_meaning.specs.Value.{cell, table, GivenList, nothing, one, row, many, entries, no_given, more_given},
   form_meaning.specs.{Binding.{each, is_scalar, is_truth}, Select.{cells_of}},
   select_meaning.specs.Select.{are_truths},
   frame_store.specs.{declared.arguments.Item.{Item}, Objects.{Tables}, Arguments.{items_of}},
   selections.specs.Selected.{each_truth},
 }
-use Rattle.cell_core.specs.declared.cell.Cell.TheVariants as code_cell
-
--- a part by its scalar
-abbrev pub is_truth_scalar : Option CellValue → Bool
-is_truth_scalar None = false
-is_truth_scalar (Some c) = is_truth c
-
-abbrev pub is_truth_cell : Option Cell → Bool
-is_truth_cell (Some (code_cell.Bool b)) = true
-is_truth_cell o = false
-
-truth_cell : (texts : List Text) (o : Option Cell) → is_truth_scalar (option_map (datum texts) o) ≡ is_truth_cell o
-truth_cell = grind arith
 
 -- a list of truth values alone is one of scalars
 truths_are : (parts : GivenList) → (each is_scalar parts && list_all is_truth (cells_of parts)) ≡ each_truth parts
@@ -32,9 +18,6 @@ truths_are (more_given nothing rest) = refl
 truths_are (more_given (row parts) rest) = refl
 truths_are (more_given (many parts) rest) = refl
 truths_are (more_given (entries pairs) rest) = refl
-
-positive : (n : ℕ) → 0 < n → nat_lt 0 n ≡ true
-positive = grind arith
 
 some_cell : (live : Tables) (texts : List Text) (items : List Item) (b : Bool) → 0 < length items → each is_scalar (items_of live texts items) ≡ b → (b && are_truths (cells_of (items_of live texts items))) ≡ (b && list_all is_truth (cells_of (items_of live texts items)))
 some_cell _ _ _ false _ _ = refl

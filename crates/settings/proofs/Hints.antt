@@ -3,7 +3,7 @@ use Rattle.{
   frame_store.proofs.Settling.{labels_part},
   std.proofs.{lemmas.List.{length-map}, Common.{nat_eq}},
   form_parts.proofs.GapLaws.{rows_met, found_rows, rows_refused, rows_counted, rows_below},
-  settings.proofs.{CellLaws.{reached_settled, reached_seen}, ColumnLaws.{map-replicate}, GrowLaws.{column_filled, grown_by, one_added, fresh_headed}},
+  settings.proofs.{CellLaws.{reached_settled, reached_seen}, ColumnLaws.{map-replicate}, GrowLaws.{column_filled, one_added, fresh_headed}},
 }
 
 pub ruleset aligned_rows = (labels_part, length-map, nat_eq, rows_met, found_rows, rows_refused, rows_counted, rows_below)
@@ -12,4 +12,4 @@ pub ruleset values_by_label = (reached_settled, length-map, reached_seen)
 
 pub ruleset values_for = (map-replicate)
 
-pub ruleset filled = (column_filled, grown_by, one_added, fresh_headed)
+pub ruleset filled = (column_filled, one_added, fresh_headed)

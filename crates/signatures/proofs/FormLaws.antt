@@ -16,15 +16,13 @@ both : (a b : Bool) → (a && b) ≡ true → (a ≡ true) × (b ≡ true)
 both = grind arith
 
 each_at : (test : Given → Bool) (live : Tables) (texts : List Text) (items : List Item) → each test (items_of live texts items) ≡ true → All (λ item. IsTrue (test (item_of live texts item))) items
-each_at _ _ _ [] h k d lt = grind arith
-each_at _ _ _ (item ∷ rest) h zero d _ = (both _ _ h).0
-each_at test live texts (item ∷ rest) h (suc k) d lt = each_at test live texts rest (both _ _ h).1 k d (omega (arith, lt))
+each_at test live texts [] h k d = grind arith
+each_at test live texts (item ∷ rest) h zero d = grind (arith, both)
+each_at test live texts (item ∷ rest) h (suc k) d = grind (arith, both, each_at test live texts rest)
 
 each_from : (test : Given → Bool) (live : Tables) (texts : List Text) (items : List Item) → All (λ item. IsTrue (test (item_of live texts item))) items → each test (items_of live texts items) ≡ true
-each_from _ _ _ [] h = refl
-each_from test live texts (item ∷ rest) h =
-    let first = h 0 item (omega arith) in
-    search (each_from test live texts rest (λ k d lt. h (suc k) d (omega (arith, lt))))
+each_from test live texts [] h = grind arith
+each_from test live texts (item ∷ rest) h = grind (arith, h 0 item, each_from test live texts rest (λ k d lt. h (suc k) d (omega (arith, lt))))
 
 pub each_told : (test : Given → Bool) (live : Tables) (texts : List Text) (items : List Item) (b : Bool) → (IsTrue b ↔ All (λ item. IsTrue (test (item_of live texts item))) items) → b ≡ each test (items_of live texts items)
 each_told = grind (arith, each_from, each_at)

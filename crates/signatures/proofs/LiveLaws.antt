@@ -9,12 +9,9 @@ live_take _ zero _ h = tt
 live_take _ (suc n) [] h = tt
 live_take live (suc n) (g ∷ gs) h = (h.0, live_take live n gs h.1)
 
-live_drop : (live : Tables) (gs : List Named) → AreLive live gs → AreLive live (drop 1 gs)
-live_drop = grind arith
-
 pub live_after : (live : Tables) (n : ℕ) (gs : List Named) → AreLive live gs → AreLive live (take n (drop 1 gs))
-live_after = search (live_take, live_drop)
+live_after = grind (live_take, arith)
 
 pub live_first : (live : Tables) (gs : List Named) (d : Named) → 1 ≤ length gs → AreLive live gs → IsLiveArgument live (get_or gs 0 d).value
-live_first _ [] d some h = grind arith
-live_first _ (g ∷ gs) d _ h = h.0
+live_first live [] = grind arith
+live_first live (g ∷ gs) = grind arith

@@ -1,10 +1,10 @@
 -- Binding by walks meets its rule.
 use Rattle.{
-  std.{proofs.{Common.{◌≡◌, ◌∙◌, ◌<◌, ◌+◌, ℕ, zero, suc, Bool, true, false, not, cond, List, [], ◌∷◌, length, take, refl, ap, sym, arith, if◌then◌else◌}, lemmas.{Bool.{eqb-true, eqb-false, lt-ltb}, List.Sums.{sum_by-cons}, Option.{slice_get_within}}}, specs.Prelude.{slice_get, count_by, nat_eq, Option, Some, None}},
+  std.{proofs.{Common.{◌≡◌, ◌∙◌, ◌+◌, ℕ, zero, suc, Bool, true, false, not, cond, List, [], ◌∷◌, length, take, refl, sym, arith, if◌then◌else◌}, lemmas.{Bool.{eqb-true, eqb-false, lt-ltb}, List.Sums.{sum_by-cons}, Option.{slice_get_within}}}, specs.Prelude.{slice_get, count_by, nat_eq, Option, Some, None}},
   meaning.specs.Text.{Text},
   table_meaning.specs.Value.{Given, NamedGiven},
   form_meaning.specs.{declared.Parameter.{Parameter}, Binding.{takes, or_stand_in, goes_to, counted, given_at, is_given, taken_by, listed_by, fit, are_listed, argument_at, arguments_from, may_be_omitted, none_missing, Bound, not_taken, not_listed, bound, bound_of}},
-  signatures.specs.{Filled.{Fills}, Rule.{is_unnamed, place_after, HasPlace, IsTaken, HasArgument, AreTaken, AreListed, AreInOrder, IsBinding}},
+  signatures.specs.{Filled.{Fills}, Rule.{is_unnamed, HasPlace, IsTaken, HasArgument, AreTaken, AreListed, AreInOrder, IsBinding}},
 }
 use Rattle.form_meaning.specs.declared.Omitted.TheVariants as omitted
 
@@ -57,13 +57,9 @@ given_goes ps k (x ∷ gs) place a h =
     ] refl h
 
 none_goes : (ps : List Parameter) (k : ℕ) (gs : List NamedGiven) (place : ℕ) → given_at ps k gs place ≡ None → (i : ℕ) (g : NamedGiven) → slice_get gs i ≡ Some g → goes_after ps k gs i g ≡ place → ⊥
-none_goes ps k [] place h i g is goes = cc
-none_goes ps k (x ∷ gs) place h zero g is goes = grind (arith, eqb-false, goes_first, some_is)
-none_goes ps k (x ∷ gs) place h (suc i) g is goes =
-    elim (nat_eq (goes_to ps k x.name) place) as (λ b. cond b (Some x.value) (given_at ps (counted k x.name) gs place) ≡ None → ⊥) [
-      | true ↦ λ none. cc
-      | false ↦ λ none. none_goes ps (counted k x.name) gs place none i g is (sym (goes_next ps k x gs i g) ∙ goes)
-    ] h
+none_goes ps k [] place h i g = grind arith
+none_goes ps k (x ∷ gs) place h zero g = grind (arith, eqb-false, goes_first, some_is)
+none_goes ps k (x ∷ gs) place h (suc i) g = grind (arith, goes_next ps k x gs i g, none_goes ps (counted k x.name) gs place)
 
 -- the walks over the arguments
 
@@ -76,27 +72,20 @@ AllApart ps k gs = (i j : ℕ) (g h : NamedGiven) → slice_get gs i ≡ Some g 
 abbrev EachListed : List Parameter → ℕ → List NamedGiven → Type 0
 EachListed ps k gs = (i : ℕ) (g : NamedGiven) → slice_get gs i ≡ Some g → listed_by (slice_get ps (goes_after ps k gs i g)) g.value ≡ true
 
-first_taken : (ps : List Parameter) (k : ℕ) (x g : NamedGiven) → Some x ≡ Some g → taken_by (slice_get ps (goes_to ps k x.name)) x.value ≡ true → taken_by (slice_get ps (goes_to ps (k + 0) g.name)) g.value ≡ true
-first_taken = grind (arith, goes_first, some_is)
-
 fit_taken : (ps : List Parameter) (k : ℕ) (gs : List NamedGiven) → fit ps k gs ≡ true → EachTaken ps k gs
-fit_taken _ k [] h i g is = cc
-fit_taken _ k (x ∷ gs) h zero g is = grind (arith, first_taken, if_both)
-fit_taken ps k (x ∷ gs) h (suc i) g is =
-    ap (λ n. taken_by (slice_get ps n) g.value) (goes_next ps k x gs i g) ∙ fit_taken ps (counted k x.name) gs (if_both _ _ h).1 i g is
+fit_taken ps k [] h i g = grind arith
+fit_taken ps k (x ∷ gs) h zero g = grind (arith, goes_first, some_is, if_both)
+fit_taken ps k (x ∷ gs) h (suc i) g = grind (arith, goes_next ps k x gs i g, if_both, fit_taken ps (counted k x.name) gs)
 
 first_apart : (ps : List Parameter) (k : ℕ) (x : NamedGiven) (gs : List NamedGiven) → given_at ps (counted k x.name) gs (goes_to ps k x.name) ≡ None → (g : NamedGiven) → Some x ≡ Some g → (j : ℕ) (h : NamedGiven) → slice_get gs j ≡ Some h → goes_to ps (k + 0) g.name ≡ goes_after ps k (x ∷ gs) (suc j) h → ⊥
-first_apart ps k x gs none g is j h later e =
-    none_goes ps (counted k x.name) gs (goes_to ps k x.name) none j h later
-    (cc (goes_next ps k x gs j h, goes_first ps k g.name, some_is g x g is))
+first_apart ps k x gs none g is j h = grind (arith, none_goes, goes_next ps k x gs j h, goes_first)
 
 fit_apart : (ps : List Parameter) (k : ℕ) (gs : List NamedGiven) → fit ps k gs ≡ true → AllApart ps k gs
-fit_apart _ k [] fitted i j g h is later e = cc
-fit_apart _ k (x ∷ gs) _ zero zero g h _ _ e = refl
-fit_apart _ k (x ∷ gs) fitted zero (suc j) g h is later e = grind (arith, first_apart, if_both)
-fit_apart _ k (x ∷ gs) fitted (suc i) zero g h is later e = grind (arith, first_apart, if_both)
-fit_apart ps k (x ∷ gs) fitted (suc i) (suc j) g h is later e =
-    ap suc (fit_apart ps (counted k x.name) gs (if_both _ _ fitted).1 i j g h is later (sym (goes_next ps k x gs i g) ∙ e ∙ goes_next ps k x gs j h))
+fit_apart ps k [] fitted i j g h = grind arith
+fit_apart ps k (x ∷ gs) _ zero zero g h = grind arith
+fit_apart ps k (x ∷ gs) fitted zero (suc j) g h = grind (arith, first_apart, if_both)
+fit_apart ps k (x ∷ gs) fitted (suc i) zero g h = grind (arith, first_apart, if_both)
+fit_apart ps k (x ∷ gs) fitted (suc i) (suc j) g h = grind (arith, goes_next ps k x gs i g, goes_next ps k x gs j h, if_both, fit_apart ps (counted k x.name) gs)
 
 none_given : (ps : List Parameter) (k : ℕ) (x : NamedGiven) (gs : List NamedGiven) → AllApart ps k (x ∷ gs) → (o : Option Given) → given_at ps (counted k x.name) gs (goes_to ps k x.name) ≡ o → not (is_given o) ≡ true
 none_given _ k x _ apart None _ = refl
@@ -106,26 +95,19 @@ none_given ps k x gs apart (Some a) is =
     search
 
 fit_from : (ps : List Parameter) (k : ℕ) (gs : List NamedGiven) → EachTaken ps k gs → AllApart ps k gs → fit ps k gs ≡ true
-fit_from _ k [] taken apart = refl
+fit_from ps k [] taken apart = grind arith
 fit_from ps k (x ∷ gs) taken apart =
-    let first : taken_by (slice_get ps (goes_to ps k x.name)) x.value ≡ true = cc (goes_first ps k x.name, taken zero x refl) in
-    let alone : not (is_given (given_at ps (counted k x.name) gs (goes_to ps k x.name))) ≡ true = search none_given in
-    let rest = fit_from ps (counted k x.name) gs
-    (λ i g is. ap (λ n. taken_by (slice_get ps n) g.value) (sym (goes_next ps k x gs i g)) ∙ taken (suc i) g is)
-    (λ i j g h is later e. let next : suc i ≡ suc j = search goes_next in omega (arith, next)) in
-    search both_if
+    let rest = fit_from ps (counted k x.name) gs (λ i g is. grind (arith, goes_next ps k x gs i g, taken (suc i) g is)) (λ i j g h is later e. grind (arith, goes_next ps k x gs i g, goes_next ps k x gs j h, apart (suc i) (suc j) g h is later)) in
+    grind (arith, goes_first, taken zero x, none_given, both_if)
 
 listed_each : (ps : List Parameter) (k : ℕ) (gs : List NamedGiven) → are_listed ps k gs ≡ true → EachListed ps k gs
-listed_each _ k [] h i g is = cc
-listed_each _ k (x ∷ gs) h zero g is = grind (arith, goes_first, some_is)
-listed_each ps k (x ∷ gs) h (suc i) g is =
-    ap (λ n. listed_by (slice_get ps n) g.value) (goes_next ps k x gs i g) ∙ listed_each ps (counted k x.name) gs (if_both _ _ h).1 i g is
+listed_each ps k [] h i g = grind arith
+listed_each ps k (x ∷ gs) h zero g = grind (arith, goes_first, some_is)
+listed_each ps k (x ∷ gs) h (suc i) g = grind (arith, goes_next ps k x gs i g, if_both, listed_each ps (counted k x.name) gs)
 
 listed_from : (ps : List Parameter) (k : ℕ) (gs : List NamedGiven) → EachListed ps k gs → are_listed ps k gs ≡ true
-listed_from _ k [] _ = refl
-listed_from ps k (x ∷ gs) each =
-    let first : listed_by (slice_get ps (goes_to ps k x.name)) x.value ≡ true = cc (goes_first ps k x.name, each zero x refl) in
-    both_if _ _ first (listed_from ps (counted k x.name) gs (λ i g is. ap (λ n. listed_by (slice_get ps n) g.value) (sym (goes_next ps k x gs i g)) ∙ each (suc i) g is))
+listed_from ps k [] each = grind arith
+listed_from ps k (x ∷ gs) each = grind (arith, goes_first, each zero x, goes_next ps k x gs, listed_from ps (counted k x.name) gs (λ i g is. grind (arith, goes_next ps k x gs i g, each (suc i) g is)))
 
 -- the walks over the parameters
 
@@ -139,15 +121,13 @@ there_at : (ps : List Parameter) (gs : List NamedGiven) (m n : ℕ) (p : Paramet
 there_at _ _ m n p e h = cc
 
 missing_each : (ps : List Parameter) (gs : List NamedGiven) (m : ℕ) (rest : List Parameter) → none_missing ps gs m rest ≡ true → EachThere ps gs m rest
-missing_each _ _ m [] h j p is = cc
-missing_each _ _ m (x ∷ rest) h zero p is = grind (arith, there_at, some_is, if_both)
-missing_each ps gs m (x ∷ rest) h (suc j) p is = there_at ps gs ((m + 1) + j) (m + suc j) p (omega arith) (missing_each ps gs (m + 1) rest (if_both _ _ h).1 j p is)
+missing_each ps gs m [] h j p = grind arith
+missing_each ps gs m (x ∷ rest) h zero p = grind (arith, there_at, some_is, if_both)
+missing_each ps gs m (x ∷ rest) h (suc j) p = grind (arith, there_at ps gs ((m + 1) + j) (m + suc j) p, missing_each ps gs (m + 1) rest)
 
 missing_from : (ps : List Parameter) (gs : List NamedGiven) (m : ℕ) (rest : List Parameter) → EachThere ps gs m rest → none_missing ps gs m rest ≡ true
-missing_from _ _ m [] _ = refl
-missing_from ps gs m (x ∷ rest) each =
-    both_if _ _ (there_at ps gs (m + 0) m x (omega arith) (each zero x refl))
-    (missing_from ps gs (m + 1) rest (λ j p is. there_at ps gs (m + suc j) ((m + 1) + j) p (omega arith) (each (suc j) p is)))
+missing_from ps gs m [] each = grind arith
+missing_from ps gs m (x ∷ rest) each = grind (arith, there_at, each zero x, missing_from ps gs (m + 1) rest (λ j p is. grind (arith, there_at, each (suc j) p is)))
 
 arguments_at : (ps : List Parameter) (gs : List NamedGiven) (m : ℕ) (rest : List Parameter) (j : ℕ) (p : Parameter) → slice_get rest j ≡ Some p → slice_get (arguments_from ps gs m rest) j ≡ Some (argument_at ps gs (m + j))
 arguments_at _ _ m [] j p is = cc
@@ -155,22 +135,16 @@ arguments_at _ _ m (x ∷ rest) zero p is = grind arith
 arguments_at ps gs m (x ∷ rest) (suc j) p is = grind (arith, arguments_at ps gs (m + 1) rest)
 
 arguments_count : (ps : List Parameter) (gs : List NamedGiven) (m : ℕ) (rest : List Parameter) → length (arguments_from ps gs m rest) ≡ length rest
-arguments_count _ _ m [] = refl
-arguments_count ps gs m (x ∷ rest) = ap suc (arguments_count ps gs (m + 1) rest)
+arguments_count ps gs m [] = grind arith
+arguments_count ps gs m (x ∷ rest) = grind (arith, arguments_count ps gs (m + 1) rest)
 
 -- places
 
-placed_goes : (ps : List Parameter) (before : List NamedGiven) (name : Option Text) (place : ℕ) → place_after ps before name ≡ Some place → goes_to ps (0 + unnamed before) name ≡ place
-placed_goes = grind (arith, some_is)
-
-goes_placed : (ps : List Parameter) (before : List NamedGiven) (name : Option Text) (place : ℕ) → goes_to ps (0 + unnamed before) name ≡ place → place < length ps → place_after ps before name ≡ Some place
-goes_placed = grind (arith, lt-ltb)
-
 has_place : (ps : List Parameter) (gs : List NamedGiven) (i : ℕ) (g : NamedGiven) (place : ℕ) (p : Parameter) → slice_get gs i ≡ Some g → goes_after ps 0 gs i g ≡ place → slice_get ps place ≡ Some p → HasPlace ps gs i g place
-has_place = search (goes_placed, slice_get_within)
+has_place = grind (arith, lt-ltb, slice_get_within)
 
 goes_of : (ps : List Parameter) (gs : List NamedGiven) (i : ℕ) (g : NamedGiven) (place : ℕ) → HasPlace ps gs i g place → goes_after ps 0 gs i g ≡ place
-goes_of _ _ i g _ h = search placed_goes
+goes_of = grind (arith, some_is)
 
 taken_at : (ps : List Parameter) (gs : List NamedGiven) (i : ℕ) (g : NamedGiven) → slice_get gs i ≡ Some g → (o : Option Parameter) → slice_get ps (goes_after ps 0 gs i g) ≡ o → taken_by o g.value ≡ true → IsTaken ps gs i g
 taken_at = grind (arith, has_place)
@@ -197,15 +171,13 @@ taken_from ps gs fitted given =
 
 fit_of : (ps : List Parameter) (gs : List NamedGiven) → AreTaken ps gs → fit ps 0 gs ≡ true
 fit_of ps gs h =
-    fit_from ps 0 gs
-    (λ i g is. let t = h.each i g is in ap (λ n. taken_by (slice_get ps n) g.value) (goes_of ps gs i g t.place t.placed) ∙ ap (λ o. taken_by o g.value) t.found ∙ t.taken)
+    fit_from ps 0 gs (λ i g is. grind (arith, h.each i g is, goes_of ps gs i g))
     (λ i j g k is later e.
     let t = h.each i g is in
     h.apart i j t.place g k t.placed (has_place ps gs j k t.place t.parameter later (sym e ∙ (goes_of ps gs i g t.place t.placed)) t.found))
 
 none_missing_of : (ps : List Parameter) (gs : List NamedGiven) → AreTaken ps gs → none_missing ps gs 0 ps ≡ true
-none_missing_of ps gs h =
-    missing_from ps gs 0 ps (λ j p found. there_at ps gs j (0 + j) p (omega arith) (grind (arith, none_goes, goes_of)))
+none_missing_of ps gs h = missing_from ps gs 0 ps (λ j p found. grind (arith, there_at ps gs j (0 + j) p, none_goes, goes_of))
 
 listed_found : (ps : List Parameter) (gs : List NamedGiven) → are_listed ps 0 gs ≡ true → AreListed ps gs
 listed_found = grind (arith, goes_of, listed_each)
@@ -220,20 +192,13 @@ given_value ps gs h i place g placed None is = search (none_goes, goes_of)
 given_value ps gs h i place g placed (Some a) is =
     let t = h.each i g placed.argument in
     let there = given_goes ps 0 gs place a is in
-    let same : t.place ≡ place = search goes_of in
-    let other = has_place ps gs there.index there.argument place t.parameter there.is_at there.goes (ap (slice_get ps) (sym same) ∙ t.found) in
-    let one = h.apart i there.index place g there.argument placed other in
-    search some_is
+    grind (arith, goes_of, has_place ps gs there.index there.argument place t.parameter there.is_at there.goes, h.apart i there.index place g there.argument placed, some_is)
 
 in_order : (ps : List Parameter) (gs : List NamedGiven) → AreTaken ps gs → AreInOrder ps gs (arguments_from ps gs 0 ps)
 in_order ps gs h =
     record {
       as_many = arguments_count ps gs 0 ps;
-      given = λ i place g placed.
-          let t = h.each i g placed.argument in
-          let same : t.place ≡ place = search goes_of in
-          let zeroth : 0 + place ≡ place = omega arith in
-          arguments_at ps gs 0 ps place t.parameter (ap (slice_get ps) (sym same) ∙ t.found) ∙ ap (λ n. Some (argument_at ps gs n)) zeroth ∙ ap Some (given_value ps gs h i place g placed _ refl);
+      given = λ i place g placed. grind (arith, h.each i g placed.argument, goes_of, arguments_at ps gs 0 ps place, given_value ps gs h i place g placed);
       omitted = grind (arith, arguments_at, argument_of);
     }
 

@@ -1,20 +1,19 @@
 -- The scalars of a list are the same among any objects.
 use Rattle.{
-  std.proofs.Common.{arith, ◌≡◌, ◌∙◌, refl, ap, sym, ℕ, List, [], ◌∷◌, ◌++◌, Some},
+  std.proofs.Common.{arith, ◌≡◌, refl, ℕ, List, [], ◌∷◌, ◌++◌, Some},
   meaning.specs.Text.{Text},
   table_meaning.specs.{Settled.{IsSettled}, Value.{Given, GivenList, more_given, scalar_in, list_in}},
   form_meaning.specs.Select.{cells_of},
-  frame_store.specs.{declared.arguments.{Value.TheVariants.{Object, Scalar}, Item.{Item, One as OneItem, Row' as RowItem'}}, Objects.{Tables}, Arguments.{item_of, items_of, arguments_of}},
-  signatures.{specs.{Bound.{Tells}, Scalars.{scalars, with_cell}, declared.bound.Bound.{Bound}}, proofs.ToldLaws.{told_settled, some_same}},
+  frame_store.specs.{declared.arguments.Item.{Item, One as OneItem}, Objects.{Tables}, Arguments.{item_of, items_of, arguments_of}},
+  signatures.{specs.{Bound.{Tells}, Scalars.{scalars, with_cell}, declared.bound.Bound.{Bound}}, proofs.ToldLaws.{told_settled}},
 }
 
 pub cells_of_more : (g : Given) (rest : GivenList) → cells_of (more_given g rest) ≡ with_cell (scalar_in g) (cells_of rest)
 cells_of_more = grind arith
 
 scalar_same : (live other : Tables) (texts : List Text) (item : Item) → scalar_in (item_of live texts item) ≡ scalar_in (item_of other texts item)
-scalar_same _ _ _ (OneItem (Object id)) = refl
-scalar_same _ _ _ (OneItem (Scalar c)) = refl
-scalar_same _ _ _ (RowItem' shape parts) = refl
+scalar_same live other texts (OneItem v) = grind arith
+scalar_same _ _ _ _ = grind arith
 
 any_objects : (live other : Tables) (texts : List Text) (items : List Item) → cells_of (items_of live texts items) ≡ cells_of (items_of other texts items)
 any_objects _ _ _ [] = refl
@@ -27,6 +26,4 @@ scalars_are = search any_objects
 pub items_settled : (b : Bound) (place : ℕ) (items : List Item) (live : Tables) (dict : List Text) → Tells b place list_in (λ live texts. Some (items_of live texts items))
     → IsSettled (arguments_of live) dict b.args.now → IsSettled scalars dict items
 items_settled b place items live dict tells settled = λ more.
-    sym (scalars_are live (dict ++ more) items)
-    ∙ ap cells_of (some_same _ _ (told_settled b place list_in (λ live texts. Some (items_of live texts items)) live dict tells settled more))
-    ∙ scalars_are live dict items
+    grind (arith, scalars_are live (dict ++ more) items, scalars_are live dict items, told_settled b place list_in (λ live texts. Some (items_of live texts items)) live dict tells settled more)

@@ -1,17 +1,17 @@
 -- What always stands at a place.
+use mathlib.Core.Bool.{Bool-set}
 use Rattle.{
-  std.{proofs.Common.{rules, arith, ◌≡◌, Bool, true, false, not, ◌&&◌, ◌||◌, ⊎_elim, Option, Some, None, if◌then◌else◌}, specs.{Prelude.{IsSome}, Option.{option_map}}},
+  std.{proofs.{Math.Logic.{∥∥₁_elim}, Common.{ℕ, List, rules, arith, ◌≡◌, Bool, true, false, not, ◌&&◌, ◌||◌, ⊎_elim, Option, Some, None, if◌then◌else◌}}, specs.{Prelude.{IsSome}, Option.{option_map}}},
+  meaning.specs.Text.{Text},
+  frame_store.specs.Objects.{Tables},
+  signatures.specs.{Bound.{form_at, stands_at}, declared.bound.Bound.{Bound}, Filled.{Fills, is_sure, sure_form}},
   table_meaning.specs.Value.{Given, nothing, scalar_in, object_in, list_in, dict_in},
   form_meaning.specs.{declared.{Form.{Form}, Parameter.{Parameter}}, Binding.{takes, stands_for, may_be_omitted, whole_in, truth_in, text_in}},
-  signatures.specs.Filled.{Fills, is_sure, sure_form},
 }
 use Rattle.form_meaning.specs.declared.Form.TheVariants as form
 
 first_of : (a b : Bool) → (not a && b) ≡ true → a ≡ false
 first_of = grind arith
-
-second_of : (a b : Bool) → (not a && b) ≡ true → b ≡ true
-second_of = grind arith
 
 -- a parameter of the form takes it, and doesn't take None
 record IsTaken (f : Form) (g : Given) : Type 0 where
@@ -29,21 +29,15 @@ sure_at (Some p) f g is fills =
     let h = form_is p f (is_sure p) is in
     record {
       parameter = p;
-      taken = grind (arith, ⊎_elim, second_of);
+      taken = grind (arith, ⊎_elim);
       refused = cc (h.1, first_of (takes p nothing) (not (may_be_omitted p.omitted) || takes p (stands_for p.omitted)) h.0);
     }
 
 abbrev of_form : Parameter → Form → Parameter
 of_form p f = record p { form = f }
 
-whole_taken : (p : Parameter) (g : Given) → takes (of_form p form.Whole) g ≡ true → takes (of_form p form.Whole) nothing ≡ false → IsSome (whole_in g)
-whole_taken = grind arith
-
 frame_taken : (p : Parameter) (g : Given) → takes (of_form p form.Frame) g ≡ true → takes (of_form p form.Frame) nothing ≡ false → IsSome (object_in g)
 frame_taken = grind arith
-
-list_taken : (p : Parameter) (g : Given) → takes (of_form p form.Scalars) g ≡ true → takes (of_form p form.Scalars) nothing ≡ false → IsSome (list_in g)
-list_taken = grind arith
 
 -- what is read where a form always stands
 abbrev Sure : Form → {A : Type 0} → (Given → Option A) → Type 0
@@ -53,7 +47,7 @@ pub scalar_sure : Sure form.Scalar scalar_in
 scalar_sure = grind (arith, sure_at)
 
 pub whole_sure : Sure form.Whole whole_in
-whole_sure = search (rules, sure_at, whole_taken)
+whole_sure = grind (rules, sure_at, arith)
 
 pub truth_sure : Sure form.Truth truth_in
 truth_sure = search (rules, sure_at)
@@ -65,7 +59,7 @@ pub frame_sure : Sure form.Frame object_in
 frame_sure = grind (arith, sure_at, frame_taken)
 
 pub list_sure : Sure form.Scalars list_in
-list_sure = grind (arith, sure_at, list_taken)
+list_sure = grind (arith, sure_at)
 
 pub dict_sure : Sure form.Dict dict_in
 dict_sure = grind (arith, sure_at)
@@ -73,3 +67,8 @@ dict_sure = grind (arith, sure_at)
 -- there is what is told, where there is what is read
 pub told_there : {A B : Type 0} (f : A → B) (o : Option A) (read : Option B) → option_map f o ≡ read → IsSome read → IsSome o
 told_there = grind arith
+
+-- what a test says is so, where what always stands at the place says it
+pub sure_told : {B : Type 0} {f : Form} (read : Given → Option B) → Sure f read → (b : Bound) (place : ℕ) (test : Bool) → form_at b place ≡ Some f
+    → ((live : Tables) (texts : List Text) → IsSome (read (stands_at live texts b place)) → test ≡ true) → test ≡ true
+sure_told _ sure b place test at told = ∥∥₁_elim b.filled (Bool-set _ _) (λ d. told d.live d.texts (sure _ _ at (d.filled place)))

@@ -1,6 +1,6 @@
 -- What is read of settled arguments is settled.
 use Rattle.{
-  std.{proofs.Common.{arith, ◌≡◌, ◌∙◌, ap, sym, ℕ, List, ◌++◌, Option, Some}, specs.Option.{option_map}},
+  std.{proofs.Common.{arith, ◌≡◌, ℕ, List, ◌++◌, Option, Some}, specs.Option.{option_map}},
   cell_core.specs.declared.cell.{Cell.{Cell}, Label.{Label}},
   meaning.specs.{Text.{Text}, Cell.{datum, IsGiven}, Operator.{cell_label}},
   table_meaning.specs.{Settled.{IsSettled}, Table.{heading_value}, Value.{Given, scalar_in}},
@@ -21,7 +21,5 @@ scalar_given b place c live texts tells settled =
 
 pub name_given : (b : Bound) (place : ℕ) (o : Option Cell) (name : Option Label) (live : Tables) (texts : List Text) → Tells b place scalar_in (λ _ ts. option_map (datum ts) o)
     → ((ts : List Text) → heading_value ts name ≡ option_map cell_label (option_map (datum ts) o)) → IsSettled (arguments_of live) texts b.args.now → IsSettled heading_value texts name
-name_given b place o _ live texts tells named settled = λ more.
-    named (texts ++ more)
-    ∙ ap (option_map cell_label) (told_settled b place scalar_in (λ _ ts. option_map (datum ts) o) live texts tells settled more)
-    ∙ sym (named texts)
+name_given b place o name live texts tells named settled = λ more.
+    cc (named (texts ++ more), named texts, told_settled b place scalar_in (λ _ ts. option_map (datum ts) o) live texts tells settled more)

@@ -1,11 +1,11 @@
 -- Calls behind values and calls of functions of `pd` make valid tables of valid values and arguments.
 use Rattle.{
-  std.{proofs.{Common.{rules, ◌≡◌, refl, ℕ, List, ◌<◌, [], ◌∷◌, length, map, length-append, arith}, lemmas.{Bool.{eqb-true}, List.{length-map, Elements.{All-nil, All-filter, All-append}}}}, specs.{Prelude.{true, Option, Some, None, IfOk, nat_eq, slice_get, codes, IsSome, IfSome, All}, List.{position_or_len}}},
+  std.{proofs.{Common.{rules, ◌≡◌, refl, ℕ, List, ◌<◌, [], ◌∷◌, length, map, length-append, arith}, lemmas.{Bool.{eqb-true}, List.{length-map, Elements.{All-nil, All-append}}}}, specs.{Prelude.{true, Option, Some, None, IfOk, nat_eq, slice_get, codes, IsSome, IfSome, All}, List.{position_or_len}}},
   meaning.specs.Text.{Text},
   table_meaning.{specs.{Table.{Table, column_at}, Value.{Entry, cell, table, NamedGiven, Given, object_in}, Valid.{IsValid}}, proofs.KindLaws.{kind_is}},
   form_meaning.{specs.{declared.{Method.{Method, TheVariants.{Other}}, OtherMethod.TheVariants.{Merge}}, Signature.{method_names, fits_shape, parameters_of}, Binding.{argument_at, text_in}, Finish.{finished}, Select.{heading_at}}, proofs.ShapeLaws.{named_fits, of_frame}},
-  method_meaning.specs.{Calls.{ChainValue, plain, grouped, through, is_merge, plain_result, call_result, merge_call}, Functions.{function_result}, Rows.{all_places}, Merge.{MergeKeys, kinds_at, are_same_kinds, keys_of_merge, suffixed_heading, right_places, left_heading, right_heading, column_of_side, key_cell, joined_key_column, right_key, joined_or_left, left_column, merged, merged_rows, merge_result}},
-  table_laws.{specs.Validity.{IsValidObject, IsValidEntry, AreValidArguments}, proofs.{ListLaws.{if_keeps, all_made, all_mapped, at_or, then_keeps, on_keeps, on_some_keeps}, Words.{Keeps, IsFrame, Name, Below}, TableLaws.{shaped, IsShaped}, MethodLaws.{method_result_keeps, chain_result_keeps}, CsvLaws.{make_with_keeps}, ConcatLaws.{concat_call_keeps}, ColumnLaws.{IsColumn, Held}, ReachLaws.{below_all}, InfixLaws.{gap_held}, GroupLaws.{AreLabels, frame_keeps}, SetLaws.{length_default, default_levels}, ArgumentLaws.{argument_valid, object_valid, frame_at, bound_taken}}},
+  method_meaning.specs.{Calls.{ChainValue, plain, is_merge, plain_result, call_result, merge_call}, Functions.{function_result}, Rows.{all_places}, Merge.{MergeKeys, kinds_at, are_same_kinds, keys_of_merge, suffixed_heading, right_places, left_heading, right_heading, column_of_side, key_cell, joined_key_column, right_key, joined_or_left, left_column, merged, merged_rows, merge_result}},
+  table_laws.{specs.Validity.{IsValidObject, IsValidEntry, AreValidArguments}, proofs.{ListLaws.{if_keeps, all_made, all_mapped, at_or, then_keeps, on_keeps, on_some_keeps}, Words.{Keeps, IsFrame, Name, Below}, TableLaws.{shaped, IsShaped}, MethodLaws.{method_result_keeps, chain_result_keeps}, CsvLaws.{make_with_keeps}, ConcatLaws.{concat_call_keeps}, ColumnLaws.{IsColumn, Held}, ReachLaws.{below_all, some_below}, InfixLaws.{gap_held}, GroupLaws.{AreLabels, frame_keeps}, SetLaws.{length_default, default_levels}, ArgumentLaws.{argument_valid, object_valid, frame_at, bound_taken}}},
   cell_core.specs.declared.cell.Kind.TheVariants.{Int64},
   join_meaning.specs.{declared.{How.{How}, Validate.{Validate}}, Pairs.{Pair}},
 }
@@ -59,7 +59,7 @@ module _ (l r : Table) (s : IsShaped l) (w : IsShaped r) (is : IsFrame l) (is' :
   left_some = grind (arith, beside_some)
 
   right_below : Below (length r.columns) (right_places r keys)
-  right_below = All-filter _ (λ place. place < length r.columns) _ (below_all _)
+  right_below = some_below _ _
 
   merged_labels : AreLabels (merged l r keys pairs).headings
   merged_labels =
@@ -106,9 +106,8 @@ merge_call_keeps t gs s h =
 -- a frame alone has a `merge`
 merge_frame : (t : Table) (o : Option Method) → is_merge o ≡ true → ((m : Method) → o ≡ Some m → fits_shape m t.shape ≡ true) → IsFrame t
 unfolding method_names
-merge_frame t None e fits = cc
 merge_frame t (Some (method.Other other_method.Merge)) e fits = of_frame (method.Other other_method.Merge) _ refl (fits (method.Other _) refl)
-merge_frame t (Some m) e fits = cc
+merge_frame t _ e fits = cc
 
 plain_result_keeps : (v : Entry) (name : Text) (gs : List NamedGiven) → IsValidObject v → AreValidArguments gs → Keeps (plain_result v name gs)
 plain_result_keeps (cell c) name gs h k = tt
@@ -117,8 +116,7 @@ plain_result_keeps (table t) name gs h k = search (if_keeps, merge_call_keeps, s
 -- any call behind a value
 pub call_result_keeps : (v : Entry) (chain : ChainValue) (gs : List NamedGiven) → IsValidObject v → AreValidArguments gs → IfOk (call_result v chain gs) IsValidEntry
 call_result_keeps v (plain name) gs h k = plain_result_keeps v _ gs h k
-call_result_keeps v (grouped by brackets name) gs h k = search chain_result_keeps
-call_result_keeps v (through name) gs h k = search chain_result_keeps
+call_result_keeps v _ gs h k = search chain_result_keeps
 
 -- any function of `pd`
 pub function_result_keeps : (file : Option (List ℕ)) (name : Text) (gs : List NamedGiven) → AreValidArguments gs → IfOk (function_result file name gs) IsValidEntry

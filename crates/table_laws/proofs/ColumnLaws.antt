@@ -1,7 +1,7 @@
 -- Columns of so many rows whose kinds hold their cells.
 use Rattle.{
   std.{proofs.{Common.{arith, ◌≡◌, ℕ, ℤ, length, refl, ap, suc, ◌-◌, pos, negsuc, List, [], ◌∷◌, ◌++◌}, lemmas.{List.{length-map, length-replicate, Elements.{All-replicate, All-nil, All-cons, All-head, All-tail, All-filter, All-append}}, Bool.{lt-ltb}, Int.{SFits-int_wrap}}}, specs.{Prelude.{Bool, true, if◌then◌else◌, replicate, Option, Some, None, Result, Ok, Err, IfOk, All, fold, IfSome}, Int.{int_wrap, w64, RustNames.{FitsSigned}}}},
-  meaning.specs.{Cell.{CellValue, Kind, Int64, Boolean, string, na_cell, holds, has_64_bits}, Column.{ColumnValue, ColumnFault, column_of, column_if, shifted_row, shifted}, Cumulate.{Cumulation, cumulation_cell, cumulation_takes, running, unless_missing}, Operator.{scalar_kind, scalar_column, inverted as inverted_value, operator_kind, operator_cell, invert_cell}, Symbol.{Binary}, Fault.{FaultValue, then_value}, Cast.{cast_cell}, Reduce.{Reduction, sum, min, max, any, all, count, present, reduction_cell}},
+  meaning.specs.{Cell.{CellValue, Kind, Int64, Boolean, na_cell, holds, has_64_bits}, Column.{ColumnValue, ColumnFault, column_of, column_if, shifted_row, shifted}, Cumulate.{Cumulation, cumulation_cell, cumulation_takes, running, unless_missing}, Operator.{scalar_kind, scalar_column, inverted as inverted_value, operator_kind, operator_cell, invert_cell}, Symbol.{Binary}, Fault.{FaultValue, then_value}, Cast.{cast_cell}, Reduce.{Reduction, sum, min, max, any, all, count, present, reduction_cell}},
   form_meaning.specs.{Finish.{value_of_column, made_column}, Infix.{Meeting, met, inverted_column}, Set.{list_column}, Make.{cast_to}},
   method_meaning.specs.Methods.{mapped, filled, filled_column, shifted_column, cast_as, cumulated},
   table_laws.{proofs.{Words.{Column, Cells}, ListLaws.{all_pass, all_made, then_keeps, all_mapped, each_keeps, pairs_keep, length_tabulate, where_keeps, both_true, at_or, all_tabulated}}, specs.Validity.{IsHeldCell}},
@@ -175,9 +175,8 @@ cast_to_keeps None rows c h = h
 cast_to_keeps (Some kind) rows c h = cast_keeps kind rows c h
 
 invert_keeps : (rows : ℕ) (kind : Kind) (cells : Cells) → IsColumnOf rows kind cells → IfOk (made_column (inverted_value kind cells)) (IsColumn rows)
-invert_keeps rows Int64 cells h = tt
 invert_keeps rows Boolean cells h = search (length-map, all_mapped, invert_held)
-invert_keeps rows string cells h = tt
+invert_keeps rows _ cells h = tt
 
 pub inverted_keeps : (rows : ℕ) (c : Column) → IsColumn rows c → IfOk (inverted_column c) (IsColumn rows)
 inverted_keeps = search invert_keeps

@@ -101,9 +101,8 @@ all_have n ts h = all_flat (Has n) _ (λ labels. labels) (λ labels k. k) (label
 
 under_count : (keys : Tuple) (ts : List Table) → length keys ≡ length ts → length (labels_under keys (labels_of_tables ts)) ≡ length (all_labels ts)
 under_count [] [] e = refl
-under_count [] (t ∷ ts) e = search
-under_count (key ∷ keys) [] e = search
 under_count (key ∷ keys) (t ∷ ts) e = search (length-map, length-append, under_count keys ts (omega (arith, e)))
+under_count _ _ e = search
 
 under_have : (n : ℕ) (keys : Tuple) (ts : List Table) → HaveLevels n ts → Levelled (suc n) (labels_under keys (labels_of_tables ts))
 under_have n [] ts h = All-nil (Has (suc n))

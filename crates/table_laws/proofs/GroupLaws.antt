@@ -3,13 +3,13 @@ use Rattle.{
   std.{proofs.{Common.{rules, ◌≡◌, ◌∙◌, refl, ℕ, ◌<◌, ◌≤◌, List, [], ◌∷◌, length, map, arith}, lemmas.{Bool.Decides.{nat_tests}, List.{length-map, length-append, Elements.{All-filter, All-append}}}}, specs.Prelude.{Bool, true, false, slice_index_or, codes, Option, Some, None, IsSome, Result, IfOk, All}},
   cell_core.specs.declared.grid.Shape.{Shape, TheVariants.{Series, Frame}},
   meaning.specs.{Text.{Text}, Cell.{CellValue, na_cell, Kind, Int64}, Column.{ColumnValue, ColumnFault}, Operator.{cell_label}, Cumulate.{cumulation_takes}, Fault.{FaultValue}},
-  table_meaning.specs.{Table.{Table, column_at, rows_of}, Value.{Entry, Given, GivenList, NamedGiven}},
-  form_meaning.specs.{Binding.{Bound}, Finish.{finished, default_labels, value_of_column, column_of_value, made_column}, Select.{columns_frame, column_places, labels_of}},
+  table_meaning.specs.{Table.{Table, column_at}, Value.{Entry, Given, GivenList, NamedGiven}},
+  form_meaning.specs.{Binding.{Bound}, Finish.{finished, default_labels, value_of_column, column_of_value, made_column}, Select.{column_places, labels_of}},
   select_meaning.specs.Select.{shown_as},
   align_meaning.proofs.OrderLaws.{all_in_order, all_distinct},
   group_meaning.specs.{Keys.{KeyRules, is_kept, ordered_if, group_keys}, Rows.{GroupsValue, cells_of_group, rows_of_group}, Reductions.{GroupReduction, earlier, later, group_cell, group_kind, reduced_cells, column_if_taken, reduce_groups, transform_groups, of_group, running_cell, cumsum_groups, group_sizes, group_places}},
-  method_meaning.specs.{Rows.{all_places, cells_by_row, labels_in}, Groups.{Grouping, Values, GroupCall, reduced, size, transformed, cumsum, cumcount, row_keys, keys_of, groups_of, each_of, under_keys, key_column, beside_keys, grouped_rows, same_rows, headings_of, group_answer, of_bound, grouping_in, grouping_of, values_named, values_in, group_call_of, grouped_frame, grouped_of, grouped_result}},
-  table_laws.{specs.Validity.{IsValidObject, IsValidEntry}, proofs.{Words.{Keeps, Column, Name, Tuple, Cells, Below, Levelled, IsFrame}, ListLaws.{all_made, all_mapped, all_tabulated, length_tabulate, at_or, then_keeps, try_keeps, if_keeps}, ColumnLaws.{IsColumn, if_made, Held, wrap_fits, fold_keeps, unless_held, reduction_held, cumulation_held}, TableLaws.{IsShaped, shaped, limited_keeps, column_of_table, series_heading, frame_headings, different, finished_keeps, column_place_found}, ReachLaws.{below_all}, RowLaws.{rows_counted, anything}, LevelLaws.{row_has}, SetLaws.{length_default, default_levels}, InfixLaws.{gap_held}}},
+  method_meaning.specs.{Rows.{cells_by_row, labels_in}, Groups.{Grouping, Values, GroupCall, reduced, size, transformed, cumsum, cumcount, row_keys, keys_of, groups_of, each_of, under_keys, key_column, beside_keys, grouped_rows, same_rows, headings_of, group_answer, of_bound, grouping_in, grouping_of, values_named, values_in, group_call_of, grouped_frame, grouped_of, grouped_result}},
+  table_laws.{specs.Validity.{IsValidObject, IsValidEntry}, proofs.{Words.{Keeps, Column, Name, Tuple, Cells, Below, Levelled, IsFrame}, ListLaws.{all_made, all_mapped, all_tabulated, length_tabulate, at_or, then_keeps, any_then, try_keeps, if_keeps}, ColumnLaws.{IsColumn, if_made, Held, wrap_fits, fold_keeps, unless_held, reduction_held, cumulation_held}, TableLaws.{IsShaped, some_labelled, shaped, limited_keeps, column_of_table, series_heading, frame_headings, different, finished_keeps, column_place_found}, ReachLaws.{some_below}, RowLaws.{rows_counted, cells_have}, SetLaws.{length_default, default_levels}, InfixLaws.{gap_held}}},
 }
 use Rattle.meaning.specs.Reduce as reduction
 use Rattle.meaning.specs.Cumulate as cumulation
@@ -18,13 +18,12 @@ use Rattle.group_meaning.specs.Reductions as groups
 -- the cells of groups
 
 group_cell_held : (op : GroupReduction) (kind : Kind) (cells : Cells) → All (Held kind) cells → Held (group_kind op kind) (group_cell op cells)
-group_cell_held groups.sum kind cells h = search reduction_held
 group_cell_held groups.min kind cells h = reduction_held reduction.min kind cells h
 group_cell_held groups.max kind cells h = reduction_held reduction.max kind cells h
-group_cell_held groups.count kind cells h = search reduction_held
 group_cell_held groups.nunique kind cells h = search wrap_fits
 group_cell_held groups.first kind cells h = fold_keeps (Held kind) (Held kind) earlier (grind arith) na_cell refl _ (All-filter _ (Held kind) _ h)
 group_cell_held groups.last kind cells h = fold_keeps (Held kind) (Held kind) later (λ a b _ k. k) na_cell refl _ (All-filter _ (Held kind) _ h)
+group_cell_held _ kind cells h = search reduction_held
 
 cells_held : (kind : Kind) (group : ℕ) (codes : List (Option ℕ)) (cells : Cells) → All (Held kind) cells → All (Held kind) (cells_of_group group codes cells)
 cells_held kind group codes cells h = all_mapped (Held kind) (λ row. slice_index_or cells row na_cell) (λ row. at_or (Held kind) _ row _ refl h) (rows_of_group group codes)
@@ -76,7 +75,7 @@ Has n tuple = length tuple ≡ n
 
 rows_have : (t : Table) (keys : List ℕ) → Levelled (length keys) (row_keys t keys)
 rows_have t keys =
-    let rows = all_made (λ r. length r.cells ≡ length keys) (λ cells. length cells ≡ length keys) (λ r. r.cells) (λ r h. h) (rows_of na_cell (columns_frame t keys)) (row_has t _) in
+    let cells = cells_have t keys in
     search (all_made, length-map)
 
 codes_counted : (t : Table) (g : Grouping) → length (groups_of t g).codes ≡ length t.labels
@@ -96,9 +95,8 @@ abbrev pub AreLabels : List Name → Type 0
 AreLabels hs = All IsSome hs
 
 one_heading : (hs : List Name) → length hs ≡ 1 → (h : Name) × (hs ≡ h ∷ [])
-one_heading [] e = grind arith
 one_heading (h ∷ []) e = (h, refl)
-one_heading (h ∷ h' ∷ hs) e = grind arith
+one_heading _ e = grind arith
 
 pub frame_keeps : (t : Table) → IsBody t → AreLabels t.headings → Keeps (finished t)
 frame_keeps t b some = search (finished_keeps, frame_headings, different)
@@ -119,9 +117,6 @@ pub record IsGrouping (t : Table) (g : Grouping) : Type 0 where
 pub record AreValues (t : Table) (v : Values) : Type 0 where
   pub places : AreBelow t v.places
   pub single : v.single ≡ true → length v.places ≡ 1
-
-labelled : (t : Table) → IsShaped t → IsFrame t → (places : List ℕ) → AreBelow t places → AreLabels (headings_of t places)
-labelled t s is places below = all_made (λ place. place < length t.columns) IsSome _ (λ place lt. s.headings.labelled is place None (omega (arith, lt, s.headed))) places below
 
 -- a row for each group
 
@@ -147,7 +142,7 @@ rows_keep : (t : Table) (g : Grouping) (single : Bool) (hs : List Name) (columns
 rows_keep t g single hs columns s is k headed held one labels others =
     if_keeps _ _ _ _
     (λ e. shown_keeps _ _ (under_body t g hs _ k.some (k.few e) headed held) one (labels e))
-    (λ e. frame_keeps _ (beside_body t g hs _ s k.keys headed held) (All-append IsSome (headings_of t g.keys) hs (labelled t s is g.keys k.keys) (others e)))
+    (λ e. frame_keeps _ (beside_body t g hs _ s k.keys headed held) (All-append IsSome (headings_of t g.keys) hs (some_labelled t s is g.keys k.keys) (others e)))
 
 one_column : (rows : ℕ) (c : Column) → IsColumn rows c → All (IsColumn rows) (c ∷ [])
 one_column = grind arith
@@ -166,7 +161,7 @@ module _ (t : Table) (s : IsShaped t) (is : IsFrame t) (g : Grouping) (k : IsGro
   single_one = grind (arith, length-map)
 
   own_labels : AreLabels (headings_of t v.places)
-  own_labels = search labelled
+  own_labels = search some_labelled
 
   answer_keeps : (call : GroupCall) → Keeps (group_answer t g v call)
   answer_keeps (reduced op) =
@@ -220,14 +215,14 @@ named_keep t s None (Some parts) =
 named_keep t s None None = tt
 
 values_keep : (t : Table) → IsShaped t → (keys : List ℕ) (brackets : Option Given) → IfOk (values_in t keys brackets) (AreValues t)
-values_keep t s keys None = record { places = All-filter _ (λ place. place < length t.columns) (all_places t) (below_all _); single = λ e. cc }
+values_keep t s keys None = record { places = some_below _ _; single = λ e. cc }
 values_keep t s keys (Some g) = search named_keep
 
 frame_of_keeps : (t : Table) → IsShaped t → IsFrame t → (by : List NamedGiven) (brackets : Option Given) (name : Text) (gs : List NamedGiven) → Keeps (grouped_frame t by brackets name gs)
 frame_of_keeps t s is by brackets name gs =
     then_keeps (IsGrouping t) IsValidEntry (grouping_of t by) _ (search (of_bound_keeps, grouping_in_keeps))
     (λ g k. then_keeps (AreValues t) IsValidEntry (values_in t g.keys brackets) _ (values_keep t s g.keys brackets)
-    (λ v w. then_keeps (λ call. Unit {0}) IsValidEntry (group_call_of name gs) _ (anything (group_call_of name gs)) (λ call _. answer_keeps t s is g k v w call)))
+    (λ v w. any_then IsValidEntry (group_call_of name gs) _ (answer_keeps t s is g k v w)))
 
 grouped_of_keeps : (shape : Shape) (t : Table) → IsShaped t → t.shape ≡ shape → (by : List NamedGiven) (brackets : Option Given) (name : Text) (gs : List NamedGiven) → Keeps (grouped_of shape t by brackets name gs)
 grouped_of_keeps Series t s is by brackets name gs = tt

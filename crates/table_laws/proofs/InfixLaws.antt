@@ -1,6 +1,6 @@
 -- Operators make valid tables of valid values.
 use Rattle.{
-  std.{proofs.{Common.{◌≡◌, ◌∙◌, refl, ap, sym, subst, ℕ, suc, List, [], ◌∷◌, length, arith, ◌≢◌, ◌<◌, zero, pos, map}, lemmas.List.{length-map, Elements.{All-head, All-tail}}}, specs.{Prelude.{replicate, Bool, true, false, if◌then◌else◌, Option, Some, None, Result, Ok, Err, IfOk, All, slice_index_or, unwrap_or, IsSome}, Bool.{Decides}, Cmp.Lexicographic.{pointwise_decides, as_long}}},
+  std.{proofs.{Common.{◌≡◌, ◌∙◌, refl, ap, sym, subst, ℕ, suc, List, [], ◌∷◌, length, arith, ◌≢◌, pos, map}, lemmas.List.{length-map, get_or-map, Elements.{All-head, All-tail}}}, specs.{Prelude.{replicate, Bool, true, false, if◌then◌else◌, Option, Some, None, Result, Ok, Err, IfOk, All, unwrap_or, IsSome}, Bool.{Decides}, Cmp.Lexicographic.{pointwise_decides, as_long}}},
   cell_core.specs.declared.grid.Shape.{Shape, TheVariants.{Series, Frame}},
   meaning.specs.{Cell.{CellValue, na_cell, Kind, int}, Column.{gap_cell, taken}, Symbol.{Binary}, Fault.{FaultValue, bad_value, not_aligned, then_value}},
   align_meaning.{specs.Faults.{AlignRefusal, met_rows}, proofs.{DifferLaws.{joined_apart}, InsideLaws.{IsRowOf, AreInside, joined_inside}}},
@@ -32,13 +32,10 @@ labels_many t s = search length-map
 tuple_apart : (g h : Name) → IsSome g → IsSome h → g ≢ h → label_tuple g ≢ label_tuple h
 tuple_apart = grind arith
 
-at_label : (hs : List Name) (k : ℕ) (d : Tuple) → k < length hs → slice_index_or (map label_tuple hs) k d ≡ label_tuple (slice_index_or hs k None)
-at_label [] k d inside = grind arith
-at_label (h ∷ hs) zero d inside = refl
-at_label (h ∷ hs) (suc k) d inside = at_label hs k d (omega (arith, inside))
-
 pub labels_apart : (t : Table) → IsShaped t → IsFrame t → Apart (column_labels t)
-labels_apart = grind (arith, length-map, at_label, tuple_apart)
+labels_apart t s is =
+    let at = λ (k : ℕ) (d : Tuple). get_or-map label_tuple t.headings k None d in
+    grind (arith, length-map, tuple_apart)
 
 -- and the headings that tuples are
 heading_some : (tuple : Tuple) → length tuple ≡ 1 → IsSome (tuple_heading tuple)
@@ -48,16 +45,13 @@ heading_apart : (s t : Tuple) → length s ≡ 1 → length t ≡ 1 → s ≢ t 
 heading_apart [] t = grind arith
 heading_apart (l ∷ m ∷ ls) t = grind arith
 heading_apart (l ∷ []) [] = grind arith
-heading_apart (l ∷ []) (k ∷ m ∷ ms) = grind arith
 heading_apart (l ∷ []) (k ∷ []) = grind arith
-
-at_key : (ks : List Tuple) (k : ℕ) (d : Name) → k < length ks → slice_index_or (map tuple_heading ks) k d ≡ tuple_heading (slice_index_or ks k [])
-at_key [] k d inside = grind arith
-at_key (t ∷ ks) zero d inside = refl
-at_key (t ∷ ks) (suc k) d inside = at_key ks k d (omega (arith, inside))
+heading_apart (l ∷ []) (k ∷ m ∷ ms) = grind arith
 
 keys_apart : (keys : List Tuple) → Levelled 1 keys → Apart keys → Apart (map tuple_heading keys)
-keys_apart = grind (arith, length-map, at_key, heading_apart)
+keys_apart keys single apart =
+    let at = λ (k : ℕ) (d : Name). get_or-map tuple_heading keys k [] d in
+    grind (arith, length-map, heading_apart)
 
 -- a frame under joined labels
 module _ (own other : Table) (keys : List Tuple) (places opposites : List (Option ℕ)) where
@@ -129,12 +123,11 @@ length_beside (a ∷ as') [] e = search
 length_beside (a ∷ as') (b ∷ bs) e = ap suc (length_beside as' bs (omega arith))
 
 beside_meet : (rows : ℕ) (as' bs : List Column) → All (IsColumn rows) as' → All (IsColumn rows) bs → All (IsMeeting rows) (beside as' bs)
-beside_meet rows [] bs h k = grind arith
-beside_meet rows (a ∷ as') [] h k = grind arith
 beside_meet rows (a ∷ as') (b ∷ bs) h k =
     let first = columns_meet rows a b (All-head (IsColumn rows) a as' h) (All-head (IsColumn rows) b bs k) in
     let rest = beside_meet rows as' bs (All-tail (IsColumn rows) a as' h) (All-tail (IsColumn rows) b bs k) in
     grind arith
+beside_meet rows _ _ h k = grind arith
 
 length_across : (count : ℕ) (kind : Kind) (as' : List Column) (cells : Cells) → length as' ≡ length cells → length (across count kind as' cells) ≡ length as'
 length_across count kind [] cells e = refl
@@ -142,13 +135,12 @@ length_across count kind (a ∷ as') [] e = search
 length_across count kind (a ∷ as') (c ∷ cs) e = ap suc (length_across _ _ as' cs (omega arith))
 
 across_meet : (rows : ℕ) (kind : Kind) (as' : List Column) (cells : Cells) → All (IsColumn rows) as' → All (Held kind) cells → All (IsMeeting rows) (across rows kind as' cells)
-across_meet rows kind [] cells h k = grind arith
-across_meet rows kind (a ∷ as') [] h k = grind arith
 across_meet rows kind (a ∷ as') (c ∷ cs) h k =
     let first = side rows a.kind a.cells (All-head (IsColumn rows) a as' h) in
     let second = side rows kind (replicate rows c) (spread_column kind rows c (All-head (Held kind) c cs k)) in
     let rest = across_meet rows kind as' cs (All-tail (IsColumn rows) a as' h) (All-tail (Held kind) c cs k) in
     grind arith
+across_meet rows kind _ _ h k = grind arith
 
 levels_keep : (kinds equal : Bool) (rest : Result Entry FaultValue) → Keeps rest → Keeps (on_levels kinds equal rest)
 levels_keep = grind arith
@@ -182,9 +174,8 @@ length_names (a ∷ as') (b ∷ bs) e = ap suc (length_names as' bs (omega arith
 
 length_count : {A B : Type 0} (as' : List A) (bs : List B) → same_count as' bs ≡ true → length as' ≡ length bs
 length_count [] [] e = refl
-length_count [] (b ∷ bs) e = cc
-length_count (a ∷ as') [] e = cc
 length_count (a ∷ as') (b ∷ bs) e = ap suc (length_count as' bs e)
+length_count _ _ e = cc
 
 met_is : (r : Result Joined (AlignRefusal Tuple)) (rows : Joined) → met_rows r ≡ Ok rows → r ≡ Ok rows
 met_is = grind arith
@@ -292,9 +283,8 @@ across_keep op left f s h k is' is =
 
 tables_keep : (op : Binary) (p q : Shape) (a b : Table) → IsShaped a → IsShaped b → a.shape ≡ p → b.shape ≡ q → Keeps (table_infix op p q a b)
 tables_keep op Series Series a b s r is is' = series_keep op a b s r is is'
-tables_keep op Series Frame a b s r is is' = search across_keep
-tables_keep op Frame Series a b s r is is' = search across_keep
 tables_keep op Frame Frame a b s r is is' = frames_keep op a b s r is is'
+tables_keep op _ _ a b s r is is' = search across_keep
 
 -- an operator on two values
 pub infix_result_keeps : (op : Binary) (v w : Entry) → IsValidObject v → IsValidObject w → IfOk (infix_result op v w) IsValidEntry

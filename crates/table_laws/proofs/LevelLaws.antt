@@ -1,12 +1,12 @@
 -- Methods that give the rows other levels make valid tables of valid ones.
 use Rattle.{
-  std.{proofs.{Common.{◌≡◌, ◌∙◌, refl, sym, ℕ, ◌<◌, ◌≤◌, ◌+◌, List, length, map, length-append, arith}, lemmas.{Bool.{eqb-true, Decides.{nat_tests}}, List.{length-map, FromFn.{length-range_with_len}, Edits.{length-remove, length-swap}, Elements.{All-filter, All-append, All-nil}}}}, specs.{Prelude.{remove, Option, Some, None, IsSome, Result, IfOk, All, true, IfSome}, List.{range_with_len}}},
+  std.{proofs.{Common.{◌≡◌, ◌∙◌, refl, sym, ℕ, ◌<◌, ◌≤◌, ◌+◌, List, length, map, length-append, arith}, lemmas.{Bool.{eqb-true, Decides.{nat_tests}}, List.{length-map, FromFn.{length-range_with_len}, Edits.{length-remove, length-swap}, Elements.{All-append, All-nil}}}}, specs.{Prelude.{remove, Option, Some, None, IsSome, Result, IfOk, All, true, IfSome}, List.{range_with_len}}},
   meaning.specs.{Cell.{CellValue, LabelValue, na_cell}, Operator.{cell_label}, Fault.{FaultValue}},
   pick_meaning.{proofs.{PositionLaws.{at_inside}, InsideLaws.{rows_inside}}, specs.{Labels.{unless_none}, Rows.{rows_where}}},
-  table_meaning.specs.{Table.{RowOf, Table, rows_of}, Value.{Entry, Given, GivenList, cell, table, nothing, one, row, many, entries, no_given, more_given}},
-  form_meaning.specs.{Finish.{first_repeated, limited, column_labels}, Select.{columns_frame, labels_of}, Set.{list_column}, Binding.{each, is_scalar, count_of}, Infix.{same_tuple}},
+  table_meaning.specs.{Table.{Table}, Value.{Entry, Given, GivenList, cell, one, no_given, more_given}},
+  form_meaning.specs.{Finish.{first_repeated, limited, column_labels}, Select.{labels_of}, Set.{list_column}, Binding.{each, is_scalar, count_of}, Infix.{same_tuple}},
   method_meaning.specs.{Rows.{cells_by_row}, Levels.{rename_axis_result, on_levels, indexed_by, index_set, set_index_result, renumbered, level_cells, level_labels, with_levels, levels_reset, level_of, of_several, level_dropped, droplevel_result, levels_swapped, swaplevel_result}, Section.{has_label, rows_with_label, section, xs_result}, Reindex.{rows_at, rows_reindexed, column_or_missing, columns_at, columns_reindexed, reindex_result}},
-  table_laws.{proofs.{Words.{Keeps, Column, Tuple, IsFrame, Below, Levelled}, ListLaws.{both_true, all_made, all_mapped, all_tabulated, then_keeps, try_keeps, of_length_keeps}, ColumnLaws.{IsColumn, list_keeps, spread_column, na_held}, TableLaws.{IsShaped, limited_keeps, frame_headings, column_of_table, different, finished_keeps, found_within}, ReachLaws.{below_all, found_is, rows_shaped}, RowLaws.{kept_shaped, rows_counted, anything}, SetLaws.{length_default, default_levels, met_keeps}, InfixLaws.{columns_on}}, specs.Validity.{IsValidEntry}},
+  table_laws.{proofs.{Words.{Keeps, Column, Tuple, IsFrame, Below, Levelled}, ListLaws.{both_true, all_made, all_mapped, then_keeps, any_then, try_keeps, of_length_keeps}, ColumnLaws.{IsColumn, list_keeps, spread_column, na_held}, TableLaws.{IsShaped, limited_keeps, frame_headings, column_of_table, different, finished_keeps, found_within}, ReachLaws.{some_below, found_is, rows_shaped}, RowLaws.{kept_shaped, rows_counted, cells_have}, SetLaws.{length_default, default_levels, met_keeps}, InfixLaws.{columns_on}}, specs.Validity.{IsValidEntry}},
   select_meaning.specs.{Keys.{found_pick, whole_items}, Select.{rows_taken, row_name}},
   align_meaning.{specs.{Faults.{AlignRefusal}, Targets.{reindexed}}, proofs.FoundLaws.{reindexed_count, reindexed_below}},
 }
@@ -22,17 +22,14 @@ rename_axis_keeps = grind (arith, of_length_keeps, limited_keeps)
 pub on_levels_keep : (count : ℕ) (rest : Result Entry FaultValue) → (1 ≤ count → count ≤ 4 → Keeps rest) → Keeps (on_levels count rest)
 on_levels_keep = grind (arith, nat_tests, both_true)
 
-pub row_has : (t : Table) (places : List ℕ) → All (λ (r : RowOf LabelValue CellValue). length r.cells ≡ length places) (rows_of na_cell (columns_frame t places))
-row_has = search (all_tabulated, length-map)
-
 tuples_have : (t : Table) (places : List ℕ) → All (Has (length (indexed_by t places).level_names)) (indexed_by t places).labels
 tuples_have t places =
-    let rows = all_made (λ r. length r.cells ≡ length places) (λ cells. length cells ≡ length places) (λ r. r.cells) (λ r h. h) (rows_of na_cell (columns_frame t places)) (row_has t _) in
+    let cells = cells_have t places in
     search (all_made, length-map)
 
 indexed_shaped : (t : Table) (places : List ℕ) → IsShaped t → IsFrame t → 1 ≤ length places → length places ≤ 4 → first_repeated (indexed_by t places).headings ≡ None → IsShaped (indexed_by t places)
 indexed_shaped t places s is some few none =
-    let k = kept_shaped t _ s is (All-filter _ (λ place. place < length t.columns) _ (below_all _)) none in
+    let k = kept_shaped t _ s is (some_below _ _) none in
     let names : length places ≡ length (indexed_by t places).level_names = search length-map in
     let rows = sym (length-map (cells_by_row t places) (map cell_label) ∙ rows_counted t _) in
     let levels = tuples_have t places in
@@ -42,7 +39,7 @@ index_set_keeps : (t : Table) (places : List ℕ) → IsShaped t → IsFrame t �
 index_set_keeps = grind (arith, on_levels_keep, limited_keeps, indexed_shaped)
 
 pub set_index_keeps : (t : Table) (keys : Given) → IsShaped t → IsFrame t → Keeps (set_index_result t keys)
-set_index_keeps = grind (arith, then_keeps, anything, index_set_keeps)
+set_index_keeps = grind (arith, any_then, index_set_keeps)
 
 -- the labels 0, 1 and so on
 renumbered_shaped : (t : Table) → IsShaped t → IsShaped (renumbered t)
@@ -139,11 +136,7 @@ xs_keeps t key level s =
 labels_count : (parts : GivenList) → each is_scalar parts ≡ true → length (labels_of parts) ≡ count_of parts
 labels_count no_given h = refl
 labels_count (more_given (one (cell c)) rest) h = grind (arith, labels_count rest h)
-labels_count (more_given (one (table t)) rest) h = cc
-labels_count (more_given nothing rest) h = cc
-labels_count (more_given (row parts) rest) h = cc
-labels_count (more_given (many parts) rest) h = cc
-labels_count (more_given (entries pairs) rest) h = cc
+labels_count (more_given _ rest) h = cc
 
 items_have : (n : ℕ) (items : GivenList) → IfOk (whole_items n items) (All (Has n))
 items_have n no_given = All-nil (Has n)
@@ -201,5 +194,4 @@ reindex_keeps t (Some items) None s is =
     then_keeps _ _ _ _ (items_have _ items) (λ labels has. rows_reindexed_keeps t labels s has)
 reindex_keeps t None (Some items) s is =
     then_keeps _ _ _ _ (items_have 1 items) (λ labels has. columns_reindexed_keeps t labels s (is refl) has)
-reindex_keeps t None None s is = tt
-reindex_keeps t (Some items) (Some others) s is = tt
+reindex_keeps t _ _ s is = tt

@@ -42,6 +42,10 @@ at_or P (x ∷ xs) (suc k) d none h = at_or P xs k d none (All-tail P x xs h)
 pub then_keeps : {A B : Type 0} (P : A → Type 0) (Q : B → Type 0) (r : Result A FaultValue) (go : A → Result B FaultValue) → IfOk r P → ((a : A) → P a → IfOk (go a) Q) → IfOk (then_value r go) Q
 then_keeps P Q = grind arith
 
+-- whatever was answered
+pub any_then : {A B : Type 0} (Q : B → Type 0) (r : Result A FaultValue) (go : A → Result B FaultValue) → ((a : A) → IfOk (go a) Q) → IfOk (then_value r go) Q
+any_then Q = grind arith
+
 -- what a test says
 pub if_keeps : {A : Type 0} (P : A → Type 0) (b : Bool) (x y : Result A FaultValue) → (b ≡ true → IfOk x P) → (b ≡ false → IfOk y P) → IfOk (if b then x else y) P
 if_keeps P = grind arith

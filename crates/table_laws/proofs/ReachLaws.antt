@@ -1,13 +1,13 @@
 -- What keys reach lies in the table.
 use Rattle.{
-  std.{proofs.{Common.{rules, ◌≡◌, ℕ, ◌<◌, ◌≤◌, nat_lt, List, [], ◌∷◌, length, arith, ◌∙◌, refl, ap, sym, ◌-◌, drop, map}, lemmas.{Bool.Decides.{nat_tests}, List.{length-map, length-drop, FromFn.{get_or-range_with_len, length-range_with_len}}}}, specs.{Prelude.{true, if◌then◌else◌, Option, Some, None, Result, Ok, IfOk, false, slice_index_or, IsSome, All}, List.{range_with_len, list_all}, Cmp.Lexicographic.{as_long}}},
+  std.{proofs.{Common.{rules, Bool, filter, ◌≡◌, ℕ, ◌<◌, ◌≤◌, nat_lt, List, [], ◌∷◌, length, arith, ◌∙◌, refl, ap, sym, ◌-◌, drop, map}, lemmas.{Bool.Decides.{nat_tests}, List.{length-map, length-drop, Elements.{All-filter}, FromFn.{get_or-range_with_len, length-range_with_len}}}}, specs.{Prelude.{true, if◌then◌else◌, Option, Some, None, Result, Ok, IfOk, false, slice_index_or, All}, List.{range_with_len, list_all}, Cmp.Lexicographic.{as_long}}},
   cell_core.specs.declared.{grid.Shape.{Shape, TheVariants.{Series, Frame}}, cell.Kind.{Kind}},
   meaning.specs.{Cell.{LabelValue, na_cell}, Symbol.{Accessor}, Fault.{FaultValue, then_value}},
-  table_meaning.{specs.{Table.{Table, column_at}, Value.{Entry, cell, table, GivenSub, nothing, one, row, many, entries, key_given, span_given}, Valid.{AreHeadings}}, proofs.KindLaws.{kind_is}},
+  table_meaning.{specs.{Table.{Table, column_at}, Value.{Entry, cell, table, GivenSub, one, row, key_given}, Valid.{AreHeadings}}, proofs.KindLaws.{kind_is}},
   form_meaning.specs.{Finish.{column_labels, same_kind}, Infix.{same_tuple}, Select.{heading_at, length_result}},
   pick_meaning.{specs.{Faults.{PickFault, then_pick}, Keys.{LabelKey, one_key, Pick, key_pick, listed_pick}, Masks.{masked_rows}}, proofs.{InsideLaws.{ok_same, went_on, mask_inside}, KeyLaws.{picked_inside, placed_inside}}},
-  select_meaning.specs.{Keys.{found_pick, found_labels, label_key, label_pick, marks_of, mask_pick, loc_rows, loc_columns, whole_key, once, at_rows, rows_by, columns_by, reach_of, reach_by, Reach}, Select.{column_reach, columns_reach, item_reach, Way, way_reach, select_result, rows_taken, without_leading, cut, as_series, first_cell, kind_across, row_series, row_result, shown_as, picked_result}},
-  table_laws.{specs.Validity.{IsValidObject, IsValidEntry, IsHeldCell}, proofs.{Words.{Tuple, Below, IsFrame, Keeps, Column, Name}, ListLaws.{both_true, length_tabulate, then_keeps, try_keeps, all_made, all_mapped, all_pass, at_or}, TableLaws.{IsShaped, shaped, one_column, limited_keeps, column_of_table, series_heading, frame_headings, column_place_found, different, finished_keeps}, ColumnLaws.{IsColumn, Held, na_held, held_cell, wrap_fits}}},
+  select_meaning.specs.{Keys.{found_pick, found_labels, label_key, whole_key, label_pick, marks_of, mask_pick, loc_rows, loc_columns, once, at_rows, rows_by, columns_by, reach_of, reach_by, Reach}, Select.{column_reach, columns_reach, item_reach, Way, way_reach, select_result, rows_taken, without_leading, cut, as_series, first_cell, kind_across, row_series, row_result, shown_as, picked_result}},
+  table_laws.{specs.Validity.{IsValidObject, IsValidEntry, IsHeldCell}, proofs.{Words.{Tuple, Below, IsFrame, Keeps, Column, Name}, ListLaws.{both_true, length_tabulate, then_keeps, any_then, try_keeps, all_made, all_mapped, all_pass, at_or}, TableLaws.{IsShaped, some_labelled, shaped, one_column, limited_keeps, column_of_table, series_heading, frame_headings, column_place_found, different, finished_keeps}, ColumnLaws.{IsColumn, Held, na_held, held_cell, wrap_fits}}},
 }
 
 -- selections
@@ -56,9 +56,8 @@ cut_shaped t rows places shape name s inside below headings =
 
 -- one column as a Series
 one_heading : (t : Table) (places : List ℕ) → length places ≡ 1 → AreHeadings Series None (map (heading_at t) places)
-one_heading t [] e = cc
 one_heading t (place ∷ []) e = search series_heading
-one_heading t (place ∷ (other ∷ places)) e = cc
+one_heading t _ e = cc
 
 series_keeps : (t : Table) (count : ℕ) (rows places : List ℕ) → IsShaped t → count < length t.level_names → Below (length t.labels) rows → Below (length t.columns) places → length places ≡ 1
     → Keeps (shown_as false true (without_leading count (cut t rows places)))
@@ -70,7 +69,7 @@ series_keeps t count rows places s left inside below e =
 frame_keeps : (t : Table) (count : ℕ) (rows places : List ℕ) → IsShaped t → IsFrame t → count < length t.level_names → Below (length t.labels) rows → Below (length t.columns) places
     → Keeps (shown_as false false (without_leading count (cut t rows places)))
 frame_keeps t count rows places s is left inside below =
-    let some = all_made (λ place. place < length t.columns) IsSome _ (λ place lt. s.headings.labelled is place None (omega (arith, lt, s.headed))) places below in
+    let some = some_labelled t s is places below in
     search (finished_keeps, leading_shaped, cut_shaped, frame_headings, different)
 
 -- a row across columns of one kind
@@ -147,12 +146,8 @@ found_is P = grind arith
 found_labels_is : (levels : ℕ) (tuples : List Tuple) (key : LabelKey Tuple) → 1 ≤ levels → IfOk (found_labels levels tuples key) (IsPick levels (length tuples))
 found_labels_is = grind (arith, found_is, ok_same, picked_is, key_is, picked_inside)
 
-anything : {A : Type 0} (r : Result A FaultValue) → IfOk r (λ a. Unit {0})
-anything = grind arith
-
 label_pick_is : (levels : ℕ) (tuples : List Tuple) (k : GivenSub) → 1 ≤ levels → IfOk (label_pick levels tuples k) (IsPick levels (length tuples))
-label_pick_is levels tuples k some =
-    then_keeps (λ key. Unit {0}) _ _ _ (anything (label_key levels k)) (λ key h. found_labels_is levels tuples key some)
+label_pick_is levels tuples k some = any_then _ (label_key levels k) _ (λ key. found_labels_is levels tuples key some)
 
 -- a mask
 module _ (t m : Table) (some : 1 ≤ length t.level_names) where
@@ -178,20 +173,15 @@ module _ (t : Table) (s : IsShaped t) where
 
   loc_rows_is : (k : GivenSub) → IfOk (loc_rows t k) AreRows
   loc_rows_is (key_given (one (table m))) = mask_pick_is t m s.some
-  loc_rows_is (key_given (one (cell c))) = search by_labels
-  loc_rows_is (key_given nothing) = search by_labels
-  loc_rows_is (key_given (row parts)) = search by_labels
-  loc_rows_is (key_given (many parts)) = search by_labels
-  loc_rows_is (key_given (entries pairs)) = search by_labels
-  loc_rows_is (span_given from to by) = search by_labels
+  loc_rows_is k = search by_labels
 
   once_is : (key : Tuple) (p : Pick) → AreRows p → IfOk (once key p) AreRows
   once_is = grind arith
 
   at_rows_is : (k : GivenSub) → IfOk (at_rows t k) AreRows
   at_rows_is k =
-      then_keeps (λ key. Unit {0}) _ _ _ (anything (whole_key (length t.level_names) k))
-      (λ key h. then_keeps _ _ _ _ (found_labels_is (length t.level_names) t.labels (one_key key) s.some) (once_is key))
+      any_then _ (whole_key (length t.level_names) k) _
+      (λ key. then_keeps _ _ _ _ (found_labels_is (length t.level_names) t.labels (one_key key) s.some) (once_is key))
 
 labels_pick_is : (t : Table) (k : GivenSub) → IsShaped t → IfOk (label_pick 1 (column_labels t) k) (IsPick 1 (length t.columns))
 labels_pick_is = search (rules, length-map, label_pick_is)
@@ -202,14 +192,18 @@ loc_columns_is t k s =
     grind arith
 
 rows_by_is : (by : Accessor) (t : Table) (k : GivenSub) → IsShaped t → IfOk (rows_by by t k) (IsPick (length t.level_names) (length t.labels))
-rows_by_is = grind (arith, loc_rows_is, then_keeps, anything, found_is, picked_is, placed_inside, at_rows_is)
+rows_by_is = grind (arith, loc_rows_is, then_keeps, any_then, found_is, picked_is, placed_inside, at_rows_is)
 
 columns_by_is : (by : Accessor) (t : Table) (k : GivenSub) → IsShaped t → IfOk (columns_by by t k) (IsPick 1 (length t.columns))
-columns_by_is = grind (arith, loc_columns_is, then_keeps, anything, found_is, picked_is, placed_inside)
+columns_by_is = grind (arith, loc_columns_is, then_keeps, any_then, found_is, picked_is, placed_inside)
 
 -- all places, and the only one
 pub below_all : (count : ℕ) → Below count (range_with_len 0 count)
 below_all = grind (arith, length-range_with_len, get_or-range_with_len)
+
+-- some of them
+pub some_below : (p : ℕ → Bool) (count : ℕ) → Below count (filter p (range_with_len 0 count))
+some_below p count = All-filter p (λ place. place < count) _ (below_all count)
 
 first_below : (count : ℕ) → 0 < count → Below count (0 ∷ [])
 first_below = grind arith
@@ -219,7 +213,7 @@ frame_reach_of : (t : Table) (rows columns : Result Pick FaultValue) → IsFrame
 frame_reach_of = grind (arith, then_keeps)
 
 reach_by_is : (p : Shape) (by : Accessor) (t : Table) (first : GivenSub) (second : Option GivenSub) → IsShaped t → t.shape ≡ p → IfOk (reach_by p by t first second) (IsReach t)
-reach_by_is = grind (arith, then_keeps, first_below, one_column, rows_by_is, anything, frame_reach_of, below_all, columns_by_is)
+reach_by_is = grind (arith, then_keeps, first_below, one_column, rows_by_is, any_then, frame_reach_of, below_all, columns_by_is)
 
 -- brackets on a frame
 column_reach_is : (t : Table) (l : LabelValue) → IsShaped t → IsFrame t → IfOk (column_reach t l) (IsReach t)

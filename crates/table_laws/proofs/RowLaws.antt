@@ -1,14 +1,14 @@
 -- Methods that answer some rows, or all in another order, make valid tables of valid ones.
 use Rattle.{
-  std.{proofs.{Common.{◌≡◌, ◌∙◌, ap, refl, ℕ, suc, ◌<◌, ℤ, List, [], ◌∷◌, length, map, arith}, lemmas.List.{length-map, Elements.{All-nil, All-cons, All-head, All-tail, All-filter}}}, specs.{Prelude.{Bool, None, IsSome, Result, IfOk, All}, List.{list_all, range_with_len}, Cmp.Lexicographic.{pointwise}}},
-  meaning.specs.{Cell.{truth_cell, Boolean}, Reduce.{is_present, same_cell}, Fault.{FaultValue}},
-  table_meaning.specs.{Table.{Table}, Value.{Given}},
+  std.{proofs.{Common.{◌≡◌, ◌∙◌, ap, refl, ℕ, suc, ◌<◌, ℤ, List, [], ◌∷◌, length, map, arith}, lemmas.List.{length-map, Elements.{All-nil, All-cons}}}, specs.{Prelude.{Bool, None, All}, List.{list_all, range_with_len}, Cmp.Lexicographic.{pointwise}}},
+  meaning.specs.{Cell.{truth_cell, Boolean, na_cell}, Reduce.{is_present, same_cell}},
+  table_meaning.specs.{Table.{Table, rows_of}, Value.{Given}},
   form_meaning.specs.{Finish.{first_repeated, limited}, Select.{columns_frame, column_places}},
   pick_meaning.{specs.Keys.{PlaceKey, picked_by_place}, proofs.{InsideLaws.{rows_inside}, KeyLaws.{placed_inside}}},
-  sorting.specs.Sorting.{put_in, in_order},
+  sorting.proofs.OrderLaws.{in_order_all},
   select_meaning.specs.{Keys.{found_pick}, Select.{rows_taken}},
-  method_meaning.specs.Rows.{placed_rows, head_result, tail_result, cells_by_row, all_places, dropna_result, repeats, marks_series, labels_in, subset_places, duplicated_result, sorted_result, sort_values_result, sort_by_result, places_besides, drop_result},
-  table_laws.proofs.{Words.{Keeps, Tuple, Below, IsFrame}, ListLaws.{all_made, all_mapped, length_tabulate, then_keeps, if_keeps}, ColumnLaws.{IsColumn}, TableLaws.{IsShaped, limited_keeps, column_of_table, series_heading, frame_headings, different, finished_keeps}, ReachLaws.{below_all, rows_shaped}},
+  method_meaning.specs.Rows.{subset_places, labels_in, placed_rows, head_result, tail_result, cells_by_row, all_places, dropna_result, repeats, marks_series, duplicated_result, sorted_result, sort_values_result, sort_by_result, places_besides, drop_result},
+  table_laws.proofs.{Words.{Keeps, Tuple, Below, IsFrame}, ListLaws.{all_made, all_mapped, all_tabulated, length_tabulate, then_keeps, any_then, if_keeps}, ColumnLaws.{IsColumn}, TableLaws.{IsShaped, some_labelled, limited_keeps, column_of_table, series_heading, frame_headings, different, finished_keeps}, ReachLaws.{below_all, some_below, rows_shaped}},
 }
 
 rows_keep : (t : Table) (rows : List ℕ) → IsShaped t → Below (length t.labels) rows → Keeps (limited (rows_taken t rows))
@@ -28,6 +28,9 @@ pub tail_keeps : (t : Table) (n : ℤ) → IsShaped t → Keeps (tail_result t n
 tail_keeps t n s = search (if_keeps, rows_keep, All-nil, placed_keep)
 
 -- a list of cells for each row
+pub cells_have : (t : Table) (places : List ℕ) → All (λ cells. length cells ≡ length places) (cells_by_row t places)
+cells_have t places = all_made (λ r. length r.cells ≡ length places) (λ cells. length cells ≡ length places) (λ r. r.cells) (λ r h. h) (rows_of na_cell (columns_frame t places)) (search (all_tabulated, length-map))
+
 pub rows_counted : (t : Table) (places : List ℕ) → length (cells_by_row t places) ≡ length t.labels
 rows_counted = grind (arith, length-map, length_tabulate)
 
@@ -46,29 +49,14 @@ marks_shaped t marks s size =
     let column : IsColumn (length t.labels) record { kind = Boolean; cells = map truth_cell marks } = record { filled = search length-map; held = search all_mapped } in
     search (All-cons, All-nil, series_heading)
 
-pub anything : {A : Type 0} (r : Result A FaultValue) → IfOk r (λ a. Unit {0})
-anything = grind arith
-
 pub duplicated_keeps : (t : Table) (subset : Given) → IsShaped t → Keeps (duplicated_result t subset)
 duplicated_keeps t subset s =
-    then_keeps (λ places. Unit {0}) _ _ _ (anything (subset_places t subset))
-    (λ places h.
+    any_then _ (subset_places t subset) _
+    (λ places.
     let marks = repeats (pointwise same_cell) [] (cells_by_row t places) in
     limited_keeps (marks_series t marks) (search (marks_shaped, repeats_count, rows_counted)))
 
 -- sorted rows are the rows
-put_in_all : {X : Type 0} (P : X → Type 0) (less : X → X → Bool) (x : X) (xs : List X) → P x → All P xs → All P (put_in less x xs)
-put_in_all P less x [] here all = grind arith
-put_in_all P less x (y ∷ ys) here all =
-    let first = All-head P y ys all in
-    let later = put_in_all P less x ys here (All-tail P y ys all) in
-    let kept = All-cons P y (put_in less x ys) first later in
-    grind arith
-
-in_order_all : {X : Type 0} (P : X → Type 0) (less : X → X → Bool) (xs : List X) → All P xs → All P (in_order less xs)
-in_order_all P less [] all = all
-in_order_all P less (x ∷ xs) all = put_in_all P less x _ (All-head P x xs all) (in_order_all P _ xs (All-tail P x xs all))
-
 pub sorted_keeps : (t : Table) (ascending : Bool) (keys : List Tuple) → IsShaped t → length keys ≡ length t.labels → Keeps (sorted_result t ascending keys)
 sorted_keeps t ascending keys s size =
     rows_keep t _ s
@@ -78,17 +66,13 @@ pub sort_values_keeps : (t : Table) (ascending : Bool) (places : List ℕ) → I
 sort_values_keeps t ascending places s = sorted_keeps t _ _ s (length-map (cells_by_row t places) _ ∙ rows_counted t _)
 
 pub sort_by_keeps : (t : Table) (ascending : Bool) (by : Given) → IsShaped t → Keeps (sort_by_result t ascending by)
-sort_by_keeps t ascending by s =
-    then_keeps (λ places. Unit {0}) _ _ _ (anything (column_places t (labels_in by))) (λ places h. sort_values_keeps t ascending places s)
+sort_by_keeps = search (any_then, sort_values_keeps)
 
 -- the columns that stay
 pub kept_shaped : (t : Table) (places : List ℕ) → IsShaped t → IsFrame t → Below (length t.columns) places → first_repeated (columns_frame t places).headings ≡ None → IsShaped (columns_frame t places)
 kept_shaped t places s is below none =
-    let some = all_made (λ place. place < length t.columns) IsSome _ (λ place lt. s.headings.labelled is place None (omega (arith, lt, s.headed))) places below in
-    search (length-map, all_made, column_of_table, frame_headings, different)
+    search (some_labelled, length-map, all_made, column_of_table, frame_headings, different)
 
 pub drop_keeps : (t : Table) (columns : Given) → IsShaped t → IsFrame t → Keeps (drop_result t columns)
 drop_keeps t columns s is =
-    then_keeps (λ places. Unit {0}) _ _ _ (anything (column_places t (labels_in columns)))
-    (λ places h. finished_keeps (columns_frame t (places_besides t places))
-    (kept_shaped t (places_besides t places) s is (All-filter _ (λ place. place < length t.columns) (all_places t) (below_all (length t.columns)))))
+    any_then _ (column_places t (labels_in columns)) _ (λ places. finished_keeps (columns_frame t (places_besides t places)) (kept_shaped t (places_besides t places) s is (some_below _ _)))

@@ -7,7 +7,7 @@ use Rattle.{
   pick_meaning.specs.Keys.{Pick},
   align_meaning.{specs.Faults.{AlignRefusal, met_rows}, proofs.FoundLaws.{reindexed_count}},
   select_meaning.specs.{Select.{Way}, Set.{SetValue, same, listed, aligned, set_value, put_result, with_rows, list_set, aligned_rows, column_at_rows, aligned_column, series_set, column_set, Reached, or_added, rows_set, Target, target_of, with_gap, with_row, kind_of_value, with_new_column, fit_from, filled_table, target_set, access_set, assign_result, removal_result}},
-  table_laws.{specs.Validity.{IsValidObject, IsHeldCell, IsValidGiven}, proofs.{Words.{Column, Name, Tuple, Cells, Apart, Levelled, IsFrame, IsSeries}, ListLaws.{both_true, all_made, all_mapped, then_keeps, All-put_at, length-put_at, All-remove, of_length_keeps, where_keeps}, ColumnLaws.{IsColumn, list_keeps, spread_column, Held, na_held}, TableLaws.{IsShaped, shaped, valid, limited_table_keeps, column_of_table, frame_headings, one_column, put_heading, column_place_found}, InfixLaws.{gap_held}}},
+  table_laws.{specs.Validity.{IsValidObject, IsHeldCell, IsValidGiven}, proofs.{Words.{Column, Name, Tuple, Cells, Apart, Levelled, IsFrame, IsSeries}, ListLaws.{both_true, all_made, all_mapped, then_keeps, any_then, All-put_at, length-put_at, All-remove, of_length_keeps, where_keeps}, ColumnLaws.{IsColumn, list_keeps, spread_column, Held, na_held}, TableLaws.{IsShaped, shaped, valid, limited_table_keeps, column_of_table, frame_headings, one_column, put_heading, column_place_found}, InfixLaws.{gap_held}}},
 }
 
 -- a column under a label at a place
@@ -153,11 +153,8 @@ new_column_shaped : (t : Table) (added : Name) (value : SetValue) → IsShaped t
 new_column_shaped t None value s h = s
 new_column_shaped t (Some l) value s h =
     let apart = subst (λ n. Apart (put_at t.headings n (Some l))) (search) (put_heading t.headings l (s.headings.different h.0)) in
-    then_keeps (λ kind. Unit {0}) IsShaped (kind_of_value value) _ (anything (kind_of_value value))
-    (λ kind k. placed_shaped t _ l (missing_column kind (length t.labels)) s h.0 (search (spread_column, na_held)) apart)
-  where
-    anything : {A : Type 0} (r : Result A FaultValue) → IfOk r (λ a. Unit {0})
-    anything = grind arith
+    any_then IsShaped (kind_of_value value) _
+    (λ kind. placed_shaped t _ l (missing_column kind (length t.labels)) s h.0 (search (spread_column, na_held)) apart)
 
 -- a row is added on one level, and a column under a label that no column has
 abbrev AddsTo : Table → Target → Type 0

@@ -135,10 +135,8 @@ given_keeps : (files : Files) (s : State) → IsValidState s → (a : Arg) → I
 given_keeps files s valid (tree.expr x) h =
     let value = value_of_keeps files s valid x h in
     grind arith
-given_keeps files s valid (tree.many parts) h = search after_any
-given_keeps files s valid (tree.row parts) h = search after_any
-given_keeps files s valid (tree.table pairs) h = search after_any
 given_keeps files s valid tree.nothing h = tt
+given_keeps files s valid _ h = search after_any
 
 -- states
 

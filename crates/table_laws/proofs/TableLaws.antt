@@ -1,10 +1,10 @@
 -- Tables whose parts fit, before their limits are tested.
 use Rattle.{
-  std.{proofs.{Common.{arith, ◌≡◌, ℕ, ◌<◌, ◌≤◌, List, [], ◌∷◌, length, ◌≢◌, refl, zero, suc}, lemmas.{Bool.Decides.{nat_tests}, Cmp.{tied_itself}, List.{Elements.{All-nil, All-head, All-tail}, Quantifiers.{all_pairs_push}}}}, specs.{Prelude.{true, None, IsSome, IfOk, All, Bool, false, ◌||◌, nat_lt, slice_set, slice_index_or, Option, Some, IfSome, option_map, unwrap_or}, Bool.{Decides}, FinMap.{nat_cmp-IsAntisymmetric, slice_cmp-IsAntisymmetric}, List.{list_any}, Ordering.{is_eq, bool_cmp}, declared.cmp.Ordering.{Ordering, TheVariants.{Equal}}}},
-  cell_core.{specs.{declared.grid.Shape.{Shape, TheVariants.{Series, Frame}}, Values.{LabelValue, truth, int, text, na, label_cmp}}, proofs.LabelLaws.{label_total}},
+  std.{proofs.{Common.{arith, ◌≡◌, ℕ, ◌<◌, ◌≤◌, List, [], ◌∷◌, length, map, ◌≢◌, refl, suc}, lemmas.{Bool.Decides.{nat_tests}, List.{set-get_or, Elements.{All-nil, All-head, All-tail}, Quantifiers.{all_pairs_push}}}}, specs.{Prelude.{true, None, IsSome, IfOk, All, Bool, false, ◌||◌, nat_lt, slice_index_or, Option, Some, IfSome, option_map, unwrap_or}, Bool.{Decides}, List.{list_any}}},
+  cell_core.{specs.{declared.grid.Shape.{Shape, TheVariants.{Series, Frame}}, Values.{LabelValue}}, proofs.LabelLaws.{value_decides}},
   table_meaning.specs.{Table.{Table, column_at}, Valid.{AreHeadings, IsValid, within_limits}, Change.{put_at}},
-  form_meaning.specs.{Finish.{limited_table, limited, with_columns, same_heading, first_repeated, finished}, Binding.{same_label}, Select.{place_of_label, found, column_place}},
-  table_laws.proofs.{Words.{Keeps, Column, Name, Apart}, ColumnLaws.{IsColumn}, ListLaws.{both_ways}},
+  form_meaning.specs.{Finish.{limited_table, limited, with_columns, same_heading, first_repeated, finished}, Binding.{same_label}, Select.{heading_at, place_of_label, found, column_place}},
+  table_laws.proofs.{Words.{Keeps, Column, Name, Apart, IsFrame, Below}, ColumnLaws.{IsColumn}, ListLaws.{both_ways, all_made}},
 }
 
 -- a table that is valid if it is within the limits
@@ -39,6 +39,10 @@ column_of_table = grind arith
 pub series_heading : (s : Shape) (name : Name) (h : Name) → s ≡ Series → name ≡ None → AreHeadings s name (h ∷ [])
 series_heading = grind arith
 
+-- some of the labels of a frame
+pub some_labelled : (t : Table) → IsShaped t → IsFrame t → (places : List ℕ) → Below (length t.columns) places → All IsSome (map (heading_at t) places)
+some_labelled t s is places below = all_made (λ place. place < length t.columns) IsSome (heading_at t) (λ place lt. s.headings.labelled is place None (omega (arith, lt, s.headed))) places below
+
 -- the labels of a frame
 pub frame_headings : (s : Shape) (name : Name) (hs : List Name) → s ≡ Frame → All IsSome hs → Apart hs → AreHeadings s name hs
 frame_headings = grind arith
@@ -48,22 +52,8 @@ pub one_column : (t : Table) → IsShaped t → t.shape ≡ Series → length t.
 one_column = grind arith
 
 -- labels of columns that differ
-bool_same : (a b : Bool) → bool_cmp a b ≡ Equal → a ≡ b
-bool_same = grind arith
-
--- labels that compare as equal are the same
-value_same : (a b : LabelValue) → label_cmp a b ≡ Equal → a ≡ b
-value_same (truth a) (truth b) e = search bool_same
-value_same (int a) (int b) e = grind arith
-value_same (text a) (text b) e = cc (slice_cmp-IsAntisymmetric nat_cmp-IsAntisymmetric a b e)
-value_same na na e = refl
-value_same a b e = cc
-
-is_equal : (o : Ordering) → is_eq o ≡ true → o ≡ Equal
-is_equal = grind arith
-
 pub label_decides : (a b : LabelValue) → Decides (same_label a b) (a ≡ b)
-label_decides = grind (arith, value_same, is_equal, tied_itself, label_total)
+label_decides a b = value_decides a b
 
 -- the label of a heading
 met : (l : LabelValue) (h : Name) → same_heading (Some l) h ≡ true → h ≡ Some l
@@ -122,11 +112,6 @@ found_within hs l =
 pub column_place_found : (t : Table) (l : LabelValue) → IfOk (column_place t l) (λ place. place < length t.headings)
 column_place_found t l = found_within t.headings l
 
-set_same : {X : Type 0} (xs : List X) (i : ℕ) (x d : X) → i < length xs → slice_index_or xs i d ≡ x → slice_set xs i x ≡ xs
-set_same [] i x d lt is = refl
-set_same (y ∷ ys) zero x d lt is = cc
-set_same (y ∷ ys) (suc i) x d lt is = grind (arith, set_same ys)
-
 not_below : (n : ℕ) → nat_lt n n ≡ false
 not_below n = grind (arith, nat_tests)
 
@@ -135,5 +120,5 @@ pub put_heading : (hs : List Name) (l : LabelValue) → Apart hs → Apart (put_
 put_heading hs l apart = by _ refl (place_found hs l)
   where
     by : (o : Option ℕ) → place_of_label hs l ≡ o → IfSome o (IsPlace hs l) → Apart (put_at hs (unwrap_or o (length hs)) (Some l))
-    by (Some p) e at = grind (arith, nat_tests, set_same)
+    by (Some p) e at = grind (arith, nat_tests, set-get_or)
     by None e at = grind (arith, not_below (length hs), all_pairs_push (λ a b. a ≢ b) hs (Some l) apart (λ k d lt. place_absent hs l e k d lt))

@@ -1,19 +1,15 @@
 use Rattle.{
-  std.proofs.Common.{ap, sym, ◌∙◌},
-  column_core.{specs.Views.{borrowed_column}, proofs.ColumnLaws.{length-column, given-row}},
+  std.proofs.Common.{arith, ap, sym, ◌∙◌},
+  column_core.{specs.Views.{borrowed_column}, proofs.ColumnLaws.{length-tabulate, given-row}},
   nullable_array.proofs.ColumnAnswers.{given_at},
 }
 use Rattle.column_operators.proofs.kernels.sums.Goals as goal
 
 pub numbers-requires : goal.numbers-requires
-numbers-requires c =
-    length-column _ _ _ _ (ap borrowed_column (sym c.in-Ints-Ints.is-0) ∙ c.a.view_is) ∙ c.requires.same
-    ∙ sym (length-column _ _ _ _ (ap borrowed_column (sym c.in-Ints-Ints.is-1) ∙ c.b.view_is))
+numbers-requires = grind (arith, length-tabulate)
 
 pub joined-requires-clause-same : goal.joined-requires-clause-same
-joined-requires-clause-same c =
-    length-column _ _ _ _ (ap borrowed_column (sym c.in-Texts-Texts.is-0) ∙ c.a.view_is) ∙ c.requires.same
-    ∙ sym (length-column _ _ _ _ (ap borrowed_column (sym c.in-Texts-Texts.is-1) ∙ c.b.view_is))
+joined-requires-clause-same = grind (arith, length-tabulate)
 
 pub returns-in-Ints-Ints-clause-given : goal.returns-in-Ints-Ints-clause-given
 returns-in-Ints-Ints-clause-given c = given_at _ _ c.numbers.ensures.given

@@ -1,11 +1,8 @@
 use Rattle.{
-  std.proofs.Common.{◌≤◌, arith, string_bytes},
+  std.proofs.Common.{arith, string_bytes},
   csv_frames.proofs.SkippedLaws.{label_found},
 }
 use Rattle.csv_frames.proofs.labels.free_label.Goals as goal
 
 pub returns-then-branch-clause-label : goal.returns-then-branch-clause-label
-returns-then-branch-clause-label c =
-    let n = c.loop-number.number-counter in
-    let some : 1 ≤ n = omega arith in
-    label_found _ _ _ n _ some (omega arith) c.loop-number.invariant.skipped c.in_ok-numbered.ensures.ok (grind (arith, string_bytes))
+returns-then-branch-clause-label c = label_found _ _ _ c.loop-number.number-counter _ (omega arith) (omega arith) c.loop-number.invariant.skipped c.in_ok-numbered.ensures.ok (grind (arith, string_bytes))

@@ -1,6 +1,6 @@
 use Rattle.{
   factorize.proofs.{KeyNumberLaws.{sight_firsts, all_codes}, GroupLaws.{below_count, codes_below, codes_are, groups_counted, rows_are, law_of}},
-  std.proofs.Common.{arith, ◌≡◌, ◌∙◌, false, ap, rules},
+  std.proofs.Common.{arith, ◌∙◌, ap, rules},
 }
 use Rattle.factorize.proofs.factor.group_by_keys.Goals as goal
 
@@ -10,10 +10,7 @@ groups_of_all-requires g c =
     _ c.in_ok-numbers.ensures.firsts c.in_ok-numbers.numbers.codes.items c.in_ok-numbers.ensures.codes
 
 pub returns-then-not-dropna-clause-codes : goal.returns-then-not-dropna-clause-codes
-returns-then-not-dropna-clause-codes g c =
-    let unsorted : c.args.sorted ≡ false = search rules in
-    let whole : c.args.dropna ≡ false = search rules in
-    grind (arith, c.in_ok-all.ensures.groups, all_codes c.args.dict.now (g.R.KeyLevels.keys c.args.rows.now) c.args.sorted c.args.dropna unsorted whole c.in_ok-numbers.numbers.codes.items c.in_ok-numbers.ensures.codes)
+returns-then-not-dropna-clause-codes g c = grind (arith, c.in_ok-all.ensures.groups, all_codes c.args.dict.now (g.R.KeyLevels.keys c.args.rows.now) c.args.sorted c.args.dropna (search rules) (search rules) c.in_ok-numbers.numbers.codes.items c.in_ok-numbers.ensures.codes)
 
 pub returns-then-not-dropna-clause-firsts : goal.returns-then-not-dropna-clause-firsts
 returns-then-not-dropna-clause-firsts = grind (arith, sight_firsts)

@@ -28,12 +28,10 @@ loop-level-preserved g c =
 
 pub returns-clause-codes : goal.returns-clause-codes
 returns-clause-codes g c =
-    let rows = g.R.KeyLevels.keys c.args.rows.now in
     let none : c.loop-level.level ≡ 0 = omega (arith, c.loop-level-test.false) in
-    cc (c.loop-level.invariant.numbered.coded, drop_none rows)
+    cc (c.loop-level.invariant.numbered.coded, drop_none (g.R.KeyLevels.keys _))
 
 pub returns-clause-firsts : goal.returns-clause-firsts
 returns-clause-firsts g c =
-    let rows = g.R.KeyLevels.keys c.args.rows.now in
     let none : c.loop-level.level ≡ 0 = omega (arith, c.loop-level-test.false) in
-    cc (c.loop-level.invariant.numbered.first, drop_none rows)
+    cc (c.loop-level.invariant.numbered.first, drop_none (g.R.KeyLevels.keys _))

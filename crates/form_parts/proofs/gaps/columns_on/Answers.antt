@@ -11,9 +11,8 @@ pub loop-place-preserved : goal.loop-place-preserved
 loop-place-preserved c =
     let lt : c.loop-place.place < length c.args.on.now.columns = omega arith in
     record {
-      columns = one_more_on c.args.on.now.columns c.args.rows.now c.loop-place.place c.loop-place.made c.push.new.self c.into_block.result lt c.loop-place.invariant.columns c.in_ok-push.ensures.ok
-          (block_on c.into_block.result c.in_ok-column.column c.column.result _ c.args.rows.now c.into_block.ensures c.in_ok-column.ensures.kind c.in_ok-column.ensures.cells c.column.ensures.column);
-      single = single_on c.loop-place.made c.push.new.self c.into_block.result c.in_ok-column.column c.loop-place.invariant.single c.into_block.ensures c.in_ok-push.ensures.ok;
+      columns = one_more_on _ _ _ _ _ _ lt c.loop-place.invariant.columns c.in_ok-push.ensures.ok (block_on _ _ _ _ _ c.into_block.ensures c.in_ok-column.ensures.kind c.in_ok-column.ensures.cells c.column.ensures.column);
+      single = single_on _ _ _ _ c.loop-place.invariant.single c.into_block.ensures c.in_ok-push.ensures.ok;
     }
 
 pub returns-clause-columns : goal.returns-clause-columns

@@ -5,5 +5,6 @@ use Rattle.{
 use Rattle.form_parts.proofs.labels.same_label.Goals as goal
 
 pub returns : goal.returns
-returns c = let is : Decides c.eq.result (c.args.a ≡ c.args.b) = search rules in
-    same_by_number _ _ _ _ c.len.ensures.distinct c.requires.a c.requires.b is
+returns c =
+    let is : Decides c.eq.result (c.args.a ≡ c.args.b) = search rules in
+    search same_by_number

@@ -1,6 +1,7 @@
 use Rattle.{
+  frame_store.{proofs.Settling.{settled_later, settled_with}, specs.Shown.{shown}},
   std.proofs.Common.{arith},
-  form_parts.proofs.ObjectMade.{kept_settled, added_settled, refused, out_of_memory, added},
+  form_parts.proofs.ObjectMade.{kept_settled, refused, out_of_memory, added},
 }
 use Rattle.form_parts.proofs.objects.placed.Goals as goal
 
@@ -20,7 +21,7 @@ returns-in_err-id-clause-answers c = λ earlier meant longer settled makes. (
 
 pub returns-clause-answers : goal.returns-clause-answers
 returns-clause-answers c = λ earlier meant longer settled makes. (
-  added earlier _ _ _ c.args.made c.in_ok-id.id c.in_ok-made.field-0 meant c.in_ok-made.was c.in_ok-id.ensures.fresh c.in_ok-id.ensures.ok longer settled makes,
+  added earlier _ _ _ _ _ _ meant c.in_ok-made.was c.in_ok-id.ensures.fresh c.in_ok-id.ensures.ok longer settled makes,
   longer,
-  added_settled earlier _ _ _ c.in_ok-id.id.0 c.in_ok-made.field-0 longer settled (grind arith) c.in_ok-id.ensures.ok,
+  settled_with _ _ _ c.in_ok-id.id.0 c.in_ok-made.field-0 (settled_later shown earlier _ _ longer settled) (grind arith) c.in_ok-id.ensures.ok,
 )

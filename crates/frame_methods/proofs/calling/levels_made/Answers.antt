@@ -16,16 +16,14 @@ set_index-requires-clause-known c = known_table _ _ _ c.read-source.ensures.tabl
 pub returns-in_ok-places-in-SetIndex-clause-answer : goal.returns-in_ok-places-in-SetIndex-clause-answer
 returns-in_ok-places-in-SetIndex-clause-answer c =
     let w = world c.args.store.now c.args.dict.now in
-    let at : c.read-source.result ≡ table_at w.tables c.args.on.0 = grind arith in
-    makes_by w _ _ c.args.bound.now _ _ _ (λ a t. set_index_result t (a 0)) _ at (ap method.Levels c.in-SetIndex.is) c.requires.call.parameters (λ v. refl)
+    makes_by w _ _ c.args.bound.now _ _ _ (λ a t. set_index_result t (a 0)) _ c.read-source.ensures.table (ap method.Levels c.in-SetIndex.is) c.requires.call.parameters (λ v. refl)
     (grind arith)
     c.set_index.ensures
 
 pub returns-in_ok-names-in-RenameAxis-clause-answer : goal.returns-in_ok-names-in-RenameAxis-clause-answer
 returns-in_ok-names-in-RenameAxis-clause-answer c =
     let w = world c.args.store.now c.args.dict.now in
-    let at : c.read-source.result ≡ table_at w.tables c.args.on.0 = grind arith in
-    makes_by w _ _ c.args.bound.now _ _ _ (λ a t. rename_axis_result t (a 0)) _ at (ap method.Levels c.in-RenameAxis.is) c.requires.call.parameters (λ v. refl)
+    makes_by w _ _ c.args.bound.now _ _ _ (λ a t. rename_axis_result t (a 0)) _ c.read-source.ensures.table (ap method.Levels c.in-RenameAxis.is) c.requires.call.parameters (λ v. refl)
     (grind arith)
     (c.rename_axis.ensures w.texts (object_settled _ _ _ _ c.read-source.ensures.table c.requires.settled) (subst (λ ns. IsSettled headings_value w.texts ns) (sym c.as_slice.ensures.value) (names_given c.args.bound.now 0 _ _ _ c.in_ok-names-in-RenameAxis.ensures c.requires.call.given)))
 

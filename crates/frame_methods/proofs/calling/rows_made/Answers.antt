@@ -9,15 +9,13 @@ use Rattle.{
   label_methods.{specs.Named.{first_in}, proofs.{AnswerLaws.{known_table}, NamedLaws.{all_are}}},
 }
 use Rattle.form_meaning.specs.declared.Method.TheVariants as method
-use Rattle.form_meaning.specs.declared.RowMethod.TheVariants as row_method
 use Rattle.frame_methods.proofs.calling.rows_made.Goals as goal
 
 pub returns-in-Dropna : goal.returns-in-Dropna
 returns-in-Dropna c =
     let w = world c.args.store.now c.args.dict.now in
-    let at : c.read-source.result ≡ table_at (tables c.args.store.now) c.args.on.0 = grind arith in
-    makes_by w (method.Rows c.args.method) (method.Rows row_method.Dropna) c.args.bound.now c.read-source.result _ c.dropna.result (λ a t. dropna_result t) _ at (ap method.Rows c.in-Dropna.is) c.requires.call.parameters (λ v. refl) refl
-    (c.dropna.ensures w.texts (object_settled w.texts w.tables c.args.on.0 c.read-source.result c.read-source.ensures.table c.requires.settled))
+    makes_by w _ _ c.args.bound.now _ _ _ (λ a t. dropna_result t) _ c.read-source.ensures.table (ap method.Rows c.in-Dropna.is) c.requires.call.parameters (λ v. refl) refl
+    (c.dropna.ensures w.texts (object_settled _ _ _ _ c.read-source.ensures.table c.requires.settled))
 
 -- the columns of a Series
 pub duplicated-requires-clause-known : goal.duplicated-requires-clause-known
@@ -40,8 +38,7 @@ sort_index-requires-clause-known c = known_table _ _ _ c.read-source.ensures.tab
 pub returns-in_ok-places-in-SortValuesSeries : goal.returns-in_ok-places-in-SortValuesSeries
 returns-in_ok-places-in-SortValuesSeries c =
     let w = world c.args.store.now c.args.dict.now in
-    let at : c.read-source.result ≡ table_at w.tables c.args.on.0 = grind arith in
-    makes_by w (method.Rows c.args.method) (method.Rows row_method.SortValuesSeries) c.args.bound.now c.read-source.result _ c.sort_values.result (λ a t. on (truth_in (a 0)) (λ b. sort_values_result t b (all_places t))) _ at (ap method.Rows c.in-SortValuesSeries.is) c.requires.call.parameters (λ v. refl)
+    makes_by w _ _ c.args.bound.now _ _ _ (λ a t. on (truth_in (a 0)) (λ b. sort_values_result t b (all_places t))) _ c.read-source.ensures.table (ap method.Rows c.in-SortValuesSeries.is) c.requires.call.parameters (λ v. refl)
     (grind (arith, all_are w.texts c.read-source.result c.in_ok-places-in-SortValuesSeries.places c.columns-in-SortValuesSeries.result c.in_ok-places-in-SortValuesSeries.ensures c.columns-in-SortValuesSeries.ensures, c.truth.ensures w.tables w.texts))
     c.sort_values.ensures
 
@@ -51,7 +48,7 @@ returns-in_ok-places-in-SortValuesFrame c =
     let s = table_value w.texts c.read-source.result in
     let at : c.read-source.result ≡ table_at w.tables c.args.on.0 = grind arith in
     let g = first_in w c.args.bound.now in
-    makes_by w (method.Rows c.args.method) (method.Rows row_method.SortValuesFrame) c.args.bound.now c.read-source.result _ c.sort_values-in-SortValuesFrame.result (λ a t. on (truth_in (a 1)) (λ b. sort_by_result t b (a 0))) _ at (ap method.Rows c.in-SortValuesFrame.is) c.requires.call.parameters (λ v. refl)
+    makes_by w _ _ c.args.bound.now _ _ _ (λ a t. on (truth_in (a 1)) (λ b. sort_by_result t b (a 0))) _ c.read-source.ensures.table (ap method.Rows c.in-SortValuesFrame.is) c.requires.call.parameters (λ v. refl)
     (ap (λ r. then_value r (sort_values_result s c.truth-ascending.result)) (sym (ap (λ n. column_places (table_value w.texts n) (labels_in g)) at ∙ c.in_ok-places-in-SortValuesFrame.ensures.0))
     ∙ ap (λ o. on o (λ b. sort_by_result s b g)) (c.truth-ascending.ensures w.tables w.texts))
     c.sort_values-in-SortValuesFrame.ensures

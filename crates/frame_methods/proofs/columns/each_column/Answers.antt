@@ -1,5 +1,5 @@
 use Rattle.{
-  std.proofs.{Common.{◌∙◌, ◌<◌, ◌++◌, ◌∷◌, [], ap, length, arith}, lemmas.Result.{err_from_is_err_and}},
+  std.proofs.{Common.{◌∙◌, ◌<◌, length, arith}, lemmas.Result.{err_from_is_err_and}},
   frame_methods.proofs.{ColumnLaws.{given_later, place_given, same_answer, front_step, front_refused, refused_columns}, HeldLaws.{are_given}},
 }
 use Rattle.frame_methods.proofs.columns.each_column.Goals as goal
@@ -23,4 +23,4 @@ loop-place-preserved g c =
     let made = c.in_ok-column.ensures in
     front_step _ _ _ _ _ _ _ _ _ _ _
     c.loop-place.invariant lt c.column.ensures.column made.longer made.given (made.rows ∙ c.column.ensures.rows)
-    (c.in_ok-push.ensures.ok ∙ ap (λ b. c.loop-place.made ++ b ∷ []) c.into_block.ensures) ((same_answer (g.O.ColumnOp.answer _) _ _ _ _ c.loop-place.invariant.longer (are_given _ _ c.requires.own) (place_given _ _ _ _ c.requires.settled lt c.column.ensures.column)) ∙ made.answer)
+    (rw c.into_block.ensures at c.in_ok-push.ensures.ok) ((same_answer (g.O.ColumnOp.answer _) _ _ _ _ c.loop-place.invariant.longer (are_given _ _ c.requires.own) (place_given _ _ _ _ c.requires.settled lt c.column.ensures.column)) ∙ made.answer)

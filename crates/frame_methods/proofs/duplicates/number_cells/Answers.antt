@@ -1,5 +1,5 @@
 use Rattle.{
-  std.proofs.{Common.{◌<◌, ◌≤◌, refl, sym, length, arith}, lemmas.Option.{get_or_from_slice_get}},
+  std.proofs.{Common.{◌<◌, ◌≤◌, sym, length, arith}, lemmas.Option.{get_or_from_slice_get}},
   frame_methods.proofs.DuplicateLaws.{numbered_more, numbers_more},
 }
 use Rattle.frame_methods.proofs.duplicates.number_cells.Goals as goal
@@ -8,8 +8,8 @@ pub loop-row-preserved : goal.loop-row-preserved
 loop-row-preserved c =
     let lt : c.loop-row.row < length c.args.numbers.now = omega arith in
     let stored = c.in_ok-next.ensures.stored in
-    numbered_more _ _ _ _ _ _ _ _ _ _ _
-    c.loop-row.invariant lt refl (sym (search get_or_from_slice_get)) c.in_ok-next.ensures.keys stored.1 stored.2 c.in_ok-next.ensures.unique refl
+    numbered_more _ _ _ _ _ _ _ _ _
+    c.loop-row.invariant lt (sym (search get_or_from_slice_get)) c.in_ok-next.ensures.keys stored.1 stored.2 c.in_ok-next.ensures.unique
 
 pub returns : goal.returns
 returns c =

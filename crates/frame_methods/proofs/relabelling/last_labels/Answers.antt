@@ -1,15 +1,11 @@
 use Rattle.{
   std.proofs.Common.{◌<◌, length, arith},
-  frame_methods.proofs.RenameLaws.{labels_settled, labels_step},
+  frame_methods.proofs.RenameLaws.{labels_step},
 }
 use Rattle.frame_methods.proofs.relabelling.last_labels.Goals as goal
 
 pub loop-key-preserved : goal.loop-key-preserved
 loop-key-preserved c =
     let lt : c.loop-key.key-index < length c.args.pairs.now = omega arith in
-    record {
-      settled = labels_settled _ _ _ _ _ _ _ _
-          c.requires lt c.loop-key-item.is c.scalar.ensures c.name_of.ensures c.in_ok-insert.ensures.entries c.loop-key.invariant.settled;
-      last = labels_step _ _ _ _ _ _ _ _ _
-          c.len.ensures.distinct c.requires lt c.loop-key-item.is c.scalar.ensures c.name_of.ensures c.in_ok-insert.ensures.entries c.loop-key.invariant.settled c.loop-key.invariant.last;
-    }
+    labels_step _ _ _ _ _ _ _ _ _
+    c.len.ensures.distinct c.requires lt c.loop-key-item.is c.scalar.ensures c.name_of.ensures c.in_ok-insert.ensures.entries c.loop-key.invariant

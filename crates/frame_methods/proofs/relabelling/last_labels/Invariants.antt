@@ -1,15 +1,11 @@
 use Rattle.{
-  std.proofs.Common.{◌≡◌, drop, []},
+  std.proofs.Common.{drop, []},
   indexmap.specs.IndexMap.{insert_all},
-  table_meaning.specs.Settled.{IsSettled},
   form_meaning.specs.Binding.{same_label},
-  frame_methods.specs.Renames.{given_labels, pairs_seen},
+  frame_methods.{specs.Renames.{given_labels}, proofs.RenameLaws.{LabelsSoFar}},
 }
 use Rattle.frame_methods.proofs.relabelling.last_labels.Given as goal
 
 -- the labels so far, before the others
 abbrev pub invariant-loop-key : goal.invariant-loop-key
-invariant-loop-key l = record {
-  settled : IsSettled pairs_seen l.dict l.labels.entries;
-  last : insert_all same_label (pairs_seen l.dict l.labels.entries) (given_labels l.dict (drop l.key-index l.pairs)) ≡ insert_all same_label [] (given_labels l.dict l.pairs);
-}
+invariant-loop-key l = LabelsSoFar l.dict l.labels.entries (drop l.key-index l.pairs) (insert_all same_label [] (given_labels l.dict l.pairs))

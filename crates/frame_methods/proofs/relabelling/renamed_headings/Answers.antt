@@ -12,15 +12,15 @@ returns-then-not-have_labels-clause-answer c =
 pub returns-clause-headings : goal.returns-clause-headings
 returns-clause-headings c =
     new_heads _ _ _ _ _ (c.deref.ensures.value ∙ c.in_ok-headings.ensures)
-    (c.requires.whole.headings.labelled c.requires.shape) c.different_headings.ensures.different c.different_headings.ensures.made
+    (c.requires.whole.headings.labelled c.requires.shape) c.different_headings.ensures
 
 pub returns-clause-settled : goal.returns-clause-settled
 returns-clause-settled c =
     new_settled _ _ _ _ _ _ (c.deref.ensures.value ∙ c.in_ok-headings.ensures)
-    c.in_ok-labels.ensures.settled (headings_part _ _ c.requires.settled) c.different_headings.ensures.made
+    c.in_ok-labels.ensures.settled (headings_part _ _ c.requires.settled) c.different_headings.ensures
 
 pub returns-clause-answer : goal.returns-clause-answer
 returns-clause-answer c =
-    new_meant _ _ _ _ _ _ _ c.len.ensures.distinct
+    new_meant _ c.len.ensures.distinct _ _ _ _ _ _
     c.in_ok-labels.ensures.settled (headings_part _ _ c.requires.settled) c.in_ok-labels.ensures.last (c.deref.ensures.value ∙ c.in_ok-headings.ensures) (sym c.have_labels.ensures ∙ c.if-not-have_labels.false)
-    c.different_headings.ensures.different c.different_headings.ensures.made c.different_headings.ensures.refused
+    c.different_headings.ensures

@@ -1,5 +1,5 @@
 use Rattle.{
-  std.{proofs.Common.{arith, ◌≡◌, ◌∙◌, ap, true, length, rules}, specs.List.{range_with_len}},
+  std.proofs.Common.{arith, ◌≡◌, true, length, rules},
   form_meaning.specs.Finish.{within_limits},
   selections.proofs.PickedLaws.{places_inside, places_count},
   frame_methods.proofs.RowLaws.{rows_made},
@@ -17,5 +17,5 @@ returns c = λ texts settled.
     let t = c.args.on.now in
     let within : within_limits (length c.args.rows.now) (length t.columns) ≡ true = search rules in
     rows_made _ t _ _ _ _
-    c.in_ok-headings.ensures (c.in_ok-columns.ensures ∙ ap (range_with_len 0) c.columns-2.ensures)
+    c.in_ok-headings.ensures (rw c.columns-2.ensures at c.in_ok-columns.ensures)
     (grind arith) within settled

@@ -1,6 +1,5 @@
 use Rattle.{
   std.proofs.lemmas.List.{length-map, FromFn.{length-range_with_len}},
-  label_methods.proofs.RowLaws.{cells_in},
   frame_methods.proofs.SortLaws.{cells_of_row},
 }
 use Rattle.frame_methods.proofs.sorts.sort_values.Goals as goal
@@ -8,6 +7,6 @@ use Rattle.frame_methods.proofs.sorts.sort_values.Goals as goal
 pub returns : goal.returns
 returns c =
     c.sorted_table.ensures _ record {
-      count = search (length-map, cells_in, length-range_with_len);
+      count = search (length-map, length-range_with_len);
       each = λ row lt. cells_of_row c.args.dict.now c.args.on.now c.args.places.now c.in_ok-columns_at.field-0.items row c.in_ok-columns_at.ensures lt;
     }

@@ -1,5 +1,5 @@
 use Rattle.{
-  std.proofs.{Common.{◌∙◌, ◌<◌, ◌≤◌, ◌∷◌, [], ap, arith, map, take, length, slice_index_or}, lemmas.List.{take_more, take_all, map-append}},
+  std.proofs.{Common.{◌∷◌, [], arith, take, slice_index_or}, lemmas.List.{take_more, take_all, map-append}},
   group_meaning.specs.Reductions.{count_cell},
   group_by.proofs.NumberLaws.{no_numbers, numbers_more, same_numbers},
 }
@@ -15,13 +15,8 @@ pub loop-count-preserved : goal.loop-count-preserved
 loop-count-preserved c =
     let counts = c.args.counts.now in
     let k = c.loop-count.count-index in
-    let lt : k < length counts = omega arith in
-    numbers_more _ _ _ _ _ _
-    c.loop-count.invariant c.counted.ensures.held c.counted.ensures.value c.in_ok-push.ensures.ok
-    (λ texts. ap (map count_cell) (take_more counts k 0 lt) ∙ map-append count_cell (take k counts) ((slice_index_or counts k 0) ∷ []))
+    numbers_more _ _ _ _ _ _ c.loop-count.invariant c.counted.ensures.held c.counted.ensures.value c.in_ok-push.ensures.ok
+    (λ texts. cc (take_more counts k 0 (omega arith), map-append count_cell (take k counts) (slice_index_or counts k 0 ∷ [])))
 
 pub returns : goal.returns
-returns c =
-    let counts = c.args.counts.now in
-    let end : length counts ≤ c.loop-count.count-index = omega arith in
-    same_numbers _ _ _ c.loop-count.invariant (λ texts. ap (map count_cell) (take_all c.loop-count.count-index counts end))
+returns c = same_numbers _ _ _ c.loop-count.invariant (λ texts. grind (arith, take_all))

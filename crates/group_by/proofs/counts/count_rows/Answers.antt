@@ -1,5 +1,5 @@
 use Rattle.{
-  std.proofs.{Common.{◌≡◌, ◌<◌, ◌^◌, subst, arith, rules, slice_index_or, None}, lemmas.{List.{take_all}, Option.{get_or_from_slice_get}}},
+  std.proofs.{Common.{◌≡◌, arith, slice_index_or, None}, lemmas.{List.{take_all}, Option.{get_or_from_slice_get}}},
   group_by.proofs.NumberLaws.{room, rows_counted},
 }
 use Rattle.group_by.proofs.counts.count_rows.Goals as goal
@@ -8,9 +8,7 @@ pub count_one-requires-clause-below : goal.count_one-requires-clause-below
 count_one-requires-clause-below = grind arith
 
 pub count_one-requires-clause-room : goal.count_one-requires-clause-room
-count_one-requires-clause-room c =
-    let small : c.rows-row-end.result < 2 ^ 64 = search rules in
-    room _ _ _ _ (omega arith) (subst (λ n. n < 2 ^ 64) c.rows-row-end.ensures small) c.loop-row.invariant.size c.loop-row.invariant.each
+count_one-requires-clause-room c = room c.args.groups.now.codes c.loop-row.row _ _ (omega arith) (grind arith) c.loop-row.invariant.size c.loop-row.invariant.each
 
 pub loop-row-init : goal.loop-row-init
 loop-row-init = grind arith

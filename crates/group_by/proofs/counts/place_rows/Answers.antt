@@ -1,6 +1,6 @@
 use Rattle.{
-  std.{proofs.{Common.{◌≡◌, ◌∙◌, ◌<◌, ◌^◌, ap, sym, subst, arith, rules, length, map, take, slice_index_or, None}, lemmas.{List.FromFn.{map-range_with_len_more}, Option.{get_or_from_slice_get}}}, specs.List.{range_with_len}},
-  group_meaning.specs.{Rows.{rows_of_group}, Reductions.{count_cell, of_group, count_before}},
+  std.proofs.{Common.{◌≡◌, ◌∙◌, ◌<◌, ap, sym, arith, length, take, slice_index_or, None}, lemmas.{List.FromFn.{map-range_with_len_more}, Option.{get_or_from_slice_get}}},
+  group_meaning.specs.{Rows.{rows_of_group}, Reductions.{count_cell, of_group}},
   group_by.proofs.NumberLaws.{room, rows_counted, no_numbers, numbers_more, same_numbers, of_one_group},
 }
 use Rattle.group_by.proofs.counts.place_rows.Goals as goal
@@ -18,9 +18,7 @@ pub count_one-requires-clause-below : goal.count_one-requires-clause-below
 count_one-requires-clause-below = grind arith
 
 pub count_one-requires-clause-room : goal.count_one-requires-clause-room
-count_one-requires-clause-room c =
-    let small : c.rows-row-end.result < 2 ^ 64 = search rules in
-    room _ _ _ _ (omega arith) (subst (λ n. n < 2 ^ 64) c.rows-row-end.ensures small) c.loop-row.invariant.size c.loop-row.invariant.each
+count_one-requires-clause-room c = room c.args.groups.now.codes c.loop-row.row _ _ (omega arith) (grind arith) c.loop-row.invariant.size c.loop-row.invariant.each
 
 pub loop-row-preserved : goal.loop-row-preserved
 loop-row-preserved c =
@@ -42,7 +40,4 @@ loop-row-preserved c =
     }
 
 pub returns : goal.returns
-returns c =
-    let codes = c.args.groups.now.codes in
-    let end : c.loop-row.row ≡ length codes = omega arith in
-    same_numbers _ _ _ c.loop-row.invariant.made (λ texts. ap (λ n. map (count_before codes) (range_with_len 0 n)) end)
+returns c = same_numbers _ _ _ c.loop-row.invariant.made (λ texts. grind arith)

@@ -1,12 +1,12 @@
 use Rattle.{
-  std.proofs.{Common.{◌≡◌, ◌∙◌, ap, subst, refl, arith, map, All}, lemmas.List.{with_items_is, Elements.{All-replicate}}},
+  group_by.proofs.NumberLaws.{all_alike, same_numbers, counts_cells, if_ok_more},
+  std.proofs.{Common.{◌∙◌, ap, arith, map}, lemmas.List.{with_items_is}},
   group_meaning.specs.Reductions.{count_cell},
-  group_by.proofs.NumberLaws.{same_numbers, counts_cells, if_ok_more},
 }
 use Rattle.group_by.proofs.distinct.distinct_counts.Goals as goal
 
 pub count_distinct-requires-clause-zero : goal.count_distinct-requires-clause-zero
-count_distinct-requires-clause-zero c = subst (All (λ n. n ≡ 0)) (grind arith) (All-replicate (λ n. n ≡ 0) c.count.result 0 refl)
+count_distinct-requires-clause-zero c = all_alike 0 c.count.result _ (grind arith)
 
 pub returns : goal.returns
 returns c =

@@ -1,15 +1,13 @@
 use Rattle.{
-  std.proofs.Common.{arith, ◌≡◌, ◌∙◌, ap, sym, subst, map},
-  meaning.specs.{Cell.{na_cell, datum, AreGiven}, Column.{gap_cell}},
+  std.proofs.Common.{arith, ◌≡◌, ◌∙◌, ap, map},
+  meaning.specs.{Cell.{na_cell, datum}, Column.{gap_cell}},
   group_meaning.specs.Reductions.{reduced_cells},
   group_by.{specs.Operations.{reduction_of}, proofs.CallLaws.{transform_answer, gaps_seen, taken_given}},
 }
 use Rattle.group_by.proofs.groups.group_transform.Goals as goal
 
 pub returns-clause-given : goal.returns-clause-given
-returns-clause-given g c =
-    subst (AreGiven c.args.dict.now) (sym c.in_ok-take.ensures.cells)
-    (taken_given _ _ _ (grind arith))
+returns-clause-given g c = rw c.in_ok-take.ensures.cells (taken_given _ _ _ (grind arith))
 
 pub returns-clause-answer : goal.returns-clause-answer
 returns-clause-answer g c =

@@ -1,7 +1,7 @@
 use Rattle.{
   std.proofs.{Common.{◌≡◌, ◌<◌, arith, length, map, slice_index_or, None}, lemmas.{List.{take_all, get_or-map}, Option.{get_or_from_slice_get}}},
   meaning.specs.Cell.{na_cell, datum},
-  group_by.{specs.Cells.{IsCellOf}, proofs.RowLaws.{taken_in}},
+  group_by.proofs.RowLaws.{taken_in},
 }
 use Rattle.group_by.proofs.reduce.gather_rows.Goals as goal
 
@@ -15,18 +15,15 @@ pub loop-row-preserved : goal.loop-row-preserved
 loop-row-preserved g c =
     let texts = c.args.dict.now in
     let codes = c.args.groups.now.codes in
-    let cells = c.args.a.now.cells in
     let row = c.loop-row.row in
     let cell = c.cell.result in
     let inside : row < length codes = omega (arith, c.loop-row-test.true, c.rows-row-end.ensures) in
-    let lt : row < length cells = omega (arith, inside, c.requires.rows) in
-    let at : slice_index_or cells row cell ≡ cell = search get_or_from_slice_get in
-    let here : slice_index_or (map (datum texts) cells) row na_cell ≡ datum texts cell = grind (arith, get_or-map) in
+    let at : slice_index_or c.args.a.now.cells row cell ≡ cell = search get_or_from_slice_get in
+    let here : slice_index_or (map (datum texts) c.args.a.now.cells) row na_cell ≡ datum texts cell = grind (arith, get_or-map) in
     let is : slice_index_or codes row None ≡ c.code.result = search get_or_from_slice_get in
-    let one : IsCellOf texts c.args.a.now.kind cell = grind arith in
     record {
       size = grind arith;
-      held = c.gather_cell.ensures.held c.args.a.now.kind c.loop-row.invariant.held one;
+      held = c.gather_cell.ensures.held c.args.a.now.kind c.loop-row.invariant.held (grind arith);
       value = λ group below. taken_in _ _ inside _ g.G.Gather.op _ _ _ _ _ is here c.gather_cell.ensures.takes group (c.loop-row.invariant.value group below);
     }
 

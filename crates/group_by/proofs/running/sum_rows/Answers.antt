@@ -1,8 +1,8 @@
 use Rattle.{
-  std.{proofs.{Common.{◌≡◌, ◌∙◌, ◌<◌, ◌+◌, ap, sym, arith, length, map, take, slice_index_or, ℕ, List, None}, lemmas.{List.{get_or-map, FromFn.{map-range_with_len_more}}, Option.{get_or_from_slice_get}}}, specs.List.{range_with_len}},
+  std.proofs.{Common.{◌≡◌, ◌∙◌, ◌<◌, ◌+◌, ap, sym, arith, length, map, take, slice_index_or, ℕ, List, None}, lemmas.{List.{get_or-map, FromFn.{map-range_with_len_more}}, Option.{get_or_from_slice_get}}},
   cell_core.specs.declared.cell.Cell.TheVariants.{Na},
   meaning.specs.{Cell.{na_cell, datum}, Cumulate.{unless_missing}},
-  group_meaning.specs.{Rows.{cells_of_group}, Reductions.{of_group, group_cell, sum, running_cell}},
+  group_meaning.specs.{Rows.{cells_of_group}, Reductions.{of_group, group_cell, sum}},
   group_by.proofs.{RowLaws.{taken_in}, NumberLaws.{numbers_more, same_numbers, of_one_group}},
 }
 use Rattle.group_by.proofs.running.sum_rows.Goals as goal
@@ -10,13 +10,11 @@ use Rattle.group_by.proofs.running.sum_rows.Goals as goal
 pub loop-row-preserved : goal.loop-row-preserved
 loop-row-preserved c =
     let codes = c.args.groups.now.codes in
-    let cells = c.args.a.now.cells in
     let row = c.loop-row.row in
     let cell = c.cell-cell.result in
-    let values = λ (texts : List (List ℕ)). map (datum texts) cells in
+    let values = λ (texts : List (List ℕ)). map (datum texts) c.args.a.now.cells in
     let inside : row < length codes = omega arith in
-    let lt : row < length cells = omega (arith, inside, c.requires.rows) in
-    let here : (texts : List (List ℕ)) → slice_index_or (values texts) row na_cell ≡ datum texts cell = λ texts. get_or-map (datum texts) cells row cell na_cell lt ∙ ap (datum texts) (get_or_from_slice_get _ row _ _ c.cell-cell.ensures.cell) in
+    let here : (texts : List (List ℕ)) → slice_index_or (values texts) row na_cell ≡ datum texts cell = λ texts. grind (arith, get_or-map (datum texts) c.args.a.now.cells row cell na_cell, get_or_from_slice_get) in
     let is : slice_index_or codes row None ≡ c.code-group.result = search get_or_from_slice_get in
     let sums : (texts : List (List ℕ)) (g : ℕ) → g < c.args.groups.now.count → datum texts (slice_index_or c.add_cell.new.sums g Na) ≡ group_cell sum (cells_of_group g (take (row + 1) codes) (values texts))
     = λ texts g below. taken_in _ _ inside _ sum _ _ _ _ _ is (here texts) (c.add_cell.ensures.takes texts) g (c.loop-row.invariant.sums texts g below) in
@@ -35,8 +33,4 @@ loop-row-preserved c =
     }
 
 pub returns : goal.returns
-returns c =
-    let codes = c.args.groups.now.codes in
-    let end : c.loop-row.row ≡ length codes = omega arith in
-    same_numbers _ _ _ c.loop-row.invariant.made
-    (λ texts. ap (λ n. map (running_cell codes (map (datum texts) c.args.a.now.cells)) (range_with_len 0 n)) end)
+returns c = same_numbers _ _ _ c.loop-row.invariant.made (λ texts. grind arith)

@@ -1,15 +1,13 @@
 use Rattle.{
   frame_store.proofs.Settling.{labels_part, level_names_part, columns_name_part},
-  std.{proofs.{Common.{arith, ◌≡◌, ◌∙◌, ap, sym, true, false, length, rules}, lemmas.{List.{length-map}, Result.{err_from_is_err_and}}}, specs.List.{list_all}},
+  std.proofs.{Common.{arith, ◌∙◌, ap, sym, true, length, rules}, lemmas.{List.{length-map}, Result.{err_from_is_err_and}}},
   table_meaning.specs.Table.{table_value},
-  group_forms.{specs.Columns.{takes_at, made_at}, proofs.{GroupLaws.{blocks_counted}, RowLaws.{own_settled, labels_counted, along_refused, along_meant, along_headings, along_table, blocks_placed}, ShownLaws.{made_is, refused_is}}},
+  group_forms.{specs.Columns.{made_at}, proofs.{GroupLaws.{blocks_counted}, RowLaws.{own_settled, labels_counted, along_refused, along_meant, along_headings, along_table, blocks_placed}, ShownLaws.{made_is, refused_is}}},
 }
 use Rattle.group_forms.proofs.by_row.along_rows.Goals as goal
 
 pub returns-then-not-all_taken : goal.returns-then-not-all_taken
-returns-then-not-all_taken c =
-    let none : list_all (takes_at c.args.call c.args.on.now) c.args.values.now.places ≡ false = search rules in
-    search along_refused
+returns-then-not-all_taken c = along_refused c.args.dict.now c.args.on.now c.args.grouping.now c.args.values.now c.args.call c.requires.call (search rules)
 
 pub returns-in_err-headings : goal.returns-in_err-headings
 returns-in_err-headings c =
@@ -18,10 +16,9 @@ returns-in_err-headings c =
     let g = c.args.grouping.now in
     let v = c.args.values.now in
     let labels = c.as_slice.ensures.value ∙ c.in_ok-labels.ensures in
-    let all : list_all (takes_at c.args.call t) v.places ≡ true = search rules in
     let p = err_from_is_err_and c.from_residual-in_err-headings.result c.from_residual-in_err-headings.ensures.1 in
     rw (p.1, p.2)
-    (refused_is _ _ _ _ _ (along_meant _ t g v _ c.requires.call true all)
+    (refused_is _ _ _ _ _ (along_meant dict t g v c.args.call c.requires.call true (search rules))
     (c.in_err-headings.ensures.may (along_table dict t g v _ c.requires.call) (search along_headings)))
 
 -- the table
@@ -39,7 +36,6 @@ returns c =
     let g = c.args.grouping.now in
     let v = c.args.values.now in
     let labels = c.as_slice.ensures.value ∙ c.in_ok-labels.ensures in
-    let all : list_all (takes_at c.args.call t) v.places ≡ true = search rules in
     let f = made_at c.args.call c.in_ok-found.found.groups (table_value dict t) in
     let table = along_table dict t g v c.args.call c.requires.call in
     let columns = blocks_placed _ f _ _ _ c.new-blocks.ensures c.in_ok-made.ensures.columns in
@@ -55,4 +51,4 @@ returns c =
       labels_given = own_settled dict t v.places c.as_slice.result.now labels c.requires.known.given;
       blocks_given = c.in_ok-made.ensures.blocks.given;
     }
-    (along_meant _ t g v _ c.requires.call true all) (c.in_ok-headings.ensures.may table headed) c.in_ok-headings.ensures.made c.new_table.ensures
+    (along_meant dict t g v c.args.call c.requires.call true (search rules)) (c.in_ok-headings.ensures.may table headed) c.in_ok-headings.ensures.made c.new_table.ensures

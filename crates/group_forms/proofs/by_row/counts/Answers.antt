@@ -1,6 +1,6 @@
 use Rattle.{
-  std.proofs.{lemmas.{List.{length-map}, Result.{err_from_is_err_and}}, Common.{arith, ◌∙◌, ap, sym, subst, refl, true, [], ◌∷◌, None, length, map}},
-  frame_store.{proofs.Settling.{labels_part, level_names_part, columns_name_part}, specs.Parts.{block_column, HaveRows}},
+  std.proofs.{lemmas.{List.{length-map}, Result.{err_from_is_err_and}}, Common.{arith, ◌∙◌, ap, refl, true, [], ◌∷◌, None, length}},
+  frame_store.proofs.Settling.{labels_part, level_names_part, columns_name_part},
   group_forms.proofs.{RowLaws.{counts_table, counts_boxed, counts_seen}, ShownLaws.{made_is, refused_is}},
 }
 use Rattle.group_forms.proofs.by_row.counts.Goals as goal
@@ -15,7 +15,7 @@ new_table-requires-clause-rows c =
     let dict = c.args.dict.now in
     let boxed = counts_boxed _ c.args.on.now c.args.grouping.now _ c.in_ok-found.ensures.groups _ _ _ _ c.new-blocks.ensures c.into_block.ensures c.in_ok-push.ensures.ok
     (c.in_ok-column.ensures.answer dict) (c.in_ok-column.ensures.given dict) in
-    subst (λ n. HaveRows n (map block_column c.push.new.self)) (sym (ap (λ a. length a.tuples) (c.in_ok-axis.ensures ∙ c.axis.ensures))) boxed.filled
+    rw (ap (λ a. length a.tuples) (c.in_ok-axis.ensures ∙ c.axis.ensures)) boxed.filled
 
 pub returns : goal.returns
 returns c =
@@ -31,7 +31,7 @@ returns c =
       named = refl;
       axis_is = grind (arith, labels_part, level_names_part);
       headings = refl;
-      columns = (counts_seen dict t g c.in_ok-found.found.groups c.in_ok-found.ensures.groups c.in_ok-column.column c.into_block.result c.new-blocks.result c.push.new.self c.new-blocks.ensures c.into_block.ensures c.in_ok-push.ensures.ok (c.in_ok-column.ensures.answer dict));
+      columns = counts_seen dict t g _ c.in_ok-found.ensures.groups _ _ _ _ c.new-blocks.ensures c.into_block.ensures c.in_ok-push.ensures.ok (c.in_ok-column.ensures.answer dict);
       name_given = search columns_name_part;
       labels_given = λ more. refl;
       blocks_given = boxed.given;

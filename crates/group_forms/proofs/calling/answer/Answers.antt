@@ -1,12 +1,8 @@
 use Rattle.{
-  std.proofs.Common.{arith, ◌≡◌, ◌∙◌, ap, sym},
-  table_meaning.specs.Table.{table_value},
-  method_meaning.specs.Groups.{group_answer},
+  std.proofs.Common.{arith, ◌≡◌, ap, sym},
   frame_store.{specs.Objects.{tables, table_or}, proofs.Settling.{longer_self}},
-  group_by.specs.Operations.{reduction_of},
-  group_forms.{specs.{Calls.{call_of}, Grouped.{grouping_seen, values_seen}}, proofs.FormLaws.{known_table}},
+  group_forms.{specs.{Calls.{call_of}, Grouped.{grouping_seen, values_seen}}, proofs.FormLaws.{known_table, answer_at}},
 }
-use Rattle.method_meaning.specs.Groups as meant
 use Rattle.group_forms.proofs.calling.answer.Goals as goal
 
 pub reduced-table-requires-clause-known : goal.reduced-table-requires-clause-known
@@ -24,31 +20,23 @@ counts-table-requires-clause-known c = known_table _ _ _ c.read-in-Cumcount.ensu
 pub returns-in-Reduced : goal.returns-in-Reduced
 returns-in-Reduced c =
     let dict = c.args.dict.now in
-    let g = grouping_seen dict c.args.grouping.now in
-    let v = values_seen dict c.args.values.now in
     let at : c.read.result ≡ table_or (tables c.args.store.now c.args.on.0) = grind arith in
-    rw (ap (λ n. group_answer (table_value dict n) g v ((meant.reduced (reduction_of c.in-Reduced.op)))) at ∙ ap (λ x. group_answer (table_value dict (table_or (tables c.args.store.now c.args.on.0))) g v (call_of x)) (sym c.in-Reduced.is)) at (c.placed.ensures.answers dict _ (longer_self _) c.requires.settled c.reduced-table.ensures)
+    rw (answer_at dict (grouping_seen dict c.args.grouping.now) (values_seen dict c.args.values.now) at (ap call_of (sym c.in-Reduced.is))) at (c.placed.ensures.answers dict _ (longer_self _) c.requires.settled c.reduced-table.ensures)
 
 pub returns-in-Transformed : goal.returns-in-Transformed
 returns-in-Transformed c =
     let dict = c.args.dict.now in
-    let g = grouping_seen dict c.args.grouping.now in
-    let v = values_seen dict c.args.values.now in
     let at : c.read-in-Transformed.result ≡ table_or (tables c.args.store.now c.args.on.0) = grind arith in
-    rw (ap (λ n. group_answer (table_value dict n) g v ((meant.transformed (reduction_of c.in-Transformed.op)))) at ∙ ap (λ x. group_answer (table_value dict (table_or (tables c.args.store.now c.args.on.0))) g v (call_of x)) (sym c.in-Transformed.is)) at (c.placed-in-Transformed.ensures.answers dict _ (longer_self _) c.requires.settled c.along_rows-table.ensures)
+    rw (answer_at dict (grouping_seen dict c.args.grouping.now) (values_seen dict c.args.values.now) at (ap call_of (sym c.in-Transformed.is))) at (c.placed-in-Transformed.ensures.answers dict _ (longer_self _) c.requires.settled c.along_rows-table.ensures)
 
 pub returns-in-Cumsum : goal.returns-in-Cumsum
 returns-in-Cumsum c =
     let dict = c.args.dict.now in
-    let g = grouping_seen dict c.args.grouping.now in
-    let v = values_seen dict c.args.values.now in
     let at : c.read-in-Cumsum.result ≡ table_or (tables c.args.store.now c.args.on.0) = grind arith in
-    rw (ap (λ n. group_answer (table_value dict n) g v meant.cumsum) at ∙ ap (λ x. group_answer (table_value dict (table_or (tables c.args.store.now c.args.on.0))) g v (call_of x)) (sym c.in-Cumsum.is)) at (c.placed-in-Cumsum.ensures.answers dict _ (longer_self _) c.requires.settled c.along_rows-table-in-Cumsum.ensures)
+    rw (answer_at dict (grouping_seen dict c.args.grouping.now) (values_seen dict c.args.values.now) at (ap call_of (sym c.in-Cumsum.is))) at (c.placed-in-Cumsum.ensures.answers dict _ (longer_self _) c.requires.settled c.along_rows-table-in-Cumsum.ensures)
 
 pub returns-in-Cumcount : goal.returns-in-Cumcount
 returns-in-Cumcount c =
     let dict = c.args.dict.now in
-    let g = grouping_seen dict c.args.grouping.now in
-    let v = values_seen dict c.args.values.now in
     let at : c.read-in-Cumcount.result ≡ table_or (tables c.args.store.now c.args.on.0) = grind arith in
-    rw (ap (λ n. group_answer (table_value dict n) g v meant.cumcount) at ∙ ap (λ x. group_answer (table_value dict (table_or (tables c.args.store.now c.args.on.0))) g v (call_of x)) (sym c.in-Cumcount.is)) at (c.placed-in-Cumcount.ensures.answers dict _ (longer_self _) c.requires.settled c.counts-table.ensures)
+    rw (answer_at dict (grouping_seen dict c.args.grouping.now) (values_seen dict c.args.values.now) at (ap call_of (sym c.in-Cumcount.is))) at (c.placed-in-Cumcount.ensures.answers dict _ (longer_self _) c.requires.settled c.counts-table.ensures)

@@ -19,6 +19,5 @@ pub returns : goal.returns
 returns c =
     let dict = c.args.dict.now in
     let longer = c.in_ok-heading.ensures.longer in
-    forms_so _ _ _ _ _
+    forms_so _ _ _ _ _ (c.placed.ensures.answers dict _ longer c.requires.settled c.sizes-table.ensures)
     (ap (λ t. group_answer t (grouping_seen dict c.args.grouping.now) (values_seen dict c.args.values.now) meant.size) (seen_before _ _ _ _ c.read.ensures.table longer c.requires.settled))
-    (c.placed.ensures.answers dict _ longer c.requires.settled c.sizes-table.ensures)

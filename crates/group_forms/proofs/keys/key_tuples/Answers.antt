@@ -1,10 +1,8 @@
 use Rattle.{
-  std.proofs.Common.{◌<◌, length, arith},
+  std.proofs.Common.{arith},
   group_forms.proofs.KeyLaws.{one_more_tuple},
 }
 use Rattle.group_forms.proofs.keys.key_tuples.Goals as goal
 
 pub loop-k-preserved : goal.loop-k-preserved
-loop-k-preserved c =
-    let lt : c.loop-k.k < length c.args.rows.now = omega arith in
-    one_more_tuple c.args.on.now _ _ _ _ _ _ _ lt c.at.ensures c.row_tuple.ensures c.in_ok-push.ensures.ok c.loop-k.invariant
+loop-k-preserved c = one_more_tuple c.args.on.now _ c.args.rows.now _ _ _ _ _ (omega arith) c.at.ensures c.row_tuple.ensures c.in_ok-push.ensures.ok c.loop-k.invariant

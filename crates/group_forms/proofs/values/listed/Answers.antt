@@ -6,4 +6,4 @@ use Rattle.group_forms.proofs.values.listed.Goals as goal
 
 pub column_places-requires-clause-cells : goal.column_places-requires-clause-cells
 column_places-requires-clause-cells c =
-    listed_settled _ c.args.items.now _ (λ live ts. grind arith) c.requires.items
+    listed_settled _ c.args.items.now _ (grind arith) c.requires.items

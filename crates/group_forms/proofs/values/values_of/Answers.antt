@@ -29,14 +29,11 @@ listed-requires-clause-items c =
 pub returns-in-Some-list-clause-answer : goal.returns-in-Some-list-clause-answer
 returns-in-Some-list-clause-answer c =
     let w = world c.args.store.now c.args.dict.now in
-    let keys = c.args.keys.now in
     let items = c.in-Some-list.items.now in
     let T = table_value w.texts (table_at w.tables c.args.on.0) in
     let at : c.read-source.result ≡ table_at w.tables c.args.on.0 = grind arith in
-    let scalar = c.in-None.ensures w.tables w.texts in
-    let list = c.in-Some-list.ensures.parts w.tables w.texts in
     let same =
     ap (λ n. values_named (table_value w.texts n) None (Some (items_of w.tables w.texts items))) at
-    ∙ (λ i. values_named T (scalar i) (list i))
-    ∙ ap (λ o. values_in T keys (option_map (λ a. argument_in w a.now) o)) (sym c.in-Some.is) in
+    ∙ (λ i. values_named T (c.in-None.ensures w.tables w.texts i) (c.in-Some-list.ensures.parts w.tables w.texts i))
+    ∙ ap (λ o. values_in T c.args.keys.now (option_map (λ a. argument_in w a.now) o)) (sym c.in-Some.is) in
     grind arith

@@ -1,8 +1,7 @@
 use Rattle.{
   std.proofs.{Common.{◌≡◌, ◌∙◌, ◌<◌, [], ap, sym, length, map, slice_index_or, arith}, lemmas.{List.{get_or-map, length-map, Elements.{All-append}}, Result.{err_from_is_err_and}}},
   pick_meaning.{specs.{Masks.{cell_or_fault}, Rows.{only_row}}, proofs.{RowLaws.{when_so, when_not}, InsideLaws.{rows_inside}}},
-  row_keys.specs.Partners.{rows_with},
-  indexers.{specs.{Masks.{is_true}, Picks.{as_it_is}}, proofs.{AnswerLaws.{handed_on}, TurnLaws.{added_to_none, mask_more, mask_refused}, masks.kept_by_tuple.Goals.{then-branch+in_ok-push, else-branch}}},
+  indexers.{specs.{Masks.{is_true}, Picks.{as_it_is}}, proofs.{AnswerLaws.{handed_on, row_found}, TurnLaws.{added_to_none, mask_more, mask_refused}, masks.kept_by_tuple.Goals.{then-branch+in_ok-push, else-branch}}},
 }
 use Rattle.indexers.proofs.masks.kept_by_tuple.Goals as goal
 
@@ -14,7 +13,7 @@ returns-in_err-keeps_at c =
     let lt : c.loop-row.row < length axis = omega arith in
     let p = err_from_is_err_and c.from_residual-in_err-keeps_at.result c.from_residual-in_err-keeps_at.ensures.1 in
     rw (p.1, p.2) (handed_on as_it_is as_it_is _ _ _
-    (λ f is. mask_refused _ labels mask axis c.loop-row.rows _ [] f _ lt ((ap (λ l. cell_or_fault (slice_index_or axis c.loop-row.row []) mask (only_row l)) (sym (c.rows.ensures ∙ ap (λ l. slice_index_or l c.loop-row.row []) c.in_ok-found.ensures ∙ get_or-map (rows_with labels) axis c.loop-row.row [] [] lt))) ∙ is) c.loop-row.invariant)
+    (λ f is. mask_refused _ labels mask axis c.loop-row.rows _ [] f _ lt ((ap (λ l. cell_or_fault (slice_index_or axis c.loop-row.row []) mask (only_row l)) (sym (row_found _ _ _ _ _ lt c.rows.ensures c.in_ok-found.ensures))) ∙ is) c.loop-row.invariant)
     c.in_err-keeps_at.ensures)
 
 pub loop-row-preserved : goal.loop-row-preserved
@@ -23,7 +22,7 @@ loop-row-preserved c =
     let labels = c.args.mask_axis.now.tuples in
     let axis = c.args.axis.now.tuples in
     let lt : c.loop-row.row < length axis = omega arith in
-    let cell = (ap (λ l. cell_or_fault (slice_index_or axis c.loop-row.row []) mask (only_row l)) (sym (c.rows.ensures ∙ ap (λ l. slice_index_or l c.loop-row.row []) c.in_ok-found.ensures ∙ get_or-map (rows_with labels) axis _ [] [] lt))) ∙ c.in_ok-keeps_at.ensures in
+    let cell = (ap (λ l. cell_or_fault (slice_index_or axis c.loop-row.row []) mask (only_row l)) (sym (row_found _ _ _ _ _ lt c.rows.ensures c.in_ok-found.ensures))) ∙ c.in_ok-keeps_at.ensures in
     elim c.if-branch.branch [
       | then-branch+in_ok-push w ↦ mask_more _ labels mask axis c.loop-row.rows _ c.loop-row.row [] _ _ lt cell
           (grind (arith, when_so)) c.loop-row.invariant
@@ -36,7 +35,7 @@ find_partners-requires-clause-alike c =
     All-append (λ t. length t ≡ c.levels.result) c.args.axis.now.tuples c.args.mask_axis.now.tuples c.levels.ensures.alike (grind arith)
 
 pub rows-requires : goal.rows-requires
-rows-requires c = omega (arith, ap length c.in_ok-found.ensures, length-map c.args.axis.now.tuples (rows_with c.args.mask_axis.now.tuples))
+rows-requires = grind (arith, length-map)
 
 pub keeps_at-requires-clause-found : goal.keeps_at-requires-clause-found
 keeps_at-requires-clause-found = grind (arith, get_or-map, rows_inside)

@@ -5,8 +5,4 @@ use Rattle.{
 use Rattle.merge_concat.proofs.below.column_of.Goals as goal
 
 pub with_part-requires-clause-few : goal.with_part-requires-clause-few
-with_part-requires-clause-few g c =
-    let parts = c.args.parts.now in
-    let rows = c.loop-part.rows in
-    let so_far = length-flat_map-take part_cells _ _ c.part-item.result c.loop-part-test.true in
-    grind (arith, length-flat_map, rows_counted)
+with_part-requires-clause-few g c = grind (arith, length-flat_map, rows_counted, length-flat_map-take part_cells _ _ c.part-item.result c.loop-part-test.true)

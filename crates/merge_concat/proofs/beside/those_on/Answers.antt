@@ -1,5 +1,5 @@
 use Rattle.{
-  std.proofs.Common.{◌∙◌, ◌<◌, length, sym, arith},
+  std.proofs.Common.{◌∙◌, ◌<◌, length, arith},
   merge_concat.proofs.{UnitedLaws.{one_kept, none_kept}, beside.those_on.Goals.{then-not-is_empty+in_ok-push, else-not-is_empty}},
 }
 use Rattle.merge_concat.proofs.beside.those_on.Goals as goal
@@ -8,12 +8,6 @@ pub loop-row-preserved : goal.loop-row-preserved
 loop-row-preserved c =
     let lt : c.loop-row.row < length c.args.tuples.now = omega (arith, c.len-row-end.ensures, c.loop-row-test.true) in
     elim c.if-not-is_empty.branch [
-      | then-not-is_empty+in_ok-push w ↦
-          one_kept _ _ _ _ _ lt c.in_ok-partners.ensures c.rows.ensures c.loop-row.kept _ _
-          c.loop-row.invariant (sym c.is_empty.ensures ∙ w.if-not-is_empty.true) w.at.ensures
-          (grind arith)
-      | else-not-is_empty w ↦
-          w.kept-is
-          ∙ none_kept _ _ _ _ _ lt c.in_ok-partners.ensures c.rows.ensures c.loop-row.kept
-          c.loop-row.invariant (sym c.is_empty.ensures ∙ w.if-not-is_empty.false)
+      | then-not-is_empty+in_ok-push w ↦ one_kept _ _ _ _ _ lt c.in_ok-partners.ensures c.rows.ensures c.loop-row.kept _ _ c.loop-row.invariant (grind arith) w.at.ensures (grind arith)
+      | else-not-is_empty w ↦ w.kept-is ∙ none_kept _ _ _ _ _ lt c.in_ok-partners.ensures c.rows.ensures c.loop-row.kept c.loop-row.invariant (grind arith)
     ]

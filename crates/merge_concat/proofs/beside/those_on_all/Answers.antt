@@ -1,5 +1,5 @@
 use Rattle.{
-  std.{proofs.{Common.{◌≡◌, ◌∙◌, ◌<◌, ◌&&◌, List, [], length, take, ap, sym, arith}, lemmas.List.{length-map, Folds.{list_all_more}, Elements.{All-filter}}}, specs.List.{filter, list_any, list_all}},
+  std.{proofs.{Common.{◌+◌, ◌≡◌, ◌∙◌, List, [], length, take, sym, arith}, lemmas.List.{length-map, Folds.{list_all_more}, Elements.{All-filter}}}, specs.List.{list_any, list_all}},
   cell_core.specs.declared.cell.Label.{Label},
   row_keys.specs.Keys.{same_tuple},
   merge_concat.{specs.Axes.{tuples_of_each}, proofs.{AxisLaws.{tuples_there}, UnitedLaws.{both_pass}}},
@@ -18,14 +18,9 @@ loop-other-preserved c =
     let others = c.args.others.now in
     let lists = tuples_of_each others in
     let i = c.loop-other.other-index in
-    let lt : i < length lists = omega (arith, length-map others (λ axis. axis.now.tuples), c.loop-other-test.true) in
     let before = λ (t : List Label). list_all (list_any (same_tuple t)) (take i lists) in
     let here = λ (t : List Label). list_any (same_tuple t) c.other-item.result.now.tuples in
     record {
       levels = rw c.in_ok-kept-2.ensures (All-filter _ (λ t. length t ≡ c.levels-levels.result) _ c.loop-other.invariant.levels);
-      kept = c.in_ok-kept-2.ensures
-          ∙ ap (filter here) c.loop-other.invariant.kept
-          ∙ both_pass _ _ _
-          (λ t. list_all_more _ lists i [] lt ∙ ap (λ l. before t && list_any (same_tuple t) l) (sym (search tuples_there)))
-          c.args.first.now.tuples;
+      kept = cc (c.in_ok-kept-2.ensures, c.loop-other.invariant.kept, both_pass before here (λ (t : List Label). list_all (list_any (same_tuple t)) (take (i + 1) lists)) (λ t. grind (arith, list_all_more (list_any (same_tuple t)) lists i [] (omega (arith, length-map others (λ axis. axis.now.tuples), c.loop-other-test.true)), tuples_there)) c.args.first.now.tuples);
     }

@@ -1,10 +1,7 @@
-use Rattle.{
-  std.proofs.Common.{◌<◌, ◌∙◌, ap, sym, arith, length, Some},
-  multi_index.proofs.TupleLaws.{one_more_taken},
-}
+use Rattle.std.proofs.{lemmas.{List.{map_more}, Option.{get_or_from_slice_get}}, Common.{[], slice_index_or, arith}}
 use Rattle.multi_index.proofs.axis.taken.Goals as goal
 
 pub loop-k-preserved : goal.loop-k-preserved
 loop-k-preserved c =
-    let inside : c.loop-k.k < length c.args.places.now = omega arith in
-    one_more_taken _ _ _ _ _ _ _ c.loop-k.invariant inside c.at.ensures (c.at-in-loop-k.ensures ∙ ap Some (sym c.copy.ensures)) c.in_ok-push.ensures.ok
+    let tuples = c.args.tuples.now in
+    grind (arith, map_more (λ place. slice_index_or tuples place []) c.args.places.now c.loop-k.k 0, get_or_from_slice_get)

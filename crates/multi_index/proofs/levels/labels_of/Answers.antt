@@ -1,5 +1,5 @@
 use Rattle.{
-  std.proofs.{Common.{◌<◌, ◌≤◌, ◌∷◌, [], length, arith}, lemmas.List.{map-append}},
+  std.proofs.{Common.{◌<◌, ◌∷◌, [], length, arith}, lemmas.List.{map-append}},
   multi_index.proofs.SideLaws.{one_row_more, every_row, label_there},
 }
 use Rattle.multi_index.proofs.levels.labels_of.Goals as goal
@@ -13,6 +13,4 @@ loop-row-preserved c =
     (grind (arith, map-append))
 
 pub returns : goal.returns
-returns c =
-    let end : length c.args.axis.now.tuples ≤ c.loop-row.row = omega arith in
-    every_row _ _ _ [] _ end c.loop-row.invariant
+returns c = every_row _ _ _ [] _ (omega arith) c.loop-row.invariant

@@ -1,28 +1,20 @@
 use Rattle.{
-  std.proofs.{Common.{◌≡◌, slice_index_or, arith}, lemmas.Option.{get_or_from_slice_get}},
+  std.proofs.Common.{arith},
   cell_core.specs.declared.cell.Label.TheVariants.{Na},
   index_core.specs.Labels.{order_in},
-  multi_index.proofs.ListedLaws.{stands_on, stands_apart, stands_short},
+  multi_index.proofs.ListedLaws.{stands_step, stands_short, stays},
 }
 use Rattle.multi_index.proofs.listed.compare.Goals as goal
 
 pub returns-then-ne : goal.returns-then-ne
 returns-then-ne c =
-    let dict = c.args.dict.now in
-    let tuple = c.args.tuple.now in
-    let bound = c.args.bound.now in
-    let read : order_in dict (slice_index_or tuple c.loop-level.level Na) (slice_index_or bound c.loop-level.level Na) ≡ order_in dict c.at.result c.at-in-loop-level.result
-    = λ j. order_in dict (get_or_from_slice_get tuple _ c.at.result Na c.at.ensures j) (get_or_from_slice_get bound _ _ Na c.at-in-loop-level.ensures j) in
-    grind (arith, stands_apart)
+    let step = stands_step (order_in c.args.dict.now) c.args.tuple.now c.args.bound.now c.loop-level.level _ _ (omega arith) (omega arith) c.at.ensures c.at-in-loop-level.ensures in
+    grind (arith, stays)
 
 pub loop-level-preserved : goal.loop-level-preserved
 loop-level-preserved c =
-    let dict = c.args.dict.now in
-    let tuple = c.args.tuple.now in
-    let bound = c.args.bound.now in
-    let read : order_in dict (slice_index_or tuple c.loop-level.level Na) (slice_index_or bound c.loop-level.level Na) ≡ order_in dict c.at.result c.at-in-loop-level.result
-    = λ j. order_in dict (get_or_from_slice_get tuple _ c.at.result Na c.at.ensures j) (get_or_from_slice_get bound _ _ Na c.at-in-loop-level.ensures j) in
-    grind (arith, stands_on)
+    let step = stands_step (order_in c.args.dict.now) c.args.tuple.now c.args.bound.now c.loop-level.level _ _ (omega arith) (omega arith) c.at.ensures c.at-in-loop-level.ensures in
+    grind arith
 
 pub returns-then-level-len : goal.returns-then-level-len
-returns-then-level-len = grind (arith, stands_short)
+returns-then-level-len c = grind (arith, stands_short (order_in c.args.dict.now) Na)

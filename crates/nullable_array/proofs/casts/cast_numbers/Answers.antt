@@ -1,16 +1,16 @@
 use Rattle.{
-  std.{proofs.Common.{arith, ap, sym, ◌∙◌, Ok, option_map}, specs.Fmt.{signed_decimal}},
+  std.proofs.Common.{arith},
   cell_core.specs.declared.cell.Kind.TheVariants.{Int64},
-  column_core.{specs.{Lanes.{lane_row}, Columns.{number_cell, text_value, number_given}}, proofs.ColumnLaws.{given-plain}},
-  nullable_array.proofs.{ColumnAnswers.{total_cast_column, kept_cast_column, cast_answer, given_at}, CastLaws.{number_truth_cast}},
+  column_core.specs.{Lanes.{lane_row}, Columns.{number_cell}},
+  nullable_array.proofs.{ColumnAnswers.{numbers_given, text_cast, kept_cast, cast_answer, given_at}, CastLaws.{number_truth_cast}},
 }
 use Rattle.nullable_array.proofs.casts.cast_numbers.Goals as goal
 
 pub returns-in_ok-copied_lane-in-Int64-clause-answer : goal.returns-in_ok-copied_lane-in-Int64-clause-answer
-returns-in_ok-copied_lane-in-Int64-clause-answer c = cc (kept_cast_column c.args.dict.now c.args.kind Int64 c.in-Int64.is number_cell _ _ (grind arith), c.in_ok-copied_lane-in-Int64.ensures)
+returns-in_ok-copied_lane-in-Int64-clause-answer c = kept_cast _ _ _ c.in-Int64.is number_cell _ _ _ c.in_ok-copied_lane-in-Int64.ensures (grind arith)
 
 pub returns-in_ok-copied_lane-in-Int64-clause-given : goal.returns-in_ok-copied_lane-in-Int64-clause-given
-returns-in_ok-copied_lane-in-Int64-clause-given c = given-plain _ _ _ _ _ _ (number_given _) c.in_ok-copied_lane-in-Int64.ensures
+returns-in_ok-copied_lane-in-Int64-clause-given c = numbers_given _ _ _ c.in_ok-copied_lane-in-Int64.ensures _
 
 pub returns-in-Boolean-clause-given : goal.returns-in-Boolean-clause-given
 returns-in-Boolean-clause-given c = given_at _ _ c.convert.ensures.given
@@ -21,5 +21,4 @@ returns-in-Boolean-clause-answer c =
     cast_answer _ _ _ c.in-Boolean.is Int64 _ _ _ (number_truth_cast _) a.count (lane_row a.values.now a.present.now a.start a.stride a.back) _ (c.convert.ensures.answer _)
 
 pub returns-in_ok-text_column-in-Text-clause-answer : goal.returns-in_ok-text_column-in-Text-clause-answer
-returns-in_ok-text_column-in-Text-clause-answer c =
-    total_cast_column _ _ _ c.in-Text.is Int64 number_cell _ _ (λ x. text_value (option_map signed_decimal x)) (grind arith) ∙ ap Ok (sym c.in_ok-text_column-in-Text.ensures.cells)
+returns-in_ok-text_column-in-Text-clause-answer c = text_cast _ _ _ c.in-Text.is number_cell _ _ Int64 _ _ c.in_ok-text_column-in-Text.ensures.cells (grind arith)

@@ -2,12 +2,12 @@ use Rattle.{
   std.proofs.Common.{arith},
   cell_core.specs.declared.cell.Kind.TheVariants.{Text as string},
   column_core.specs.{Lanes.{lane_row}, Columns.{text_cell}},
-  nullable_array.proofs.{ColumnAnswers.{kept_cast_column, cast_answer, given_at}, CastLaws.{text_number_cast, text_truth_cast}},
+  nullable_array.proofs.{ColumnAnswers.{kept_cast, cast_answer, given_at}, CastLaws.{text_number_cast, text_truth_cast}},
 }
 use Rattle.nullable_array.proofs.casts.cast_texts.Goals as goal
 
 pub returns-in_ok-copied_lane-in-Text-clause-answer : goal.returns-in_ok-copied_lane-in-Text-clause-answer
-returns-in_ok-copied_lane-in-Text-clause-answer c = cc (kept_cast_column c.args.dict.now c.args.kind string c.in-Text.is text_cell _ _ (grind arith), c.in_ok-copied_lane-in-Text.ensures)
+returns-in_ok-copied_lane-in-Text-clause-answer c = kept_cast _ _ _ c.in-Text.is text_cell _ _ _ c.in_ok-copied_lane-in-Text.ensures (grind arith)
 
 pub returns-in-Int64-clause-given : goal.returns-in-Int64-clause-given
 returns-in-Int64-clause-given c = given_at _ _ c.convert.ensures.given

@@ -2,8 +2,8 @@ use Rattle.{
   std.proofs.Common.{arith, refl, Ok},
   cell_core.specs.declared.cell.Kind.TheVariants.{Int64, Boolean},
   meaning.specs.Cast.{number_of_truth},
-  column_core.{specs.Columns.{number_cell, truth_cell, number_given}, proofs.{CellRows.{made_column}, ColumnLaws.{given-plain}, RowsMade.{rows_written}}},
-  nullable_array.{specs.Casts.{total_cast}, proofs.ColumnAnswers.{cast_answer}},
+  column_core.{specs.Columns.{number_cell, truth_cell}, proofs.{CellRows.{made_column}, RowsMade.{rows_written}}},
+  nullable_array.{specs.Casts.{total_cast}, proofs.ColumnAnswers.{numbers_given, cast_answer}},
 }
 use Rattle.nullable_array.proofs.casts.numbers_of_side.Goals as goal
 
@@ -13,4 +13,4 @@ returns-clause-answer g c = λ texts.
     (grind (arith, made_column, rows_written))
 
 pub returns-clause-given : goal.returns-clause-given
-returns-clause-given g c = λ texts. given-plain _ _ _ _ _ _ (number_given _) c.column.ensures
+returns-clause-given g c = numbers_given _ _ _ c.column.ensures

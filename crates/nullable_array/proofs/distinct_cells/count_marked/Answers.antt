@@ -1,7 +1,7 @@
 use mir.Val.{bool_byte}
 use Rattle.{
-  std.proofs.Common.{◌≡◌, ◌∙◌, Bool, cond, arith},
-  nullable_array.proofs.PlaceLaws.{marked_step, one_at_most, all_counted},
+  nullable_array.proofs.{DistinctLaws.{each_value_once}, PlaceLaws.{marked_step, one_at_most}},
+  std.proofs.{lemmas.Cmp.{int_eq_equiv}, Common.{◌≡◌, ◌∙◌, Bool, cond, arith}},
 }
 use Rattle.nullable_array.proofs.distinct_cells.count_marked.Goals as goal
 
@@ -17,6 +17,4 @@ loop-row-preserved g c =
     search one_at_most
 
 pub returns : goal.returns
-returns g c =
-    let all : c.loop-row.row ≡ g.A.Source.count_of c.args.a.now = omega arith in
-    all_counted _ _ _ _ all c.loop-row.invariant.count
+returns g c = grind (arith, each_value_once, int_eq_equiv)

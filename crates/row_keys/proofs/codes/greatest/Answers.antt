@@ -1,6 +1,6 @@
 use Rattle.{
-  std.proofs.Common.{◌<◌, length, arith},
-  row_keys.proofs.{DistinctLaws.{get_is}, PairLaws.{greatest_more}},
+  std.proofs.{Common.{◌<◌, length, arith}, lemmas.Option.{get_or_from_slice_get}},
+  row_keys.proofs.PairLaws.{greatest_more},
 }
 use Rattle.row_keys.proofs.codes.greatest.Goals as goal
 
@@ -8,4 +8,4 @@ pub loop-row-preserved : goal.loop-row-preserved
 loop-row-preserved g c =
     let keys = g.R.KeyRows.keys c.args.rows.now in
     let lt : c.loop-row.row < length keys = omega arith in
-    search (greatest_more, get_is)
+    search (greatest_more, get_or_from_slice_get)

@@ -6,18 +6,8 @@ use Rattle.{
 }
 use Rattle.row_keys.proofs.codes.label_codes.Goals as goal
 
-pub returns-clause-codes : goal.returns-clause-codes
-returns-clause-codes g c =
-    let keys = g.R.KeyRows.keys _ in
-    let numbers = c.in-Some.labels.numbers.items in
-    let made = c.in_ok-made.made in
-    let stand : StandFor same_number Na keys numbers = search rules in
-    (codes_stand same_number Na keys numbers c.as_slice.result.now made.codes.items made.firsts.items stand c.as_slice.ensures.value c.in_ok-made.ensures.codes c.in_ok-made.ensures.firsts).coded
-
-pub returns-clause-firsts : goal.returns-clause-firsts
-returns-clause-firsts g c =
-    let keys = g.R.KeyRows.keys _ in
-    let numbers = c.in-Some.labels.numbers.items in
-    let made = c.in_ok-made.made in
-    let stand : StandFor same_number Na keys numbers = search rules in
-    (codes_stand same_number Na keys numbers c.as_slice.result.now made.codes.items made.firsts.items stand c.as_slice.ensures.value c.in_ok-made.ensures.codes c.in_ok-made.ensures.firsts).first
+pub returns : goal.returns
+returns g c =
+    let stand : StandFor same_number Na (g.R.KeyRows.keys _) c.in-Some.labels.numbers.items = search rules in
+    let are = codes_stand same_number Na _ _ _ _ _ stand c.as_slice.ensures.value c.in_ok-made.ensures.codes c.in_ok-made.ensures.firsts in
+    record { codes = are.coded; firsts = are.first }

@@ -1,22 +1,19 @@
 use Rattle.{
-  row_keys.proofs.{DistinctLaws.{unseen, unseen-nil, get_is}, NotedLaws.{one_noted, added_none}, factor.factorize.Goals.{then-new+in_ok-push-2, else-new}},
-  std.proofs.Common.{◌≡◌, ◌<◌, ◌++◌, ◌∷◌, [], length, arith, cond},
+  row_keys.proofs.{DistinctLaws.{numbers_more, seen_more}, factor.factorize.Goals.{then-new+in_ok-push-2, else-new}},
+  std.proofs.{Common.{◌≡◌, ◌<◌, ◌++◌, ◌∷◌, [], length, arith, cond}, lemmas.Option.{get_or_from_slice_get}},
 }
 use Rattle.row_keys.proofs.factor.factorize.Goals as goal
 
-pub loop-row-init : goal.loop-row-init
-loop-row-init = grind (arith, unseen, unseen-nil)
-
 pub loop-row-preserved : goal.loop-row-preserved
 loop-row-preserved g c =
-    let k = c.key.result in
-    let i = c.loop-row.row in
-    let old = c.loop-row.firsts.items in
-    let lt : i < length (g.R.KeyRows.keys _) = omega (arith, c.loop-row-test.true, c.count-count.ensures) in
-    let grown : c.if-new.firsts.items ≡ cond c.in_ok-code.new (old ++ i ∷ []) old
+    let lt : c.loop-row.row < length (g.R.KeyRows.keys _) = omega (arith, c.loop-row-test.true, c.count-count.ensures) in
+    let grown : c.if-new.firsts.items ≡ cond c.in_ok-code.new (c.loop-row.firsts.items ++ c.loop-row.row ∷ []) c.loop-row.firsts.items
     = elim c.if-new.branch [
       | then-new+in_ok-push-2 w ↦ grind arith
-      | else-new w ↦ grind (arith, added_none)
+      | else-new w ↦ grind arith
     ] in
-    one_noted _ g.met.K.Eq.laws _ i k _ _ old lt (get_is _ i k c.key.ensures) c.loop-row.invariant
-    c.insert_full.new.self.keys _ _ _ _ c.in_ok-code.ensures.keys c.in_ok-code.ensures.added c.in_ok-code.ensures.index c.in_ok-push.ensures.items grown
+    let here = get_or_from_slice_get (g.R.KeyRows.keys c.args.rows.now) _ _ c.key.result c.key.ensures in
+    record {
+      seen = seen_more _ g.met.K.Eq.laws _ _ _ _ _ lt here c.loop-row.invariant.seen c.in_ok-code.ensures.keys;
+      numbers = numbers_more _ g.met.K.Eq.laws _ _ _ _ _ _ _ _ _ _ lt here c.loop-row.invariant.numbers c.loop-row.invariant.seen c.in_ok-code.ensures.added c.in_ok-code.ensures.index c.in_ok-push.ensures.items grown;
+    }

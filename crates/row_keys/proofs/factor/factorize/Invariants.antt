@@ -1,5 +1,13 @@
-use Rattle.row_keys.proofs.NotedLaws.{Noted}
+use Rattle.{
+  std.proofs.Common.{◌≡◌, take},
+  meaning.specs.Reduce.{distinct},
+  row_keys.proofs.RecodeLaws.{AreNumbers},
+}
 use Rattle.row_keys.proofs.factor.factorize.Given as goal
 
+-- what the rows so far have
 abbrev pub invariant-loop-row : goal.invariant-loop-row
-invariant-loop-row g l = Noted g.K.PartialEq.eq (g.R.KeyRows.keys l.rows) l.row l.seen.keys l.codes.items l.firsts.items
+invariant-loop-row g l = record {
+  seen : l.seen.keys ≡ distinct g.K.PartialEq.eq (take l.row (g.R.KeyRows.keys l.rows));
+  numbers : AreNumbers g.K.PartialEq.eq (take l.row (g.R.KeyRows.keys l.rows)) l.codes.items l.firsts.items;
+}

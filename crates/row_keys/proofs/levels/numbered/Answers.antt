@@ -26,14 +26,8 @@ loop-level-preserved g c =
           (grind arith);
     }
 
-pub returns-clause-codes : goal.returns-clause-codes
-returns-clause-codes g c =
-    let rows = g.A.LevelRows.tuples c.args.left.now ++ g.B.LevelRows.tuples c.args.right.now in
+pub returns : goal.returns
+returns g c =
     let none : c.loop-level.level ≡ 0 = omega (arith, c.loop-level-test.false) in
-    cc (c.loop-level.invariant.numbered.coded, drop_none rows)
-
-pub returns-clause-firsts : goal.returns-clause-firsts
-returns-clause-firsts g c =
-    let rows = g.A.LevelRows.tuples c.args.left.now ++ g.B.LevelRows.tuples c.args.right.now in
-    let none : c.loop-level.level ≡ 0 = omega (arith, c.loop-level-test.false) in
-    cc (c.loop-level.invariant.numbered.first, drop_none rows)
+    let are = rw (none, drop_none) at c.loop-level.invariant.numbered in
+    search

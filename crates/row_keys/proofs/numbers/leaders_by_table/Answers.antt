@@ -1,6 +1,6 @@
 use Rattle.{
-  std.{proofs.{Common.{◌≡◌, ◌<◌, ◌≤◌, ℕ, length, min, arith}, lemmas.{Grind.{common_steps}, List.{length-set}}}, specs.Prelude.{slice_index}},
-  row_keys.{specs.Numbers.{first_with}, proofs.LeaderLaws.{table_leads, table_more, leaders_more}},
+  std.{proofs.{Common.{◌≡◌, ◌<◌, ◌≤◌, ℕ, length, min, arith}, lemmas.{Grind.{common_steps}, List.{length-set, map_more}}}, specs.Prelude.{slice_index}},
+  row_keys.{specs.Numbers.{first_with}, proofs.LeaderLaws.{table_leads, table_more}},
 }
 use Rattle.row_keys.proofs.numbers.leaders_by_table.Goals as goal
 
@@ -17,4 +17,5 @@ loop-row-preserved c =
     let read : c.index.result.now ≡ slice_index table n = grind (arith, common_steps) in
     let made : leader ≡ min (slice_index table n) row = grind arith in
     let leads : leader ≡ first_with numbers n = search table_leads in
-    grind (arith, length-set, table_more, leaders_more)
+    let more = map_more (first_with numbers) numbers row 0 lt in
+    grind (arith, length-set, table_more)

@@ -17,4 +17,4 @@ returns-in-None c =
     no_text _ _ _ (c.if-is_quote.ensures.0 refl) (grind (arith, common_steps)) (rw c.in-None.is at c.in_ok-text.ensures)
 
 pub returns : goal.returns
-returns c = grind (arith, only_signs)
+returns = grind (arith, only_signs)

@@ -8,7 +8,7 @@ pub returns-in_default-clause-found : goal.returns-in_default-clause-found
 returns-in_default-clause-found = grind (arith, lexed_stops)
 
 pub lexing-smaller : goal.lexing-smaller
-lexing-smaller c = grind (arith, lexed_shorter)
+lexing-smaller = grind (arith, lexed_shorter)
 
 pub lexing-preserved : goal.lexing-preserved
 lexing-preserved c =

@@ -8,10 +8,7 @@ pub text_of-requires : goal.text_of-requires
 text_of-requires c = (IsUtf8-plain c.args.quote c.split_plain.result.0.now c.reading.rest.now c.split_plain.result.1.now c.requires.quote c.reading.invariant.utf8 c.split_plain.ensures).0
 
 pub returns-in-Some : goal.returns-in-Some
-returns-in-Some c =
-    let so_far = read_plain _ _ _ _ _ _
-    _ _ c.reading.invariant.so_far c.split_plain.ensures c.text_of.ensures c.in_ok-push_str.ensures.ok in
-    grind (arith, read_quote)
+returns-in-Some c = grind (arith, read_plain, read_quote)
 
 pub returns-in_default-after_escape : goal.returns-in_default-after_escape
 returns-in_default-after_escape c =

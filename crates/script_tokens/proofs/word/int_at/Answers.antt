@@ -11,7 +11,7 @@ pub value_of-requires-clause-some : goal.value_of-requires-clause-some
 value_of-requires-clause-some c = search run_is_some
 
 pub returns-in_err-value : goal.returns-in_err-value
-returns-in_err-value c = grind (arith, no_int)
+returns-in_err-value = grind (arith, no_int)
 
 pub returns : goal.returns
 returns = grind arith

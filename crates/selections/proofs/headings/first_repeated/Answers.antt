@@ -1,7 +1,7 @@
 use Rattle.{
-  std.{proofs.Common.{◌≡◌, ◌<◌, ◌+◌, ◌-◌, Option, None, length, drop, arith}, specs.List.{list_any}},
+  std.{proofs.Common.{◌≡◌, ◌<◌, ◌+◌, ◌-◌, Option, length, drop, arith}, specs.List.{list_any}},
   cell_core.specs.declared.cell.Label.{Label},
-  selections.{specs.Headings.{same_heading}, proofs.HeadingLaws.{later_step, repeated_here, repeated_later}},
+  selections.{specs.Headings.{same_heading}, proofs.HeadingLaws.{drop_at, later_step}},
 }
 use Rattle.selections.proofs.headings.first_repeated.Goals as goal
 
@@ -13,7 +13,7 @@ loop-place-preserved-then-not-branch c =
     let later : (q : Option Label) → list_any (same_heading q) c.loop-place.later.keys ≡ list_any (same_heading q) (drop (p + 1) hs) = grind arith in
     record {
       later = λ q. later_step hs _ _ p _ q lt later c.in_ok-insert.ensures.keys;
-      repeated = repeated_here hs _ p _ c.loop-place.repeated lt later (grind arith) (grind arith);
+      repeated = grind (arith, drop_at);
     }
 
 pub loop-place-preserved : goal.loop-place-preserved
@@ -24,5 +24,5 @@ loop-place-preserved c =
     let later : (q : Option Label) → list_any (same_heading q) c.loop-place.later.keys ≡ list_any (same_heading q) (drop (p + 1) hs) = grind arith in
     record {
       later = λ q. later_step hs _ _ p _ q lt later c.in_ok-insert.ensures.keys;
-      repeated = repeated_later hs _ p None _ lt later (grind arith) (grind arith);
+      repeated = grind (arith, drop_at);
     }

@@ -8,7 +8,7 @@ pub returns-in-None : goal.returns-in-None
 returns-in-None c = λ texts.
     let lt : c.loop-k.k < length c.args.cells.now = omega arith in
     rw c.wrong_kind.ensures (
-      whole_refused _ _ _ _ _ _ lt c.at.ensures (grind arith) (c.loop-k.invariant texts),
+      whole_refused _ _ _ _ lt c.at.ensures _ _ (grind arith) (c.loop-k.invariant texts),
       λ more. refl,
     )
 
@@ -16,7 +16,7 @@ pub loop-k-preserved : goal.loop-k-preserved
 loop-k-preserved c = λ texts.
     let lt : c.loop-k.k < length c.args.cells.now = omega arith in
     let pushed : c.push.new.self ≡ c.loop-k.numbers ++ c.in-Some.number ∷ [] = search rules in
-    whole_more _ _ _ _ _ _ _ _ lt c.at.ensures (grind arith) pushed (c.loop-k.invariant texts)
+    whole_more _ _ _ _ lt c.at.ensures _ _ _ _ (grind arith) pushed (c.loop-k.invariant texts)
 
 pub returns : goal.returns
 returns c = λ texts.

@@ -1,10 +1,10 @@
 use Rattle.{
   std.proofs.Common.{◌<◌, length, arith},
-  selections.proofs.PlaceLaws.{headings_more},
+  selections.{specs.Selected.{heading_of}, proofs.PickedLaws.{mapped_more}},
 }
 use Rattle.selections.proofs.labels.headings_at.Goals as goal
 
 pub loop-k-preserved : goal.loop-k-preserved
 loop-k-preserved c =
     let lt : c.loop-k.k < length c.args.places.now = omega arith in
-    headings_more c.args.on.now _ _ _ _ _ _ lt c.at.ensures c.heading.ensures.value c.loop-k.invariant c.in_ok-push.ensures.items
+    mapped_more (heading_of c.args.on.now) _ _ _ _ _ _ lt c.at.ensures c.heading.ensures.value c.loop-k.invariant c.in_ok-push.ensures.items

@@ -1,12 +1,12 @@
 use Rattle.{
-  std.proofs.Common.{◌≡◌, drop},
+  std.proofs.Common.{◌≡◌},
   meaning.specs.Cell.{label_datum},
   form_meaning.specs.Select.{place_of_label},
   frame_store.specs.Shown.{headings_value},
-  selections.proofs.PlaceLaws.{moved},
+  selections.proofs.PlaceLaws.{place_from},
 }
 use Rattle.selections.proofs.labels.place_of_label.Given as goal
 
 -- no column so far has the label
 abbrev pub invariant-loop-place : goal.invariant-loop-place
-invariant-loop-place l = moved l.place (place_of_label (drop l.place (headings_value l.dict l.on.headings)) (label_datum l.dict l.label)) ≡ place_of_label (headings_value l.dict l.on.headings) (label_datum l.dict l.label)
+invariant-loop-place l = place_from l.dict l.on.headings l.label l.place ≡ place_of_label (headings_value l.dict l.on.headings) (label_datum l.dict l.label)

@@ -1,8 +1,8 @@
 use Rattle.{
-  std.{proofs.Common.{arith, ◌∙◌, ap, subst}, specs.List.{range_with_len}},
-  table_meaning.specs.{Table.{NumberedTable, table_value}, Valid.{IsWhole}},
+  std.{proofs.Common.{arith, ◌∙◌, ap}, specs.List.{range_with_len}},
+  table_meaning.specs.Table.{table_value},
   frame_store.specs.Objects.{tables, table_at},
-  selections.{specs.Plans.{rows_in, TakesAll}, proofs.{PickedLaws.{read_is}, PlanLaws.{without_none}, TakenLaws.{taken_seen}, CutLaws.{whole_chosen}}},
+  selections.{specs.Plans.{rows_in}, proofs.{PickedLaws.{read_is}, PlanLaws.{without_none}, TakenLaws.{taken_seen}, CutLaws.{whole_chosen}}},
 }
 use Rattle.selections.proofs.new_objects.headed_by.Goals as goal
 
@@ -13,6 +13,6 @@ pub returns-clause-answers : goal.returns-clause-answers
 returns-clause-answers c =
     let dict = c.args.dict.now in
     let t = table_at (tables c.args.store.now) c.args.on.0 in
-    let at = read_is _ _ c.read-source.ensures.table in
-    let all = subst (λ (n : NumberedTable). TakesAll n c.all_rows-rows.result) at c.all_rows-rows.ensures in
-    grind (arith, taken_seen dict c.args.shape c.args.headings c.all_rows-rows.result c.in_ok-columns.columns t, all.lost, without_none (table_value dict (search)), whole_chosen c.args.shape c.args.headings (rows_in c.all_rows-rows.result) c.in_ok-columns.columns t (subst IsWhole at c.read-source.ensures.whole) all.rows (c.in_ok-columns.ensures ∙ ap (range_with_len 0) (grind arith)))
+    let same = read_is _ _ c.read-source.ensures.table in
+    let all = rw same at c.all_rows-rows.ensures in
+    grind (arith, taken_seen dict c.args.shape c.args.headings c.all_rows-rows.result c.in_ok-columns.columns t, all.lost, without_none (table_value dict (search)), whole_chosen c.args.shape c.args.headings (rows_in c.all_rows-rows.result) c.in_ok-columns.columns t (rw same at c.read-source.ensures.whole) all.rows (c.in_ok-columns.ensures ∙ ap (range_with_len 0) (grind arith)))

@@ -1,7 +1,7 @@
 use Rattle.{
   std.proofs.{Math.Seq.{take-length}, Common.{◌≡◌, ◌∙◌, ◌<◌, arith, length, subst, sym}},
   multi_index.specs.Axes.{HaveLevels},
-  selections.proofs.{ReachLaws.{axis_levels, heading_more, no_heading}, reaching.columns_axis.Goals.{in-Some+in_ok-push, in_default}},
+  selections.proofs.{ReachLaws.{axis_levels, heading_more}, reaching.columns_axis.Goals.{in-Some+in_ok-push, in_default}},
 }
 use Rattle.selections.proofs.reaching.columns_axis.Goals as goal
 
@@ -11,7 +11,7 @@ loop-k-preserved c =
     elim c.match-heading.branch [
       | in-Some+in_ok-push w ↦ heading_more _ _ _ _ _ _ _ _ lt c.at.ensures
           (sym c.heading.ensures.value ∙ w.in-Some.is) w.of.ensures c.loop-k.invariant (w.labels-is ∙ w.in_ok-push.ensures.ok)
-      | in_default w ↦ grind (arith, no_heading)
+      | in_default w ↦ grind arith
     ]
 
 pub from_tuples-requires-clause-alike : goal.from_tuples-requires-clause-alike

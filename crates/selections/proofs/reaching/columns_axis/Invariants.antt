@@ -1,9 +1,9 @@
 use Rattle.{
-  std.{proofs.Common.{◌≡◌, map, take, None}, specs.Prelude.{slice_index_or}},
-  selections.specs.Reaches.{heading_tuple},
+  std.proofs.Common.{◌≡◌, take},
+  selections.proofs.ReachLaws.{heading_tuples},
 }
 use Rattle.selections.proofs.reaching.columns_axis.Given as goal
 
 -- the labels so far
 abbrev pub invariant-loop-k : goal.invariant-loop-k
-invariant-loop-k l = l.labels ≡ map (λ place. heading_tuple (slice_index_or l.on.headings place None)) (take l.k l.places)
+invariant-loop-k l = l.labels ≡ heading_tuples l.on.headings (take l.k l.places)

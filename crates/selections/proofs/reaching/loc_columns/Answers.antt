@@ -10,9 +10,9 @@ labelled-requires-clause-given c = rw c.in_ok-axis.ensures (axis_given _ _ _ (se
 
 pub returns-clause-columns : goal.returns-clause-columns
 returns-clause-columns c = λ live settled.
-    columns_found _ c.args.on.now _ _ (λ texts. subscript_of live texts c.args.key.now) _ _
+    columns_found _ c.args.on.now _ (λ texts. subscript_of live texts c.args.key.now) _ _ settled c.labelled.ensures.rows _
     (grind arith) (grind arith)
-    c.in_ok-axis.ensures (grind arith) (c.in_ok-key.ensures.key live) settled c.labelled.ensures.rows
+    c.in_ok-axis.ensures (grind arith) (c.in_ok-key.ensures.key live)
 
 pub returns-clause-within : goal.returns-clause-within
 returns-clause-within c = grind (arith, axis_count c.args.on.now.headings c.in_ok-places_below.field-0 (length c.args.on.now.columns) (grind arith))

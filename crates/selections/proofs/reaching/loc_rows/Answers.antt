@@ -12,6 +12,6 @@ mask_rows-requires-clause-mask c = rw c.in-Some.is at (c.object_of.ensures.live 
 pub returns-clause-rows : goal.returns-clause-rows
 returns-clause-rows c =
     let live = tables c.args.store.now in
-    loc_found _ c.args.on.now _ _ (λ texts. subscript_of live texts c.args.key.now) _ _ (c.levels-levels.ensures.count ∙ ap (λ (a : AxisValue). length a.names) c.axis-axis.ensures) c.axis-axis.ensures
+    loc_found _ c.args.on.now _ (λ texts. subscript_of live texts c.args.key.now) _ _ c.requires.key.given c.labelled.ensures.rows _ (c.levels-levels.ensures.count ∙ ap (λ (a : AxisValue). length a.names) c.axis-axis.ensures) c.axis-axis.ensures
     (grind arith)
-    (c.in_ok-key.ensures.key live) c.requires.key.given c.labelled.ensures.rows
+    (c.in_ok-key.ensures.key live)

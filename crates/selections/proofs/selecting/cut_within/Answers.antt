@@ -1,8 +1,7 @@
 use Rattle.{
-  std.proofs.Common.{arith, rules, ◌≡◌, sym, subst, true, length, Err},
-  table_meaning.specs.Settled.{IsSettled},
+  std.proofs.Common.{arith, rules, ◌≡◌, true, length, Err},
   form_meaning.specs.Finish.{within_limits},
-  frame_store.{specs.{Shown.{shown}, declared.fault.OpFault.TheVariants.{NoMemory}}, proofs.Settling.{longer_self}},
+  frame_store.{specs.declared.fault.OpFault.TheVariants.{NoMemory}, proofs.Settling.{longer_self}},
   selections.{specs.Plans.{rows_in}, proofs.TakenLaws.{taken_answers}},
 }
 use Rattle.selections.proofs.selecting.cut_within.Goals as goal
@@ -10,7 +9,7 @@ use Rattle.selections.proofs.selecting.cut_within.Goals as goal
 pub returns-in_err-id : goal.returns-in_err-id
 returns-in_err-id c = λ texts settled given.
     let refused : c.from_residual.result ≡ Err NoMemory = search rules in
-    rw refused (grind arith, longer_self _, subst (IsSettled shown texts) (sym c.in_err-id.ensures.err) settled)
+    rw refused (grind arith, longer_self _, rw c.in_err-id.ensures.err settled)
 
 pub returns : goal.returns
 returns c = λ texts settled given.

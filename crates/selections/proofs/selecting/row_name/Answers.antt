@@ -1,6 +1,5 @@
 use Rattle.{
-  std.{proofs.Common.{arith, ◌≡◌, subst}, specs.Prelude.{Some}},
-  multi_index.specs.Axes.{AxisValue, HaveLevels, label_at},
+  std.proofs.Common.{arith},
   selections.proofs.SeriesLaws.{label_first, name_of_one, name_of_several},
 }
 use Rattle.selections.proofs.selecting.row_name.Goals as goal
@@ -8,8 +7,8 @@ use Rattle.selections.proofs.selecting.row_name.Goals as goal
 pub returns-then-levels-eq1 : goal.returns-then-levels-eq1
 returns-then-levels-eq1 c = λ texts.
     let tuples = c.args.on.now.labels in
-    let alike = subst (λ (a : AxisValue). HaveLevels c.levels.result a.tuples) c.axis-axis.ensures c.levels.ensures.alike in
-    let at = subst (λ (a : AxisValue). label_at a c.args.row 0 ≡ Some c.label.result) c.axis-axis.ensures c.label.ensures in
+    let alike = rw c.axis-axis.ensures at c.levels.ensures.alike in
+    let at = rw c.axis-axis.ensures at c.label.ensures in
     name_of_one _ _ _ (grind arith) (search label_first)
 
 pub returns-else-levels-eq1 : goal.returns-else-levels-eq1

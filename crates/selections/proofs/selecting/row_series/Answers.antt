@@ -1,5 +1,5 @@
 use Rattle.{
-  std.proofs.{Common.{arith, rules, ◌≡◌, ◌<◌, sym, subst, refl, ℕ, All, true, false, length}, lemmas.Result.{err_from_is_err_and}},
+  std.proofs.{Common.{arith, rules, ◌≡◌, refl, true, false, length}, lemmas.Result.{err_from_is_err_and}},
   form_meaning.specs.Finish.{within_limits},
   selections.proofs.SeriesLaws.{row_made, row_beyond, row_refused},
 }
@@ -13,12 +13,12 @@ returns-in_err-kind c =
 pub returns-then-not-within_limits : goal.returns-then-not-within_limits
 returns-then-not-within_limits c =
     let beyond : within_limits (length c.args.columns.now) 1 ≡ false = search rules in
-    (row_beyond c.args.on.now _ _ _ _ (grind arith) (subst (λ (n : ℕ). All (λ place. place < n) c.args.columns.now) (sym c.requires.known.whole.headed) c.requires.columns) c.row_name-name.ensures c.args.dict.now (c.in_ok-kind.ensures.kind _) beyond, λ more. refl)
+    (row_beyond c.args.on.now _ _ _ _ (grind arith) (rw c.requires.known.whole.headed c.requires.columns) c.row_name-name.ensures c.args.dict.now (c.in_ok-kind.ensures.kind _) beyond, λ more. refl)
 
 pub returns : goal.returns
 returns c =
     let within : within_limits (length c.args.columns.now) 1 ≡ true = search rules in
-    row_made c.args.on.now _ _ _ _ (grind arith) (subst (λ (n : ℕ). All (λ place. place < n) c.args.columns.now) (sym c.requires.known.whole.headed) c.requires.columns) c.row_name-name.ensures c.args.dict.now _
+    row_made c.args.on.now _ _ _ _ (grind arith) (rw c.requires.known.whole.headed c.requires.columns) c.row_name-name.ensures c.args.dict.now _
     (c.in_ok-kind.ensures.kind _) within
     (grind arith)
     c.requires.known.given

@@ -1,10 +1,7 @@
 use Rattle.{
-  std.{proofs.{Common.{arith, subst, List, Option}, lemmas.Result.{err_from_is_err_and}}, specs.Prelude.{Result}},
-  cell_core.specs.declared.cell.Label.{Label},
-  meaning.specs.Fault.{FaultValue},
-  table_meaning.specs.Value.{Entry},
-  frame_store.{specs.{Objects.{tables, table_at}, World.{world, Forms}}, proofs.Settling.{headings_part}},
-  selections.{specs.Headings.{NamesRepeated, repeated_heading}, proofs.{AnswerLaws.{table_is_settled}, PickedLaws.{read_is}, CutLaws.{frame_given, frame_meant, frame_refused}, CarryLaws.{gathered, gathered_with}}},
+  std.proofs.{Common.{arith}, lemmas.Result.{err_from_is_err_and}},
+  frame_store.{specs.Objects.{tables, table_at}, proofs.Settling.{headings_part}},
+  selections.proofs.{AnswerLaws.{table_is_settled}, PickedLaws.{read_is}, CutLaws.{frame_given, frame_meant, frame_refused}, CarryLaws.{gathered, gathered_with}},
 }
 use Rattle.selections.proofs.selecting.take_frame.Goals as goal
 
@@ -13,7 +10,7 @@ returns-in_err-headings c =
     let t = table_at (tables c.args.store.now) c.args.on.0 in
     let why = c.in_err-headings.field-0.0 in
     let p = err_from_is_err_and c.from_residual-in_err-headings.result c.from_residual-in_err-headings.ensures.1 in
-    rw (p.1, p.2) (frame_refused _ c.args.store.now t _ _ _ why c.len.ensures.distinct (headings_part _ t (table_is_settled _ _ _ c.requires.live c.requires.settled)) (subst (λ (l : List (Option Label)). NamesRepeated why (repeated_heading l)) (gathered c.read-source.result t _ _ _ (search read_is) c.deref.ensures.value c.in_ok-labels.ensures) c.in_err-headings.ensures.refused) c.requires.settled)
+    rw (p.1, p.2) (frame_refused _ t _ c.len.ensures.distinct (headings_part _ t (table_is_settled _ _ _ c.requires.live c.requires.settled)) c.args.store.now _ _ why (rw (gathered c.read-source.result t _ _ _ (search read_is) c.deref.ensures.value c.in_ok-labels.ensures) at c.in_err-headings.ensures.refused) c.requires.settled)
 
 pub returns : goal.returns
 returns c =
@@ -24,6 +21,4 @@ returns c =
     let labels = gathered _ t _ _ _ at c.deref.ensures.value c.in_ok-labels.ensures in
     let headed = gathered_with _ t _ _ _ _ at c.columns_name.ensures labels c.in_ok-headings.ensures.made in
     let settled = table_is_settled _ _ _ c.requires.live c.requires.settled in
-    subst (λ (m : Result Entry FaultValue). Forms c.cut_within.result m (world c.args.store.now dict) (world c.cut_within.new.store dict))
-    (grind (arith, frame_meant))
-    (c.cut_within.ensures dict c.requires.settled (search frame_given))
+    rw (frame_meant dict t plan.columns c.len.ensures.distinct (headings_part _ t settled) plan.rows c.in_ok-headings.headings (grind arith) headed (grind arith)) at (c.cut_within.ensures dict c.requires.settled (search frame_given))

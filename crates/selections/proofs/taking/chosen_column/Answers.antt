@@ -1,5 +1,5 @@
 use Rattle.{
-  std.proofs.Common.{arith, ◌<◌, ◌∙◌, ℕ, ap, sym, subst, All},
+  std.proofs.Common.{arith, ◌∙◌, ap, sym},
   cell_core.specs.declared.cell.Kind.TheVariants.{Int64, Boolean, Text},
   column_core.{specs.{Columns.{number_cell, truth_cell, text_cell}, Lanes.{lane_row}, Views.{borrowed_column}}, proofs.ColumnLaws.{length-column}},
   selections.proofs.TakeLaws.{chosen_seen},
@@ -12,7 +12,7 @@ chosen_lane-requires c = rw (length-column _ _ _ _ (ap borrowed_column (sym c.in
 pub returns-in-Ints : goal.returns-in-Ints
 returns-in-Ints c =
     let lane = c.in-Ints.lane in
-    grind (arith, chosen_seen Int64 number_cell lane.count (lane_row lane.values.now lane.present.now lane.start lane.stride lane.back) c.args.rows.now (subst (λ (n : ℕ). All (λ place. place < n) c.args.rows.now) (sym (length-column _ _ _ _ (ap borrowed_column (sym c.in-Ints.is) ∙ c.a.view_is))) c.requires))
+    grind (arith, chosen_seen Int64 number_cell lane.count (lane_row lane.values.now lane.present.now lane.start lane.stride lane.back) c.args.rows.now, length-column _ _ _ _ (ap borrowed_column (sym c.in-Ints.is) ∙ c.a.view_is))
 
 pub chosen_lane-requires-in-Truths : goal.chosen_lane-requires-in-Truths
 chosen_lane-requires-in-Truths c = rw (length-column _ _ _ _ (ap borrowed_column (sym c.in-Truths.is) ∙ c.a.view_is)) c.requires
@@ -20,7 +20,7 @@ chosen_lane-requires-in-Truths c = rw (length-column _ _ _ _ (ap borrowed_column
 pub returns-in-Truths : goal.returns-in-Truths
 returns-in-Truths c =
     let lane = c.in-Truths.lane in
-    grind (arith, chosen_seen Boolean truth_cell lane.count (lane_row lane.values.now lane.present.now lane.start lane.stride lane.back) c.args.rows.now (subst (λ (n : ℕ). All (λ place. place < n) c.args.rows.now) (sym (length-column _ _ _ _ (ap borrowed_column (sym c.in-Truths.is) ∙ c.a.view_is))) c.requires))
+    grind (arith, chosen_seen Boolean truth_cell lane.count (lane_row lane.values.now lane.present.now lane.start lane.stride lane.back) c.args.rows.now, length-column _ _ _ _ (ap borrowed_column (sym c.in-Truths.is) ∙ c.a.view_is))
 
 pub chosen_lane-requires-in-Texts : goal.chosen_lane-requires-in-Texts
 chosen_lane-requires-in-Texts c = rw (length-column _ _ _ _ (ap borrowed_column (sym c.in-Texts.is) ∙ c.a.view_is)) c.requires
@@ -28,4 +28,4 @@ chosen_lane-requires-in-Texts c = rw (length-column _ _ _ _ (ap borrowed_column 
 pub returns-in-Texts : goal.returns-in-Texts
 returns-in-Texts c =
     let lane = c.in-Texts.lane in
-    grind (arith, chosen_seen Text text_cell lane.count (lane_row lane.values.now lane.present.now lane.start lane.stride lane.back) c.args.rows.now (subst (λ (n : ℕ). All (λ place. place < n) c.args.rows.now) (sym (length-column _ _ _ _ (ap borrowed_column (sym c.in-Texts.is) ∙ c.a.view_is))) c.requires))
+    grind (arith, chosen_seen Text text_cell lane.count (lane_row lane.values.now lane.present.now lane.start lane.stride lane.back) c.args.rows.now, length-column _ _ _ _ (ap borrowed_column (sym c.in-Texts.is) ∙ c.a.view_is))

@@ -1,7 +1,6 @@
 use Rattle.{
-  std.proofs.Common.{arith, length, refl, sym, subst, All},
+  std.proofs.Common.{arith, length, refl, All},
   column_core.specs.{Columns.{CellColumn}, Moves.{IsPlaceOf}},
-  meaning.specs.Cell.{AreGiven},
   settings.proofs.{AlignLaws.{taken_given}, PutCases.{column_is_given, has_column, taken_column}},
 }
 use Rattle.settings.proofs.aligning.aligned_cells.Goals as goal
@@ -15,6 +14,5 @@ returns-clause-cells c =
 pub returns-clause-given : goal.returns-clause-given
 returns-clause-given c =
     let below : All (IsPlaceOf (length c.column.result.cells)) c.in_ok-rows.rows = grind arith in
-    subst (AreGiven c.args.dict.now) (sym c.in_ok-cells_at.ensures)
-    (taken_given _ _ _
+    rw c.in_ok-cells_at.ensures (taken_given _ _ _
     (search (column_is_given, has_column)) below)

@@ -1,8 +1,8 @@
 use Rattle.{
-  settings.proofs.{PutCases.{first_column, column_is_given, has_column, own_cells, series_column, taken_column}, AlignLaws.{own_column, taken_given}},
-  std.proofs.{Common.{arith, ◌≡◌, ◌∙◌, length, true, ap, sym, subst, Ok, All}, lemmas.List.{length-map}},
+  selections.proofs.AnswerLaws.{column_seen as first_column},
+  settings.proofs.{PutCases.{column_is_given, has_column, own_cells, series_column, taken_column}, AlignLaws.{own_column, taken_given}},
+  std.proofs.{Common.{arith, ◌≡◌, ◌∙◌, length, true, ap, Ok, All}, lemmas.List.{length-map}},
   column_core.specs.Moves.{IsPlaceOf},
-  meaning.specs.Cell.{AreGiven},
   form_meaning.specs.Infix.{same_tuples},
   table_meaning.specs.Table.{table_value},
   frame_store.specs.Shown.{labels_value},
@@ -29,6 +29,5 @@ returns-clause-column c =
 pub returns-clause-given : goal.returns-clause-given
 returns-clause-given c =
     let below : All (IsPlaceOf (length c.column-2.result.cells)) c.in_ok-rows.rows = grind arith in
-    subst (AreGiven c.args.dict.now) (sym c.in_ok-take.ensures.cells)
-    (taken_given _ _ _
+    rw c.in_ok-take.ensures.cells (taken_given _ _ _
     (search (column_is_given, has_column)) below)

@@ -3,7 +3,7 @@ use Rattle.{
   select_meaning.specs.Set.{assign_result},
   frame_store.{specs.{Objects.{tables}, Arguments.{entry_of, subscript_of}, World.{world}}, proofs.Settling.{object_settled}},
   selections.specs.Selected.{way_of},
-  settings.{specs.Assigned.{moved_object, new_value, second_in}, proofs.SetLaws.{assign_set, set_left}},
+  settings.{specs.Assigned.{new_value, second_in}, proofs.SetLaws.{assign_set, set_left}},
 }
 use Rattle.settings.proofs.assigning.assign.Goals as goal
 
@@ -15,12 +15,10 @@ returns-in_err-carry_out c =
     let texts = c.args.dict.now in
     let live = tables c.args.store.now in
     let p = err_from_is_err_and c.from_residual-in_err-carry_out.result c.from_residual-in_err-carry_out.ensures.1 in
-    rw (p.1, p.2) (set_left texts live (tables c.carry_out.new.store) c.args.on (assign_result (entry_of live texts c.args.on) (way_of c.args.by) (subscript_of live texts c.args.first.now) (second_in (world c.args.store.now texts) c.args.second) (new_value live texts c.args.value)) c.requires.settled c.in_err-carry_out.ensures.err)
+    rw (p.1, p.2) (set_left _ _ _ c.args.on (assign_result (entry_of live texts c.args.on) (way_of c.args.by) (subscript_of live texts c.args.first.now) (second_in (world c.args.store.now texts) c.args.second) (new_value live texts c.args.value)) c.requires.settled c.in_err-carry_out.ensures.err)
 
 pub returns : goal.returns
 returns c =
-    let texts = c.args.dict.now in
-    let live = tables c.args.store.now in
-    assign_set texts live (tables c.carry_out.new.store) c.args.on c.in-Object.id c.read.result c.in_ok-setting.setting (moved_object c.args.value) (way_of c.args.by) (subscript_of live texts c.args.first.now)
-    (second_in (world c.args.store.now texts) c.args.second) (new_value live texts c.args.value) c.in-Object.is c.read.ensures.table c.requires.settled c.in_ok-setting.ensures.setting
+    assign_set _ _ (tables c.carry_out.new.store) _ _ _ c.in_ok-setting.setting _ _ _
+    _ _ c.in-Object.is c.read.ensures.table c.requires.settled c.in_ok-setting.ensures.setting
     (grind arith)

@@ -7,7 +7,7 @@ use Rattle.settings.proofs.columns.first_kind.Goals as goal
 pub returns-in-Some : goal.returns-in-Some
 returns-in-Some c = λ texts.
     let lt : c.loop-k.k < length c.args.cells.now = omega arith in
-    kind_met _ _ _ _ _ _ lt c.at.ensures c.in-Some.ensures.first (c.loop-k.invariant texts)
+    kind_met _ _ _ _ _ lt c.at.ensures _ c.in-Some.ensures.first (c.loop-k.invariant texts)
 
 pub loop-k-preserved : goal.loop-k-preserved
 loop-k-preserved c = λ texts.

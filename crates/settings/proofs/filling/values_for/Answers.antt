@@ -1,7 +1,7 @@
 use Rattle.{
-  std.proofs.{Common.{◌≡◌, ap, arith, length}, lemmas.List.{length-map}},
-  frame_store.{specs.{Objects.{tables}, Shown.{cells_value}}, proofs.Settling.{object_settled}},
-  settings.proofs.{FillLaws.{listed_count}, PutCases.{filled_given, listed_given, same_settled}},
+  std.proofs.{lemmas.{Bool.Decides.{nat_tests}, List.{length-map}}, Common.{◌≡◌, ap, arith, length}},
+  frame_store.{specs.Shown.{cells_value}, proofs.Settling.{object_settled}},
+  settings.proofs.PutCases.{filled_given, listed_given, same_settled},
 }
 use Rattle.settings.proofs.filling.values_for.Goals as goal
 
@@ -15,11 +15,11 @@ pub returns-in_ok-expect_listed-in-Listed-clause-count : goal.returns-in_ok-expe
 returns-in_ok-expect_listed-in-Listed-clause-count c =
     let texts = c.args.dict.now in
     let many : length (cells_value texts c.in-Listed.cells) ≡ length c.in-Listed.cells = search length-map in
-    grind (arith, listed_count)
+    grind (arith, nat_tests)
 
 pub returns-in_ok-repeated-in-Same-clause-given : goal.returns-in_ok-repeated-in-Same-clause-given
 returns-in_ok-repeated-in-Same-clause-given c =
-    filled_given _ _ _ _ (same_settled (tables c.args.store.now) _ _ _ c.in-Same.is c.requires.value)
+    filled_given _ _ _ _ (search same_settled)
     c.in_ok-repeated-in-Same.ensures
 
 pub returns-in_ok-expect_listed-in-Listed-clause-given : goal.returns-in_ok-expect_listed-in-Listed-clause-given

@@ -1,6 +1,6 @@
 use Rattle.{
-  std.proofs.Common.{◌<◌, length, arith},
-  settings.proofs.GrowLaws.{put_keeps, put_kind, put_more, put_rows},
+  std.proofs.{lemmas.List.{length-set}, Common.{◌<◌, length, arith}},
+  settings.proofs.GrowLaws.{put_keeps, put_kind, put_more},
 }
 use Rattle.settings.proofs.growing.new_column.Goals as goal
 
@@ -10,7 +10,7 @@ loop-k-preserved c =
     let single = c.loop-k.invariant.single in
     record {
       single = search put_keeps;
-      rows = grind (arith, put_rows);
+      rows = grind (arith, length-set);
       kind = grind (arith, put_kind);
       values = search put_more;
     }

@@ -1,9 +1,7 @@
 use Rattle.{
-  std.proofs.Common.{◌≡◌, ◌∙◌, ◌<◌, sym, arith, length},
+  std.proofs.Common.{◌≡◌, ◌<◌, arith, length},
   meaning.specs.Cell.{label_datum},
-  table_meaning.specs.Table.{table_value},
-  select_meaning.specs.Set.{put_result, with_rows},
-  frame_store.{specs.{Parts.{axis_of}, Shown.{labels_value, headings_value}}, proofs.Settling.{labels_part, level_names_part}},
+  frame_store.{specs.Parts.{axis_of}, proofs.Settling.{labels_part, level_names_part}},
   settings.proofs.PutCases.{column_is_given, has_column, rows_given, rows_meant, series_column, series_rows},
 }
 use Rattle.settings.proofs.putting.series_change.Goals as goal
@@ -13,14 +11,11 @@ returns-then-rows-gt0-clause-change c =
     let texts = c.args.dict.now in
     let t = c.args.on.now in
     let s = c.args.series.now in
-    let l = label_datum texts _ in
     let copied : c.in_ok-axis.axis ≡ axis_of s = grind arith in
     let none : length t.labels ≡ 0 = omega (arith, c.rows.ensures, c.if-rows-eq0.true) in
     let some : 0 < length s.labels = omega (arith, c.rows-then-rows-eq0.ensures, c.if-rows-gt0.true) in
     let made = c.in_ok-rows_change.ensures.made in (
-      series_rows _ t s l none some
-          ∙ (λ j. put_result (with_rows (table_value texts t) (labels_value texts (sym copied j).tuples) (headings_value texts (sym copied j).names)) l (series_column texts s _ _ c.column.ensures.column c.in_ok-column.ensures j))
-          ∙ rows_meant _ t _ _ _ _ _ _ c.requires.known.whole (grind (arith, c.rows-then-rows-gt0.ensures)) c.in_ok-place.ensures.answer made,
+      rw (series_rows texts t s (label_datum texts c.args.label) none some, series_column texts s _ _ c.column.ensures.column c.in_ok-column.ensures) (rw copied at (rows_meant _ t _ _ _ _ _ _ c.requires.known.whole (grind (arith, c.rows-then-rows-gt0.ensures)) c.in_ok-place.ensures.answer made)),
       rows_given _ t _ _ _ _ _ c.requires.known.given
           (rw copied (labels_part _ s c.requires.series.given))
           (rw copied (level_names_part _ s c.requires.series.given)) c.requires.label

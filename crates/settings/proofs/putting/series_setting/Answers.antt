@@ -1,11 +1,9 @@
 use Rattle.{
+  settings.proofs.{PutCases.{series_fits, own_cells}, PutLaws.{put_seen, put_there}, MoveLaws.{move_meant, move_settled}, SetLaws.{part_refused}},
   std.proofs.{lemmas.Result.{err_from_is_err_and}, Common.{arith, ◌≡◌, sym, subst, true, rules}},
-  settings.proofs.{PutCases.{series_fits, own_cells}, PutLaws.{put_refused_of, put_there}, MoveLaws.{move_meant, move_settled}, SetLaws.{part_refused, refuses_so}},
-  meaning.specs.Cell.{label_datum},
-  table_meaning.specs.{Settled.{IsSettled}, Table.{table_value, column_at}},
+  table_meaning.specs.Settled.{IsSettled},
   form_meaning.specs.Infix.{same_tuples},
   frame_store.{specs.{Objects.{tables, table_at}, Shown.{labels_value}, World.{IsKnownTable}}, proofs.Settling.{labels_part, object_settled}},
-  selections.specs.Selected.{as_it_is},
 }
 use Rattle.settings.proofs.putting.series_setting.Goals as goal
 
@@ -18,12 +16,7 @@ pub series_change-requires-clause-series : goal.series_change-requires-clause-se
 series_change-requires-clause-series c = search object_settled
 
 pub returns-in_err-place-clause-setting : goal.returns-in_err-place-clause-setting
-returns-in_err-place-clause-setting c =
-    let texts = c.args.dict.now in
-    let p = err_from_is_err_and c.from_residual-in_err-place.result c.from_residual-in_err-place.ensures.1 in
-    rw (p.1, p.2)
-    (refuses_so _ _ _ _ (grind (arith, put_refused_of, series_fits))
-    (part_refused as_it_is _ _ (put_there (table_value texts c.args.on.now) (label_datum texts c.args.label) (column_at (table_value texts (table_at (tables c.args.store.now) c.args.series.0)).columns 0)) _ c.in_err-place.ensures.answer))
+returns-in_err-place-clause-setting = grind (arith, err_from_is_err_and, put_seen, series_fits, part_refused, put_there)
 
 pub returns-clause-setting : goal.returns-clause-setting
 returns-clause-setting c =

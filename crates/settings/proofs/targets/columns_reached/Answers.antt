@@ -1,12 +1,12 @@
 use Rattle.{
   std.proofs.{lemmas.List.{length-map}, Common.{arith, ◌≡◌, subst, length}},
-  table_meaning.specs.Table.{table_value},
+  table_meaning.specs.Table.{table_value, heading_value},
   form_meaning.specs.Finish.{column_labels},
-  select_meaning.specs.{Keys.{columns_by}, Set.{or_added}},
+  select_meaning.specs.{Keys.{columns_by}, Set.{or_added, added_label}},
   form_parts.specs.Makes.{MakesBy},
-  frame_store.specs.Arguments.{subscript_of},
+  frame_store.{specs.Arguments.{subscript_of}, proofs.Settling.{settled_by}},
   selections.specs.Reaches.{accessor_of},
-  settings.{specs.Values.{reached_value}, proofs.TargetLaws.{columns_tell, fresh_reached, label_settled}},
+  settings.{specs.Values.{reached_value}, proofs.TargetLaws.{columns_tell, fresh_reached}},
 }
 use Rattle.settings.proofs.targets.columns_reached.Goals as goal
 
@@ -27,4 +27,4 @@ returns-clause-fresh c = λ live settled.
 
 pub returns-clause-given : goal.returns-clause-given
 returns-clause-given c = λ live settled.
-    c.picked_or_added.ensures.given _ (label_settled _ _ _ _ _ c.label_to_add.ensures settled)
+    c.picked_or_added.ensures.given _ (settled_by (subscript_of live) heading_value (added_label (accessor_of c.args.by)) _ _ _ (λ ts. grind arith) settled)

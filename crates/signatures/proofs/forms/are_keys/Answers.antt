@@ -1,12 +1,9 @@
 use Rattle.{
-  std.{proofs.Common.{rules}, specs.{Prelude.{◌↔◌, IsTrue}, List.{All}}},
-  frame_store.specs.Arguments.{item_of},
+  std.proofs.Common.{rules},
+  form_meaning.specs.Binding.{is_key},
   signatures.proofs.FormLaws.{each_told},
 }
-use Rattle.form_meaning.specs.Binding as plain
 use Rattle.signatures.proofs.forms.are_keys.Goals as goal
 
 pub returns : goal.returns
-returns c = λ live texts.
-    let told : IsTrue c.all.result ↔ All (λ item. IsTrue (plain.is_key (item_of live texts item))) c.args.items.now = search rules in
-    each_told plain.is_key live texts c.args.items.now c.all.result told
+returns c = λ live texts. each_told is_key live texts c.args.items.now c.all.result (search rules)

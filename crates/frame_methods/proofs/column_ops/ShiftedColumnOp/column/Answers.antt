@@ -1,22 +1,16 @@
 use Rattle.{
-  std.proofs.Common.{◌≡◌, ◌∙◌, ap, rules, to_z, of_z, w64},
-  cell_core.specs.declared.cell.Cell.TheVariants.{Na},
-  meaning.specs.Column.{shifted},
+  std.proofs.Common.{◌≡◌, rules, to_z, of_z, w64},
   frame_methods.proofs.OpLaws.{shifted_given, shifted_rows, shifted_answer},
 }
 use Rattle.frame_methods.proofs.column_ops.ShiftedColumnOp.column.Goals as goal
 
 pub returns-clause-given : goal.returns-clause-given
-returns-clause-given c =
-    let fits : to_z w64 (of_z w64 c.args.self.now.periods) ≡ c.args.self.now.periods = search rules in
-    shifted_given _ _ c.args.a c.in_ok-shift.field-0 c.requires.cells (c.in_ok-shift.ensures.cells ∙ ap (shifted Na c.args.a.cells) fits)
+returns-clause-given c = shifted_given _ _ c.args.a c.in_ok-shift.field-0 c.requires.cells c.in_ok-shift.ensures.cells
 
 pub returns-clause-rows : goal.returns-clause-rows
-returns-clause-rows c =
-    let fits : to_z w64 (of_z w64 c.args.self.now.periods) ≡ c.args.self.now.periods = search rules in
-    shifted_rows _ c.args.a c.in_ok-shift.field-0 (c.in_ok-shift.ensures.cells ∙ ap (shifted Na c.args.a.cells) fits)
+returns-clause-rows c = shifted_rows _ c.args.a c.in_ok-shift.field-0 c.in_ok-shift.ensures.cells
 
 pub returns-clause-answer : goal.returns-clause-answer
 returns-clause-answer c =
     let fits : to_z w64 (of_z w64 c.args.self.now.periods) ≡ c.args.self.now.periods = search rules in
-    shifted_answer _ _ _ _ c.in_ok-shift.ensures.kind (c.in_ok-shift.ensures.cells ∙ ap (shifted Na c.args.a.cells) fits)
+    shifted_answer _ _ _ _ c.in_ok-shift.ensures.kind (rw fits at c.in_ok-shift.ensures.cells)

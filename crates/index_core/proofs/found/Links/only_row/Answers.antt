@@ -1,6 +1,6 @@
 use Rattle.{
   std.proofs.Common.{Some, arith},
-  index_core.proofs.LinkLaws.{label_there, only_found, more_found, none_found},
+  index_core.proofs.LinkLaws.{label_there, only_found, none_found},
 }
 use Rattle.index_core.proofs.found.Links.only_row.Goals as goal
 
@@ -10,10 +10,10 @@ index-requires c =
     grind arith
 
 pub returns-in-Some : goal.returns-in-Some
-returns-in-Some = grind (arith, only_found)
+returns-in-Some c = grind (arith, only_found c.self.inside.labels.now c.args.label c.self.inside.next.items c.in-Some.row)
 
 pub returns-in_default : goal.returns-in_default
-returns-in_default = grind (arith, more_found)
+returns-in_default c = grind (arith, only_found c.self.inside.labels.now c.args.label c.self.inside.next.items c.in-Some.row)
 
 pub returns-in_default-2 : goal.returns-in_default-2
 returns-in_default-2 = grind (arith, none_found)

@@ -1,33 +1,24 @@
-use Rattle.{
-  std.proofs.{Common.{ap, ◌∙◌, arith}, lemmas.Result.{err_from_is_err_and}},
-  language_meaning.specs.Depth.{depth},
-  script_tree.specs.View.{expr_of},
-  script_syntax.proofs.Turns.{turn, no_turn},
-}
+use Rattle.std.proofs.Common.{refl, sym, ◌∙◌, arith}
 use Rattle.script_syntax.proofs.Loops as loops
 use Rattle.script_syntax.proofs.grammar.Grammar.steps.Goals as goal
 
 pub returns-then-not-begins_step : goal.returns-then-not-begins_step
-returns-then-not-begins_step g c =
-    (loops.steps_stop _ _ _ (turn _ _ c.loop-test.true) (expr_of c.loop.x) _ _ (grind arith) c.loop.invariant.same, search, search)
+returns-then-not-begins_step g c = (loops.steps_stop _ _ _ _ _ _ c.loop.invariant.same c.loop-test.true (grind arith), search, search)
 
 pub returns-in-Err : goal.returns-in-Err
-returns-in-Err g c =
-    loops.steps_fail _ _ _ (turn _ _ c.loop-test.true) c.in-Err.refusal _ _ _ (grind arith) c.in-Err.ensures c.loop.invariant.same
+returns-in-Err g c = rw (loops.steps_turn _ _ _ _ _ _ c.loop.invariant.same c.loop-test.true (grind arith)) (loops.fails_first _ _ _ c.in-Err.ensures)
 
 pub returns-in_err-x : goal.returns-in_err-x
 returns-in_err-x g c =
-    let p = err_from_is_err_and c.from_residual.result c.from_residual.ensures.1 in
-    rw (p.1, p.2) (loops.steps_too_deep _ _ _ (turn _ _ c.loop-test.true) c.in_err-x.field-0.0 _ _ _ _ _
-    (grind arith) (c.in-Ok.ensures).0 c.in_err-x.ensures c.loop.invariant.same)
+    rw (loops.err_is _ _ c.from_residual.ensures, loops.steps_turn _ _ _ _ _ _ c.loop.invariant.same c.loop-test.true (grind arith))
+    (loops.fails_later _ _ (c.in-Ok.ensures).0 (loops.fails_first _ _ _ (loops.guard_fails _ _ _ _ c.in_err-x.ensures)))
 
 pub loop-preserved : goal.loop-preserved
 loop-preserved g c = record {
-  same = rw c.onwards-rest.ensures (loops.steps_go _ _ _ (turn _ _ c.loop-test.true) (expr_of c.loop.x) _ _ _ _ _
-      (grind arith) (c.in-Ok.ensures).0 (c.in_ok-x.ensures).0 (omega (arith, (c.in_ok-x.ensures).1, (c.in_ok-x.ensures).2)) c.loop.invariant.same);
-  deep = (c.in_ok-x.ensures).1 ∙ ap depth (c.in_ok-x.ensures).0;
+  same = rw c.onwards-rest.ensures (sym (loops.steps_turn _ _ _ _ _ _ c.loop.invariant.same c.loop-test.true (grind arith) ∙ loops.goes _ (c.in-Ok.ensures).0 (loops.goes _ (loops.guard_goes _ _ _ _ c.in_ok-x.ensures) refl)));
+  deep = grind arith;
   fits = (c.in_ok-x.ensures).2;
 }
 
 pub returns : goal.returns
-returns g c = search (loops.steps_end, no_turn)
+returns g c = search loops.steps_end

@@ -1,15 +1,12 @@
-use mathlib.Core.Bool.{Bool-set}
 use Rattle.{
-  std.proofs.{Common.{subst, IfSome}, Math.Logic.{∥∥₁_elim}},
+  std.proofs.Common.{subst, IfSome},
   frame_store.specs.Arguments.{IsLiveObject},
-  signatures.proofs.SureLaws.{frame_sure, told_there},
+  signatures.proofs.SureLaws.{frame_sure, sure_told, told_there},
 }
 use Rattle.signatures.proofs.bound.Bound.frame.Goals as goal
 
 pub unwrap-requires : goal.unwrap-requires
-unwrap-requires c =
-    ∥∥₁_elim c.args.self.now.filled (Bool-set _ _) (λ f. told_there _ c.object_or_none.result _ (c.object_or_none.ensures.table f.live f.texts)
-    (frame_sure _ _ c.requires (f.filled c.args.place)))
+unwrap-requires c = sure_told _ frame_sure c.args.self.now _ _ c.requires (λ live texts. told_there _ _ _ (c.object_or_none.ensures.table live texts))
 
 pub returns-clause-live : goal.returns-clause-live
 returns-clause-live c = λ live h. subst (λ o. IfSome o (λ id. IsLiveObject live id)) c.unwrap.ensures (c.object_or_none.ensures.live live h)

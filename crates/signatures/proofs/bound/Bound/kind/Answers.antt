@@ -1,13 +1,11 @@
-use mathlib.Core.Bool.{Bool-set}
 use Rattle.{
-  std.proofs.{Common.{arith, ◌∙◌}, Math.Logic.{∥∥₁_elim}},
-  signatures.proofs.SureLaws.{text_sure},
+  std.proofs.Common.{arith, ◌∙◌},
+  signatures.proofs.SureLaws.{text_sure, sure_told},
 }
 use Rattle.signatures.proofs.bound.Bound.kind.Goals as goal
 
 pub unwrap-requires : goal.unwrap-requires
-unwrap-requires c =
-    ∥∥₁_elim c.args.self.now.filled (Bool-set _ _) (λ f. c.text_or_none.ensures.there f.live f.texts ∙ text_sure _ _ c.requires (f.filled c.args.place))
+unwrap-requires c = sure_told _ text_sure c.args.self.now _ _ c.requires (λ live texts. λ s. c.text_or_none.ensures.there live texts ∙ s)
 
 pub returns : goal.returns
 returns = grind arith
