@@ -1,14 +1,14 @@
 -- Parts one below the other: their columns, and the table of them.
 use Rattle.{
-  concat_forms.{proofs.{PartLaws.{Parts, Headings, none_common, column_under_seen, kind_under_seen}, PlaceLaws.{map_given, each_of}, AxisLaws.{rows_count, levels_count}}, specs.{declared.{parts.{Sought.{Sought, TheVariants.{Only, Under}}, Naming.TheVariants.{Columns}}, asked.Asked.{Asked}}, Parts.{column_sought, parts_value, AreKnownParts, AreOf, name_at}, Columns.{kind_sought, fits_kind, kinds_meet, piece_from, piece_of, cells_or_missing, sought_by, stacked, columns_stacked, rows_in, all_kinds_meet}, Below.{columns_made, table_made}, Asked.{asked_value, keys_value, AreKeysFor}, Axes.{axis_seen, levels_for}}},
-  std.{proofs.{lemmas.{Option.{slice_get_within, get_or_from_slice_get, same_Some}, List.{length-map, length-replicate, map-append, take_more, Sums.{sum-map}, Elements.{All-tail, All-map, All-same, All-nil, All-replicate}, Quantifiers.{position-Some}, Concat.{length-flat_map}, Folds.{fold_stays}}, Bool.{and_right, Decides.{nat_tests}}, Simd.{map-map}}, Common.{sum, suc, zero, ◌≡◌, ◌∙◌, ◌<◌, ◌≤◌, ◌+◌, ◌^◌, refl, ap, sym, ℕ, true, false, ◌&&◌, List, [], ◌∷◌, ◌++◌, map, fold, take, length, replicate, unwrap_or, slice_index_or, All, Option, Some, None, Result, Ok, Err, nat_lt, if◌then◌else◌, arith, Bool, subst}}, specs.{Prelude.{slice_get, nat_le}, Option.{option_map}, List.{list_all, flat_map}}},
-  frame_store.{specs.{Shown.{Makes, columns_value, headings_value}, Parts.{table_column, HeadingList, columns_of, table_with, HaveRows}, World.{IsKnownTable}}, proofs.Settling.{columns_part, columns_given, columns_settled, table_settled}},
-  meaning.specs.{Cell.{na_cell, CellValue, datum, LabelValue}, Text.{Text}, Column.{ColumnValue}, Fault.{wrong_kind, FaultValue, then_value, limit}},
+  concat_forms.{proofs.{PartLaws.{Parts, Headings, none_common, column_under_seen, kind_under_seen, rows_count, levels_count}, PlaceLaws.{map_given, each_of, flat_seen}}, specs.{declared.{parts.{Sought.{Sought, TheVariants.{Only, Under}}, Naming.TheVariants.{Columns}}, asked.Asked.{Asked}}, Parts.{column_sought, parts_value, AreKnownParts, AreOf, name_at}, Columns.{kind_sought, fits_kind, kinds_meet, piece_from, piece_of, cells_or_missing, sought_by, stacked, columns_stacked, rows_in, all_kinds_meet}, Below.{columns_made, table_made}, Asked.{asked_value, keys_value, AreKeysFor}, Axes.{axis_seen, levels_for}}},
+  std.{proofs.{lemmas.{Option.{slice_get_within, get_or_from_slice_get, same_Some}, List.{length-map, length-append, length-replicate, map-append, take_more, Sums.{sum_by-cons}, Elements.{All-tail, All-map, All-same, All-nil, All-replicate}, Quantifiers.{position-Some}, Folds.{fold_stays, list_all-map}}, Bool.{and_right, Decides.{nat_tests}}, Simd.{map-map}}, Common.{suc, zero, ◌≡◌, ◌∙◌, ◌<◌, ◌≤◌, ◌+◌, ◌^◌, refl, ap, sym, ℕ, true, false, List, [], ◌∷◌, ◌++◌, map, take, length, replicate, unwrap_or, slice_index_or, All, Option, Some, None, Result, Ok, Err, nat_lt, if◌then◌else◌, arith, Bool}}, specs.{Prelude.{slice_get}, Option.{option_map}, List.{list_all, flat_map}}},
+  frame_store.{specs.{Shown.{Makes, columns_value, headings_value}, Parts.{table_column, columns_of, table_with, HaveRows}, World.{IsKnownTable}}, proofs.Settling.{columns_part, columns_given, columns_settled, table_settled}},
+  meaning.specs.{Cell.{na_cell, CellValue, datum, LabelValue}, Text.{Text}, Column.{ColumnValue}, Fault.{wrong_kind, FaultValue, limit}},
   merge_concat.specs.{declared.parts.Part.{Part}, Parts.{part_column}},
   cell_core.specs.{declared.{cell.{Cell.{Cell, TheVariants.{Na}}, Kind.{Kind}, Label.{Label}}, grid.Shape.{Shape, TheVariants.{Series, Frame}}}, Texts.{AreDistinct, AreGiven, IsGiven}},
   column_core.specs.{Columns.{CellColumn, column_value as seen_column}, Blocks.{CellBlock}},
   align_meaning.{specs.Joins.{most_rows}, proofs.OrderLaws.{all_flat}},
-  join_meaning.specs.Concat.{same_kind, column_below, column_within_limit, rows_concatenated, ConcatRefusal, too_large},
+  join_meaning.specs.Concat.{same_kind, column_below, rows_concatenated, ConcatRefusal},
   table_meaning.{specs.{Table.{ColumnOf, NumberedTable, column_value, column_at, heading_value, table_value, Table}, Valid.{IsWhole, AreHeadings}, Settled.{IsSettled}, Value.{Entry}}, proofs.KindLaws.{kind_itself}},
   form_meaning.specs.{Finish.{missing_column, value_of_column, try_all, within_limits}, Infix.{common_name}},
   form_parts.specs.Makes.{blocks_value},
@@ -51,38 +51,27 @@ module _ (texts : List Text) where
     abbrev pub seen_in : Kind → NumberedTable → ColumnOf CellValue
     seen_in kind t = seen_or kind (column_sought sought t) (length t.labels)
 
-    pieces_seen : (kind : Kind) (ts : Parts) → map (λ part. seen_column texts (part_column kind part)) (map (piece_of sought) ts) ≡ map value_of_column (map (seen_in kind) ts)
-    pieces_seen _ [] = refl
-    pieces_seen kind (t ∷ ts) = search (piece_seen, pieces_seen kind ts)
+    abbrev seen_value : Kind → NumberedTable → ColumnValue
+    seen_value kind t = value_of_column (seen_in kind t)
 
-    all_cells : (kind : Kind) (ts : Parts) → flat_map (λ c. c.cells) (map value_of_column (map (seen_in kind) ts)) ≡ map (datum texts) (flat_map (cells_or_missing sought) ts)
-    all_cells _ [] = refl
-    all_cells kind (t ∷ ts) = search (cells_seen, map-append, all_cells kind ts)
+    pieces_seen : (kind : Kind) (ts : Parts) → map (λ part. seen_column texts (part_column kind part)) (map (piece_of sought) ts) ≡ map (seen_value kind) ts
+    pieces_seen kind ts = map-map _ (piece_of sought) ts ∙ (λ i. map (λ t. piece_seen kind (column_sought sought t) (length t.labels) i) ts)
 
-    -- the first part has the kind, and is of it
-    first_kind : (o : Option (ColumnOf Cell)) (n : ℕ) (rest : Kind) → (seen_or (unwrap_or (option_map (λ c. c.kind) o) rest) o n).kind ≡ unwrap_or (option_map (λ c. c.kind) o) rest
-    first_kind = grind arith
+    all_cells : (kind : Kind) (ts : Parts) → flat_map (λ c. c.cells) (map (seen_value kind) ts) ≡ map (datum texts) (flat_map (cells_or_missing sought) ts)
+    all_cells kind ts = flat_seen (datum texts) (cells_or_missing sought) (seen_value kind) (λ c. c.cells) (λ t. cells_seen kind (column_sought sought t) (length t.labels)) ts
 
-    first_fits : (o : Option (ColumnOf Cell)) (rest : Kind) → fits_kind (unwrap_or (option_map (λ c. c.kind) o) rest) o ≡ true
-    first_fits = grind (arith, kind_itself)
+    others_fit : (kind : Kind) (ts : Parts) → list_all (λ other. same_kind kind other.kind) (map (seen_value kind) ts) ≡ list_all (λ t. fits_kind kind (column_sought sought t)) ts
+    others_fit kind ts = list_all-map (λ other. same_kind kind other.kind) (seen_value kind) ts ∙ (λ i. list_all (λ t. kind_fits kind (column_sought sought t) (length t.labels) i) ts)
 
-    others_fit : (kind : Kind) (ts : Parts) → list_all (λ other. same_kind kind other.kind) (map value_of_column (map (seen_in kind) ts)) ≡ list_all (λ t. fits_kind kind (column_sought sought t)) ts
-    others_fit _ [] = refl
-    others_fit kind (t ∷ ts) = search (kind_fits, others_fit kind ts)
-
-    put_together : (ts : Parts) → column_below (map value_of_column (map (seen_in (kind_sought sought ts)) ts)) ≡ (if kinds_meet ts sought then Some (stacked_seen texts sought ts) else None)
+    put_together : (ts : Parts) → column_below (map (seen_value (kind_sought sought ts)) ts) ≡ (if kinds_meet ts sought then Some (stacked_seen texts sought ts) else None)
     put_together [] = refl
     put_together (t ∷ ts) =
         let K = kind_sought sought (t ∷ ts) in
-        let o = column_sought sought t in
-        let n = length t.labels in
-        let first = first_kind o n _ in
-        let meet = ap (λ k. list_all (λ other. same_kind k other.kind) (map value_of_column (map (seen_in K) ts))) first ∙ others_fit K _ ∙ ap (λ b. b && list_all (λ s. fits_kind K (column_sought sought s)) ts) (sym (first_fits o _)) in
-        λ i. if meet i then Some record { kind = first i; cells = all_cells K (t ∷ ts) i } else None
+        grind (arith, kind_itself, others_fit K ts, all_cells K (t ∷ ts))
 
     -- the column that is meant, or columns of different kinds
     columns_stacked_by : (ts : Parts) → columns_below (map (seen_in (kind_sought sought ts)) ts) ≡ if_meet (kinds_meet ts sought) (column_value texts (stacked ts sought))
-    columns_stacked_by ts = grind (arith, put_together ts)
+    columns_stacked_by ts = grind (arith, put_together ts, map-map value_of_column (seen_in (kind_sought sought ts)) ts)
 
 -- the columns that are sought are as long as their parts
 column_long : (sought : Sought) (t : NumberedTable) → IsWhole t → (o : Option (ColumnOf Cell)) → column_sought sought t ≡ o → length (cells_or o (length t.labels)) ≡ length t.labels
@@ -91,39 +80,23 @@ column_long Only t fits (Some c) is = rw (get_or_from_slice_get t.columns 0 c c 
 column_long (Under h) t fits (Some c) is = grind (arith, position-Some, same_Some)
 
 lengths : (sought : Sought) (ts : Parts) → All IsWhole ts → length (flat_map (cells_or_missing sought) ts) ≡ rows_in ts
-lengths sought ts all =
-    length-flat_map _ ts
-    ∙ sym (sum-map (λ t. length (cells_or_missing sought t)) ts)
-    ∙ ap sum (map_given IsWhole (λ t. length (cells_or_missing sought t)) (λ t. length t.labels) (λ t fits. column_long sought t fits _ refl) ts all)
-    ∙ sum-map (λ t. length t.labels) ts
-
-few_enough : (n : ℕ) → n ≤ most_rows → nat_lt most_rows n ≡ false
-few_enough n le = grind (arith, nat_tests, le)
+lengths _ [] _ = refl
+lengths sought (t ∷ ts) all = grind (arith, length-append, sum_by-cons (λ t. length t.labels) t ts, column_long sought t (all 0 t (omega arith)) _ refl, lengths sought ts (All-tail IsWhole t ts all))
 
 -- columns of one kind and not too many cells are put together
 abbrev put_below : List Text → Kind → List Part → Result ColumnValue (ConcatRefusal (List Label))
 put_below texts kind pieces = rows_concatenated (map (λ part. seen_column texts (part_column kind part)) pieces)
 
 -- what the kernel makes of the parts' columns, and no refusal
-abbrev pub given : {A E : Type 0} → A → Result A E
-given a = Ok a
-
-ok_same : {A E : Type 0} (a b : A) → given {E = E} a ≡ given b → a ≡ b
-ok_same a b e = cc
-
 module _ (sought : Sought) (ts : Parts) (kind : Kind) (pieces : List Part) (meet : kinds_meet ts sought ≡ true) (all : All IsWhole ts) (few : rows_in ts ≤ 2 ^ 26) (same : kind ≡ kind_sought sought ts) (listed : pieces ≡ map (piece_of sought) ts) where
   pub stacked_told : (texts : List Text) → put_below texts kind pieces ≡ Ok (stacked_seen texts sought ts)
   stacked_told texts =
       let made = stacked_seen texts sought ts in
-      let count : length made.cells ≡ rows_in ts = search (length-map, lengths) in
-      (λ i. put_below texts (same i) (listed i))
-      ∙ ap (λ cs. column_within_limit (column_below cs)) (pieces_seen _ _ made.kind ts)
-      ∙ ap (λ o. column_within_limit o) (put_together _ _ ts)
-      ∙ ap (λ b. column_within_limit (if b then Some made else None)) meet
-      ∙ ap (λ b. if b then Err too_large else Ok made) (ap (nat_lt most_rows) count ∙ few_enough _ few)
+      let few : nat_lt most_rows (length made.cells) ≡ false = grind (arith, nat_tests, length-map, lengths sought ts all) in
+      grind (arith, same, listed, pieces_seen texts sought made.kind ts, put_together texts sought ts)
 
   pub stacked_is : (texts : List Text) (column : CellColumn) → put_below texts kind pieces ≡ Ok (seen_column texts column) → column_value texts (table_column column) ≡ column_value texts (stacked ts sought)
-  stacked_is = grind (arith, ok_same, stacked_told)
+  stacked_is = grind (arith, stacked_told)
 
 -- the column of one heading more
 pub one_more_stacked : (texts : List Text) (ts : Parts) (shape : Shape) (hs : Headings) (k : ℕ) (sought : Sought) (made made' : List CellBlock) (block : CellBlock) (column : CellColumn) → k < length hs
@@ -140,15 +113,12 @@ module _ (texts : List Text) where
       go [] one = search
       go (c ∷ cs) _ = refl
 
-  only_columns : (kind : Kind) (ts : Parts) → AreKnownParts texts ts → AreOf Series ts → map (λ t. column_at t.columns 0) (parts_value texts ts) ≡ map (seen_in texts Only kind) ts
-  only_columns _ [] _ _ = refl
-  only_columns kind (t ∷ ts) known series =
-      λ i. only_column kind t (known 0 t (omega arith)).whole (series 0 t (omega arith)) i
-      ∷ only_columns kind ts (All-tail (IsKnownTable texts) t _ known) (All-tail (λ t. t.shape ≡ Series) t _ series) i
-
   -- the column of Series
   series_columns : (ts : Parts) → AreKnownParts texts ts → AreOf Series ts → columns_below (map (λ t. column_at t.columns 0) (parts_value texts ts)) ≡ if_meet (kinds_meet ts Only) (column_value texts (stacked ts Only))
-  series_columns ts known series = cc (only_columns (kind_sought Only ts) ts known series, columns_stacked_by texts Only ts)
+  series_columns ts known series =
+      let K = kind_sought Only ts in
+      ap columns_below (map-map _ (table_value texts) ts ∙ map_given (λ t. IsWhole t × (t.shape ≡ Series)) _ (seen_in texts Only K) (λ t both. only_column K t both.0 both.1) ts (λ k d lt. ((known k d lt).whole, series k d lt)))
+      ∙ columns_stacked_by texts Only ts
 
   module _ (distinct : AreDistinct texts) where
     -- the column of a heading of frames
@@ -162,23 +132,16 @@ module _ (texts : List Text) where
           ∙ ap columns_below (map-map _ (table_value texts) ts ∙ map_given (IsKnownTable texts) _ (seen_in texts (Under h) _) (part_of_frame _) ts known)
           ∙ columns_stacked_by _ (Under h) ts
 
-    both_meet : (a b : Bool) (c : ColumnOf CellValue) (cs : List (ColumnOf CellValue)) → then_value (if_meet a c) (λ y. then_value (if_meet b cs) (λ ys. Ok (y ∷ ys))) ≡ if_meet (a && b) (c ∷ cs)
-    both_meet = grind arith
-
     frame_columns : (ts : Parts) (hs : Headings) → IsSettled headings_value texts hs → AreKnownParts texts ts → try_all (frame_column_below (parts_value texts ts)) (headings_value texts hs) ≡ if_meet (all_kinds_meet ts Frame hs) (columns_value texts (columns_stacked ts Frame hs))
     frame_columns _ [] _ _ = refl
-    frame_columns ts (h ∷ hs) settled known = search (frame_column, head_settled, rest_settled, both_meet, frame_columns ts hs (rest_settled heading_value texts h _ settled) known)
-
-    one_meets : (b : Bool) (c : ColumnOf CellValue) → then_value (if_meet b c) (λ column. Ok (column ∷ [])) ≡ if_meet (b && true) (c ∷ [])
-    one_meets = grind arith
+    frame_columns ts (h ∷ hs) settled known = grind (arith, frame_column h (head_settled heading_value texts h hs settled) ts known, frame_columns ts hs (rest_settled heading_value texts h hs settled) known)
 
     -- the columns that are meant, or kinds that don't meet
     columns_meant : (shape : Shape) (parts : Parts) (hs : Headings) → AreOf shape parts → (shape ≡ Series → length hs ≡ 1) → IsSettled headings_value texts hs → AreKnownParts texts parts
         → columns_made shape (parts_value texts parts) (headings_value texts hs) ≡ if_meet (all_kinds_meet parts shape hs) (columns_value texts (columns_stacked parts shape hs))
     columns_meant Frame _ _ = search frame_columns
-    columns_meant Series _ [] = grind arith
-    columns_meant Series _ (h ∷ g ∷ hs) = grind arith
-    columns_meant Series _ (h ∷ []) = search (series_columns, one_meets)
+    columns_meant Series _ (h ∷ []) = grind (arith, series_columns)
+    columns_meant Series _ _ = grind arith
 
 -- the cells that are put together were given
 abbrev IsGivenColumn : List Text → ColumnOf Cell → Type 0
@@ -231,43 +194,32 @@ module _ (parts : Parts) (shape : Shape) (hs : Headings) (blocks : List CellBloc
   blocks_count = cc (length-map hs of_heading, length-map (columns_stacked parts shape hs) (column_value []), made [], length-map (columns_of blocks) (column_value []))
 
 -- the columns of Series have no name
-unnamed : (texts : List Text) (name : Option Label) → heading_value texts name ≡ None → name ≡ None
-unnamed = grind arith
-
 series_nameless : (texts : List Text) (ts : Parts) (name : Option Label) → AreOf Series ts → AreKnownParts texts ts → heading_value texts name ≡ name_of_all (map (name_at Columns) (parts_value texts ts)) → name ≡ None
-series_nameless _ [] _ _ _ is = unnamed _ _ is
+series_nameless _ [] _ _ _ is = grind arith
 series_nameless texts (t ∷ ts) _ series known is =
     let first = (known 0 t (omega arith)).whole.headings.nameless (series 0 t (omega arith)) in
-    let others = map (name_at Columns) (parts_value texts ts) in
-    unnamed _ _ (is ∙ ap (λ n. fold common_name (heading_value texts n) others) first ∙ fold_stays common_name None none_common others)
-
--- tests of how many there are
-above : (n m : ℕ) → m < n → nat_le n m ≡ false
-above n m lt = grind (arith, nat_tests, lt)
-
-below_it : (n m : ℕ) → n ≤ m → nat_le n m ≡ true
-below_it n m le = grind (arith, nat_tests, le)
+    grind (arith, fold_stays common_name None none_common (map (name_at Columns) (parts_value texts ts)))
 
 pub many_rows : (n m : ℕ) → 2 ^ 26 < n → within_limits n m ≡ false
-many_rows = search above
+many_rows = grind (arith, nat_tests)
 
 -- the new table
-module _ (texts : List Text) (shape : Shape) (parts : Parts) (hs : Headings) (name : Option Label) (axis : AxisValue) (headings : HeadingList) (blocks : List CellBlock) (known : AreKnownParts texts parts) (headed : headings ≡ record { columns_name = name; labels = hs })
+module _ (texts : List Text) (shape : Shape) (parts : Parts) (hs : Headings) (name : Option Label) (axis : AxisValue) (blocks : List CellBlock) (known : AreKnownParts texts parts)
     (filled : AreStacked parts shape hs blocks) where
   abbrev new_table : NumberedTable
-  new_table = table_with shape axis headings (columns_of blocks)
+  new_table = table_with shape axis record { columns_name = name; labels = hs } (columns_of blocks)
 
   table_given : IsSettled heading_value texts name → IsSettled axis_seen texts axis → IsSettled headings_value texts hs → IsSettled table_value texts new_table
   table_given named rowed settled =
-      rw headed (table_settled _ _ named (λ more. ap (λ a. a.names) (rowed more)) (λ more. ap (λ a. a.labels) (rowed more)) settled (blocks_given _ _ _ _ filled _ known))
+      table_settled _ _ named (λ more. ap (λ a. a.names) (rowed more)) (λ more. ap (λ a. a.labels) (rowed more)) settled (blocks_given _ _ _ _ filled _ known)
 
   pub table_whole : AreOf shape parts → AreHeadings shape None hs → heading_value texts name ≡ name_of_all (map (name_at Columns) (parts_value texts parts)) → length axis.tuples ≡ rows_in parts → IsWhole new_table
   table_whole of fits named count =
-      rw headed (record {
+      record {
         headed = blocks_count parts shape hs blocks filled;
         filled = rw count (blocks_filled parts shape hs blocks filled (λ k d lt. (known k d lt).whole));
-        headings = record { single = fits.single; nameless = λ series. series_nameless _ _ _ (subst (λ s. AreOf s parts) series of) known named; labelled = fits.labelled; different = fits.different };
-      })
+        headings = record { single = fits.single; nameless = λ series. series_nameless _ _ _ (rw series at of) known named; labelled = fits.labelled; different = fits.different };
+      }
 
 -- what is meant by parts one below the other
 module _ (texts : List Text) (distinct : AreDistinct texts) (shape : Shape) (asked : Asked) (hs : Headings) (one : shape ≡ Series → length hs ≡ 1) (settled : IsSettled headings_value texts hs)
@@ -294,30 +246,18 @@ module _ (texts : List Text) (distinct : AreDistinct texts) (shape : Shape) (ask
     meant : told ≡ finished_below made
     meant = grind (arith, columns_meant)
 
-    rows : length made.labels ≡ rows_in parts
-    rows = search rows_count
-
-    columns : length made.columns ≡ length hs
-    columns = search length-map
-
-    abbrev refused : Result Entry FaultValue
-    refused = Err limit
-
-    either_limit : (b : Bool) → (if b then refused else refused) ≡ refused
-    either_limit = grind arith
-
     pub beyond_of_parts : within_limits (rows_in parts) (length hs) ≡ false → told ≡ Err limit
-    beyond_of_parts = grind (arith, meant, rows, columns, either_limit)
+    beyond_of_parts = grind (arith, meant, rows_count, length-map)
 
     module _ (t : NumberedTable) (at : t ≡ slice_index_or parts 0 t) where
       levels : length made.level_names ≡ levels_for (length t.level_names) asked
       levels = levels_count _ asked.renumbered asked.keys parts t some at
 
       pub levels_of_parts : 4 < levels_for (length t.level_names) asked → told ≡ Err limit
-      levels_of_parts = grind (arith, and_right, above, levels, meant)
+      levels_of_parts = grind (arith, and_right, nat_tests, levels, meant)
 
-      pub table_is : (new : NumberedTable) (name : Option Label) (axis : AxisValue) (headings : HeadingList) (blocks : List CellBlock) → within_limits (rows_in parts) (length hs) ≡ true → 1 ≤ levels_for (length t.level_names) asked → levels_for (length t.level_names) asked ≤ 4
+      pub table_is : (new : NumberedTable) (name : Option Label) (axis : AxisValue) (blocks : List CellBlock) → within_limits (rows_in parts) (length hs) ≡ true → 1 ≤ levels_for (length t.level_names) asked → levels_for (length t.level_names) asked ≤ 4
           → heading_value texts name ≡ name_of_all (map (name_at Columns) T) → IsSettled heading_value texts name → axis_seen texts axis ≡ rows_below asked.renumbered (keys_value texts asked.keys) T → IsSettled axis_seen texts axis
-          → headings ≡ record { columns_name = name; labels = hs } → AreStacked parts shape hs blocks → new ≡ table_with shape axis headings (columns_of blocks) → Makes texts (Ok new) told
-      table_is new name axis headings blocks within least few named name_given rowed axis_given headed filled is =
-          (grind (arith, below_it, levels, meant, rows, columns), rw is (table_given _ shape parts hs name _ _ blocks known headed filled name_given axis_given settled))
+          → AreStacked parts shape hs blocks → new ≡ table_with shape axis record { columns_name = name; labels = hs } (columns_of blocks) → Makes texts (Ok new) told
+      table_is new name axis blocks within least few named name_given rowed axis_given filled is =
+          (grind (arith, nat_tests, levels, meant, rows_count, length-map), rw is (table_given _ shape parts hs name _ blocks known filled name_given axis_given settled))

@@ -1,17 +1,17 @@
 -- Parts side by side.
 use Rattle.{
-  concat_forms.{proofs.{AxisLaws.{Axes, HasLevels, AreAxesOf, each_tuples, all_named, all_levels}, PartLaws.{Parts, Headings, parts_settled, numbered_labels, labels_each, levels_as}, SeenLaws.{united_all}, PlaceLaws.{each_of}}, specs.{declared.{asked.Asked.{Asked}, parts.Naming.TheVariants.{Columns}}, Asked.{asked_value}, Parts.{parts_value, AreKnownParts, name_at, have_same_levels}, Headings.{numbered}, Beside.{met_beside, AreBlocks, IsAxisFor}, Axes.{HasLevelsOf, levels_of, named_after, IsAlike}}},
+  concat_forms.{proofs.{PartLaws.{Axes, HasLevels, AreAxesOf, each_tuples, all_named, all_levels, Parts, Headings, parts_settled, numbered_labels, labels_each, levels_as}, PlaceLaws.{united_all, flat_seen, each_of}}, specs.{declared.{asked.Asked.{Asked}, parts.Naming.TheVariants.{Columns}}, Asked.{asked_value}, Parts.{parts_value, AreKnownParts, name_at, have_same_levels}, Headings.{numbered}, Beside.{met_beside, AreBlocks, IsAxisFor}, Axes.{HasLevelsOf, levels_of, named_after, IsAlike}}},
   merge_concat.specs.Axes.{tuples_of_each},
-  std.{specs.{Prelude.{IsSome}, Option.{option_map}, List.{flat_map, range_with_len, list_all}, Cmp.Lexicographic.{pointwise}}, proofs.{Common.{◌++◌, slice_index_or, ◌≡◌, ◌∙◌, ◌<◌, ◌+◌, refl, ap, sym, arith, ℕ, pos, Bool, true, false, List, [], ◌∷◌, map, length, All, Option, Some, None, Result, Ok, Err, ◌-◌, take, inr, ◌&&◌, if◌then◌else◌}, lemmas.{List.{length-map, map-append, append-nil, length-append, take_more, length-replicate, Elements.{All-map, All-nil, All-cons, All-tail, All-same}, Concat.{flat_map-append}, Sums.{AllPass-from_list_all}}, Bool.Decides.{nat_tests}}}},
+  std.{specs.{Prelude.{IsSome}, Option.{option_map}, List.{flat_map, range_with_len, list_all}, Cmp.Lexicographic.{pointwise, pointwise_decides}}, proofs.{Common.{◌++◌, slice_index_or, ◌≡◌, ◌<◌, ◌+◌, refl, ap, sym, arith, ℕ, pos, Bool, true, false, List, [], ◌∷◌, map, length, All, Option, Some, None, Result, Ok, Err, take, inr, if◌then◌else◌}, lemmas.{List.{length-map, map-append, append-nil, length-append, take_more, length-replicate, Folds.{list_all-map}, Elements.{All-map, All-nil, All-cons, All-tail, All-same}, Concat.{flat_map-append}, Sums.{AllPass-from_list_all}}, Bool.Decides.{nat_tests}}}},
   multi_index.specs.Axes.{AxisValue, HaveLevels, nameless_axis},
   cell_core.specs.{Texts.{AreDistinct, AreGiven}, declared.{cell.{Label.{Label}, Cell.{Cell, TheVariants.{Na}}}, code.Code.TheVariants.{RepeatedLabel}, grid.Shape.TheVariants.{Frame}}},
   meaning.specs.{Text.{Text}, Cell.{LabelValue, int}, FaultOf.{fault_of}, Fault.{limit, FaultValue, bad_value, levels}},
-  align_meaning.{specs.{Faults.{met_rows}, Joins.{most_rows}, Targets.{first_repeated as first_twice, reindexed}}, proofs.OrderLaws.{all_append}},
+  align_meaning.{specs.{Faults.{met_rows}, Joins.{most_rows}, Targets.{reindexed}}, proofs.OrderLaws.{all_append}},
   join_meaning.specs.Concat.{united, are_equal, repeated_on_any, labels_concatenated, unless_repeated as unless_label, ConcatRefusal, first_axis},
   table_meaning.specs.{Settled.{IsSettled}, Table.{NumberedTable, Table, tuple_value, ColumnOf, heading_value, table_value}, Valid.{IsWhole}, Value.{table, Entry}},
   form_meaning.specs.{Finish.{finished, limited, unless_repeated, within_limits}, Infix.{same_tuple, on_rows}},
   method_meaning.specs.Concat.{Concatenation, rows_met, labels_of_tables, table_beside, unless_label_twice, headings_beside, numbered_from, name_of_all, columns_beside, level_names_of_all},
-  frame_store.{specs.{Shown.{labels_value, headings_value, Refuses, Makes}, Parts.{HeadingList, IsSingle, HaveRows, columns_of, table_with, axis_of}, World.{IsKnownTable}, declared.fault.OpFault.{OpFault, TheVariants.{Refused, NoMemory}}}, proofs.Settling.{settled_by, labels_part, columns_part, columns_given, columns_settled, table_settled}},
+  frame_store.{specs.{Shown.{labels_value, headings_value, Refuses, Makes}, Parts.{IsSingle, HaveRows, columns_of, table_with, axis_of}, World.{IsKnownTable}, declared.fault.OpFault.{OpFault, TheVariants.{Refused, NoMemory}}}, proofs.Settling.{settled_by, labels_part, columns_part, columns_given, columns_settled, table_settled}},
   form_parts.{proofs.{RowLaws.{tuple_by_number, tuples_settled, settled_tuples}, GapLaws.{on_rows_seen, on_rows_given}, LabelLaws.{value_decides}}, specs.Makes.{blocks_value}},
   selections.{proofs.{HeadingLaws.{repeated_seen, different}, RefusalLaws.{repeated_settled}}, specs.Headings.{NamesRepeated, repeated_heading}},
   column_core.specs.{Blocks.{CellBlock}, Moves.{IsPlaceOf}},
@@ -20,7 +20,7 @@ use Rattle.{
 use Rattle.meaning.specs.Fault as fault
 use Rattle.join_meaning.specs.Concat as join
 use Rattle.row_keys.specs.Keys as numbers
-use Rattle.concat_forms.proofs.SeenLaws as seen
+use Rattle.concat_forms.proofs.PlaceLaws as seen
 use Rattle.method_meaning.specs.Concat as meant
 
 -- numbered headings, with their texts
@@ -38,46 +38,28 @@ module _ (texts : List Text) where
   numbered_seen = grind (arith, some_numbered, every_numbered, length-map)
 
   all_headings_seen : (parts : List NumberedTable) → headings_value texts (flat_map (λ t. t.headings) parts) ≡ flat_map (λ t. t.headings) (parts_value texts parts)
-  all_headings_seen [] = refl
-  all_headings_seen (t ∷ ts) = search (map-append, all_headings_seen ts)
-
-  -- labels of several parts by their numbers are those by their texts
-  labels_given : (parts : List NumberedTable) → AreKnownParts texts parts → All (All (IsSettled tuple_value texts)) (numbered_labels parts)
-  labels_given parts known = All-map (All (IsSettled tuple_value texts)) _ _ (λ k d lt. tuples_settled _ _ (labels_part _ (slice_index_or parts k d) (known k d lt).given))
-
-pub numbered_given : (texts : List Text) (all : Bool) (hs : List (Option Label)) → IsSettled headings_value texts hs → IsSettled headings_value texts (numbered all 0 hs)
-numbered_given = grind (arith, settled_by, numbered_seen)
-
-all_headings_given : (texts : List Text) (parts : List NumberedTable) → AreKnownParts texts parts → IsSettled headings_value texts (flat_map (λ t. t.headings) parts)
-all_headings_given texts parts known = λ more. all_headings_seen (texts ++ more) parts ∙ ap (flat_map (λ t. t.headings)) (parts_settled _ _ known more) ∙ sym (all_headings_seen texts parts)
+  all_headings_seen parts = sym (flat_seen (heading_value texts) (λ t. t.headings) (table_value texts) (λ t. t.headings) (λ t. refl) parts)
 
 numbered_some : (hs : List (Option Label)) (n : ℕ) (all : Bool) → All IsSome (numbered all n hs)
 numbered_some [] n _ = All-nil _
-numbered_some (None ∷ hs) n all = grind (arith, numbered_some hs (n + 1) all)
-numbered_some (Some l ∷ hs) n true = grind (arith, numbered_some hs (n + 1) true)
-numbered_some (Some l ∷ hs) n false = grind (arith, numbered_some hs n false)
+numbered_some (h ∷ hs) n all = grind (arith, numbered_some hs (n + 1) all, numbered_some hs n all)
 
-meets_once : (own labels : List (List LabelValue)) → first_twice same_tuple own ≡ None → met_rows (reindexed same_tuple own labels) ≡ Ok (rows_met own labels)
-meets_once = grind arith
+-- rows meet where no part repeats a label
+abbrev MeetOn : List Text → List (List LabelValue) → NumberedTable → Type 0
+MeetOn texts labels t = met_rows (reindexed same_tuple (labels_value texts t.labels) labels) ≡ Ok (rows_met (labels_value texts t.labels) labels)
 
-none_twice : (lists : List (List (List LabelValue))) → repeated_on_any same_tuple lists ≡ None → All (λ own. first_twice same_tuple own ≡ None) lists
-none_twice [] none = grind arith
-none_twice (own ∷ lists) none =
-    All-cons (λ own. first_twice same_tuple own ≡ None) _ _ (grind arith) (none_twice lists (grind arith))
+meet_once : (texts : List Text) (labels : List (List LabelValue)) (parts : Parts) → repeated_on_any same_tuple (labels_of_tables (parts_value texts parts)) ≡ None → All (MeetOn texts labels) parts
+meet_once _ _ [] _ = All-nil _
+meet_once texts labels (t ∷ ts) none = All-cons (MeetOn texts labels) t ts (grind arith) (meet_once texts labels ts (grind arith))
 
--- an answer of the kernel, opened
-no : {A : Type 0} → false ≡ true → A
-no e = cc
-
-module _ {K : Type 0} where
-  ok_opened : (o : Option K) (u labels : List K) → unless_label o u ≡ Ok labels → (o ≡ None) × (labels ≡ u)
-  ok_opened = grind (arith, no)
-
-  twice_opened : (o : Option K) (u : List K) (label : K) → unless_label o u ≡ Err (join.repeated_label label) → o ≡ Some label
-  twice_opened = grind (arith, no)
-
-  many_opened : (o : Option K) (u : List K) → unless_label o u ≡ Err join.too_large → (o ≡ None) × (most_rows < length u)
-  many_opened = grind (arith, no, nat_tests)
+axis_once : (texts : List Text) (axis : AxisValue) (labels : List (List Label)) (n : ℕ) (parts : Parts) → axis ≡ nameless_axis labels n → n ≡ levels_of parts → have_same_levels parts ≡ true → IsSettled labels_value texts labels → repeated_on_any same_tuple (labels_of_tables (parts_value texts parts)) ≡ None → All (IsAxisFor texts axis) parts
+axis_once _ _ _ n [] _ _ _ _ _ = All-nil _
+axis_once texts axis _ n (t ∷ ts) is count same given once = λ k d lt.
+    record {
+      levels = inr (grind (arith, length-replicate, all_levels t ts same k d lt));
+      given = grind arith;
+      meet = meet_once _ _ (t ∷ ts) once k d lt;
+    }
 
 -- the columns of one part more
 rows_long : (rows : List (Option ℕ)) (cs : List (ColumnOf Cell)) → HaveRows (length rows) (on_rows Na rows cs)
@@ -92,17 +74,12 @@ numbered_count all n (h ∷ hs) = grind (arith, numbered_count all (n + 1) hs, n
 abbrev pub all_numbered : Bool → Parts → Headings
 all_numbered all parts = numbered all 0 (flat_map (λ t. t.headings) parts)
 
+headings_so : (texts : List Text) (all : Bool) (parts : Parts) → headings_value texts (all_numbered all parts) ≡ headings_beside all (flat_map (λ t. t.headings) (parts_value texts parts))
+headings_so = grind (arith, numbered_seen, all_headings_seen)
+
 -- equal labels
-tuple_itself : (t : List LabelValue) → same_tuple t t ≡ true
-tuple_itself [] = refl
-tuple_itself (l ∷ ls) = λ i. (value_decides l l).1 refl i && tuple_itself ls i
-
 rows_themselves : (rows : List (List LabelValue)) → pointwise same_tuple rows rows ≡ true
-rows_themselves [] = refl
-rows_themselves (t ∷ ts) = λ i. tuple_itself t i && rows_themselves ts i
-
-each_first : (first : List (List Label)) (lists : List (List (List Label))) → list_all (pointwise numbers.same_tuple first) lists ≡ true → All (λ l. first ≡ l) lists
-each_first _ _ same = λ k d lt. (tuples_decide _ _).0 (AllPass-from_list_all _ _ same k d lt)
+rows_themselves rows = (pointwise_decides (pointwise_decides value_decides) rows rows).1 refl
 
 module _ (texts : List Text) where
   pub part_added : (t : NumberedTable) (rows : List (Option ℕ)) (before made : List CellBlock) → IsKnownTable texts t → All (IsPlaceOf (length t.labels)) rows → AreBlocks texts (length rows) before
@@ -126,24 +103,21 @@ module _ (texts : List Text) where
       grind (arith, length-append, length-map, columns_count labels ts (All-tail (IsKnownTable texts) t ts known))
 
   headings_known : (all : Bool) (parts : Parts) → AreKnownParts texts parts → IsSettled headings_value texts (all_numbered all parts)
-  headings_known _ _ known = numbered_given _ _ _ (all_headings_given _ _ known)
+  headings_known all parts known = settled_by parts_value headings_value (λ ts. headings_beside all (flat_map (λ t. t.headings) ts)) _ parts _ (λ ts. sym (headings_so ts all parts)) (parts_settled _ _ known)
 
   -- the names of the levels
   level_names_so : (names : Headings) (parts : Parts) → length names ≡ levels_of parts → named_after (headings_value texts names) (length names) (parts_value texts parts) ≡ level_names_of_all (parts_value texts parts)
   level_names_so names parts fit =
-      let none : length (headings_value texts names) - length names ≡ 0 = omega (arith, length-map names (heading_value texts)) in
-      rw none (all_named _ parts _ fit)
-
-  alike_axis : (axis : AxisValue) (t : NumberedTable) → IsSettled labels_value texts axis.tuples → axis.tuples ≡ t.labels → IsAxisFor texts axis t
-  alike_axis = grind (arith, rows_themselves)
+      grind (arith, length-map, all_named texts parts _ fit)
 
   pub equal_axis : (axes : Axes) (parts : Parts) (t : NumberedTable) (axis : AxisValue) → 0 < length parts → t ≡ slice_index_or parts 0 t → AreAxesOf axes parts → are_equal numbers.same_tuple (tuples_of_each axes) ≡ true → axis ≡ axis_of t
       → IsSettled labels_value texts axis.tuples → All (IsAxisFor texts axis) parts
   equal_axis _ [] t _ some at is same copied given = grind arith
-  equal_axis _ (s ∷ ss) t axis some at is same copied given = λ k d lt.
-      let first : axis.tuples ≡ s.labels = cc in
-      let all = All-cons (λ l. s.labels ≡ l) _ _ refl (each_first _ _ (sym (ap (are_equal numbers.same_tuple) (each_tuples _ (s ∷ ss) is)) ∙ same)) in
-      alike_axis _ _ given (first ∙ each_of (λ l. s.labels ≡ l) (λ t. t.labels) (s ∷ ss) all k d lt)
+  equal_axis axes (s ∷ ss) t axis some at is same copied given = λ k d lt.
+      let equal : list_all (λ t. pointwise numbers.same_tuple s.labels t.labels) ss ≡ true = cc (list_all-map (pointwise numbers.same_tuple s.labels) (λ (t : NumberedTable). t.labels) ss, each_tuples axes (s ∷ ss) is, same) in
+      let all = All-cons (λ t. s.labels ≡ t.labels) s ss refl (λ k d lt. (tuples_decide _ _).0 (AllPass-from_list_all _ _ equal k d lt)) k d lt in
+      let same : axis.tuples ≡ (slice_index_or (s ∷ ss) k d).labels = cc (all, copied, at) in
+      grind (arith, rows_themselves)
 
   first_labels : (parts : Parts) (t : NumberedTable) (axis : AxisValue) → 0 < length parts → t ≡ slice_index_or parts 0 t → axis ≡ axis_of t → first_axis (labels_of_tables (parts_value texts parts)) ≡ labels_value texts axis.tuples
   first_labels [] t _ some at copied = grind arith
@@ -159,20 +133,24 @@ module _ (texts : List Text) (distinct : AreDistinct texts) (parts : Parts) (kno
   abbrev by_number : (x y : List Label) → P x → P y → same_tuple (tuple_value texts x) (tuple_value texts y) ≡ numbers.same_tuple x y
   by_number x y f g = tuple_by_number _ x y distinct f g
 
+  -- labels of several parts by their numbers are those by their texts
+  given : All (All P) (numbered_labels parts)
+  given = All-map (All P) _ _ (λ k d lt. tuples_settled _ _ (labels_part _ (slice_index_or parts k d) (known k d lt).given))
+
   equal_labels : are_equal same_tuple (labels_of_tables T) ≡ are_equal numbers.same_tuple (numbered_labels parts)
-  equal_labels = cc (labels_each texts parts, seen.equal_seen P (numbered_labels parts) (labels_given _ _ known) (tuple_value texts) numbers.same_tuple same_tuple by_number)
+  equal_labels = rw labels_each (seen.equal_seen _ _ _ _ by_number _ given)
 
   twice_labels : repeated_on_any same_tuple (labels_of_tables T) ≡ option_map (tuple_value texts) (repeated_on_any numbers.same_tuple (numbered_labels parts))
-  twice_labels = cc (labels_each texts parts, seen.repeated_seen P (numbered_labels parts) (labels_given _ _ known) (tuple_value texts) numbers.same_tuple same_tuple by_number)
+  twice_labels = rw labels_each (seen.repeated_seen _ _ _ _ by_number _ given)
 
   united_labels : (inner : Bool) → united same_tuple inner (labels_of_tables T) ≡ labels_value texts (united numbers.same_tuple inner (numbered_labels parts))
-  united_labels inner = cc (labels_each _ _, seen.united_seen P (numbered_labels parts) (labels_given _ _ known) (tuple_value texts) numbers.same_tuple same_tuple by_number inner)
+  united_labels _ = rw labels_each (seen.united_seen _ _ _ _ by_number _ _ given)
 
   united_labels_given : (inner : Bool) → IsSettled labels_value texts (united numbers.same_tuple inner (numbered_labels parts))
-  united_labels_given _ = settled_tuples _ _ (seen.united_all P _ (labels_given _ _ known) _ _)
+  united_labels_given _ = settled_tuples _ _ (seen.united_all P _ _ _ given)
 
   twice_given : (label : List Label) → repeated_on_any numbers.same_tuple (numbered_labels parts) ≡ Some label → IsSettled fault_of texts (RepeatedLabel label)
-  twice_given _ is = λ more. ap fault.repeated_label (seen.repeated_all P (numbered_labels parts) (labels_given _ _ known) _ _ is more)
+  twice_given _ is = λ more. ap fault.repeated_label (seen.repeated_all P _ _ _ given is more)
 
   -- what the kernel answers for axes that aren't equal
   module _ (asked : Asked) (axes : Axes) (is : AreAxesOf axes parts) (apart : are_equal numbers.same_tuple (tuples_of_each axes) ≡ false) where
@@ -197,12 +175,12 @@ module _ (texts : List Text) (distinct : AreDistinct texts) (parts : Parts) (kno
     -- the labels
     module _ (labels : List (List Label)) (ok : told ≡ Ok labels) where
       opened : (twice ≡ None) × (labels ≡ all_labels)
-      opened = ok_opened _ _ _ (sym chosen ∙ ok)
+      opened = grind (arith, chosen)
 
       pub met_labels : labels ≡ all_labels
       met_labels = opened.1
 
-      pub met_once : repeated_on_any same_tuple (labels_of_tables T) ≡ None
+      met_once : repeated_on_any same_tuple (labels_of_tables T) ≡ None
       met_once = cc (twice_labels, opened.0)
 
       pub met_found : met_beside T C ≡ finished (table_beside T asked.renumbered (labels_value texts labels))
@@ -211,16 +189,18 @@ module _ (texts : List Text) (distinct : AreDistinct texts) (parts : Parts) (kno
       pub met_given : IsSettled labels_value texts labels
       met_given = rw opened.1 (united_labels_given _)
 
+      pub met_axis : (axis : AxisValue) (n : ℕ) → axis ≡ nameless_axis labels n → n ≡ levels_of parts → have_same_levels parts ≡ true → All (IsAxisFor texts axis) parts
+      met_axis = search (axis_once, met_given, met_once)
+
     -- a label that stands twice
     pub met_twice : (label : List Label) → told ≡ Err (join.repeated_label label) → Refuses texts (RepeatedLabel label) (met_beside T C)
-    met_twice _ is = let found = twice_opened _ _ _ (sym chosen ∙ is) in (met_meant _ found, twice_given _ found)
+    met_twice label is = let found : twice ≡ Some label = grind (arith, chosen) in (met_meant _ found, twice_given _ found)
 
     -- too many labels
     pub met_many : told ≡ Err join.too_large → (met_beside T C ≡ finished (table_beside T asked.renumbered (labels_value texts all_labels))) × (most_rows < length (labels_value texts all_labels))
     met_many is =
-        let opened = many_opened _ _ (sym chosen ∙ is) in
-        let count : length (labels_value texts all_labels) ≡ length all_labels = search length-map in
-        (met_meant _ opened.0, omega (arith, opened.1, count))
+        let opened : (twice ≡ None) × (most_rows < length all_labels) = grind (arith, chosen, nat_tests) in
+        grind (arith, met_meant None, length-map)
 
   -- the frame that is meant
   module _ (all : Bool) where
@@ -231,17 +211,11 @@ module _ (texts : List Text) (distinct : AreDistinct texts) (parts : Parts) (kno
       abbrev made : Table
       made = table_beside T all labels
 
-      headings_so : headings_value texts H ≡ made.headings
-      headings_so = search (numbered_seen, all_headings_seen)
-
       finished_by : (repeated : Option Label) → repeated_heading H ≡ repeated → finished made ≡ unless_repeated (heading_value texts repeated) (limited made)
-      finished_by = grind (arith, headings_so, repeated_seen, headings_known)
+      finished_by = grind (arith, headings_so texts all parts, repeated_seen, headings_known)
 
       pub headings_refused : (why : OpFault) → NamesRepeated why (repeated_heading H) → Makes texts (Err why) (finished made)
-      headings_refused (Refused code) named = (
-        finished_by _ named.1 ∙ ap (λ c. Err (fault_of texts c)) (sym named.2),
-        search (repeated_settled, headings_known),
-      )
+      headings_refused (Refused code) named = grind (arith, finished_by _ named.1, repeated_settled, headings_known)
       headings_refused NoMemory _ = tt
 
       pub beyond_limits : repeated_heading H ≡ None → within_limits (length labels) (length H) ≡ false → finished made ≡ Err limit
@@ -261,20 +235,20 @@ module _ (texts : List Text) (distinct : AreDistinct texts) (parts : Parts) (kno
       pub beyond_axis : within_limits (length axis.tuples) (length list) ≡ false → finished frame_meant ≡ Err limit
       beyond_axis = grind (arith, beyond_limits (labels_value texts axis.tuples) numbered_none, length-map)
 
-      module _ (count : ℕ) (new : AxisValue) (named : record { tuples : new.tuples ≡ axis.tuples; names : headings_value texts new.names ≡ named_after (headings_value texts axis.names) count T; given : IsSettled headings_value texts new.names }) (called : Option Label) (headings : HeadingList) (headed : headings ≡ record { columns_name = called; labels = slice }) (built : List CellBlock)
+      module _ (count : ℕ) (new : AxisValue) (named : record { tuples : new.tuples ≡ axis.tuples; names : headings_value texts new.names ≡ named_after (headings_value texts axis.names) count T; given : IsSettled headings_value texts new.names }) (called : Option Label) (built : List CellBlock)
           (made_of : record { blocks : AreBlocks texts (length axis.tuples) built; columns : blocks_value texts built ≡ flat_map (columns_beside (labels_value texts axis.tuples)) T }) where
         abbrev frame : NumberedTable
-        frame = table_with Frame new headings (columns_of built)
+        frame = table_with Frame new record { columns_name = called; labels = slice } (columns_of built)
 
         pub frame_whole : IsWhole frame
         frame_whole = grind (arith, numbered_none, numbered_count, columns_count, length-map, numbered_some, different)
 
         module _ (given : IsSettled labels_value texts axis.tuples) (levels : HasLevelsOf parts axis.names) (counted : count ≡ length axis.names) (calls : record { name : heading_value texts called ≡ name_of_all (map (name_at Columns) T); given : IsSettled heading_value texts called }) where
           frame_seen : table_value texts frame ≡ frame_meant
-          frame_seen = grind (arith, level_names_so, numbered_seen, all_headings_seen)
+          frame_seen = grind (arith, level_names_so, headings_so texts all parts)
 
           frame_given : IsSettled table_value texts frame
-          frame_given = rw (headed, sliced, listed) (table_settled _ _ calls.given named.given (rw named.tuples given) (headings_known _ _ _ known) (columns_settled _ _ made_of.blocks.given))
+          frame_given = rw (sliced, listed) (table_settled _ _ calls.given named.given (rw named.tuples given) (headings_known _ _ _ known) (columns_settled _ _ made_of.blocks.given))
 
           pub frame_is : within_limits (length axis.tuples) (length list) ≡ true → (t : NumberedTable) → t ≡ frame → Makes texts (Ok t) (finished frame_meant)
           frame_is = grind (arith, finished_so (labels_value texts axis.tuples) numbered_none, frame_seen, frame_given, length-map)
@@ -288,10 +262,10 @@ module _ (texts : List Text) (distinct : AreDistinct texts) (parts : Parts) (kno
     beside_by = grind (arith, equal_labels, each_tuples)
 
     pub beside_equal : (t : NumberedTable) (axis : AxisValue) → 0 < length parts → t ≡ slice_index_or parts 0 t → are_equal numbers.same_tuple (tuples_of_each axes) ≡ true → axis ≡ axis_of t → meant.beside T (asked_value texts asked) ≡ finished (table_beside T asked.renumbered (labels_value texts axis.tuples))
-    beside_equal t _ some at same copied = cc (beside_by _ same, first_labels _ _ t _ some at copied)
+    beside_equal t _ some at same copied = grind (arith, beside_by _ same, first_labels)
 
     pub beside_met : are_equal numbers.same_tuple (tuples_of_each axes) ≡ false → meant.beside T (asked_value texts asked) ≡ (if have_same_levels parts then met_beside T (asked_value texts asked) else Err (bad_value levels))
-    beside_met apart = beside_by _ apart ∙ ap (λ b. if b then met_beside T (asked_value texts asked) else Err (bad_value levels)) (levels_as texts parts)
+    beside_met apart = grind (arith, beside_by _ apart, levels_as texts parts)
 
 -- the labels of rows that meet
 each_alike : (axes : Axes) (t : NumberedTable) (ts : Parts) → AreAxesOf axes (t ∷ ts) → All IsAlike axes → have_same_levels (t ∷ ts) ≡ true → All (HaveLevels (length t.level_names)) (numbered_labels (t ∷ ts))
@@ -300,16 +274,5 @@ each_alike axes t ts is alike same =
     All-map (HaveLevels (length t.level_names)) (λ t. t.labels) (t ∷ ts) (λ k d lt. rw (all_levels t ts same k d lt) at (each_of HasLevels axis_of (t ∷ ts) own k d lt))
 
 pub united_alike : (axes : Axes) (parts : Parts) (inner : Bool) → AreAxesOf axes parts → All IsAlike axes → have_same_levels parts ≡ true → HaveLevels (levels_of parts) (united numbers.same_tuple inner (numbered_labels parts))
-united_alike _ [] true = grind arith
-united_alike _ [] false = grind arith
-united_alike _ (t ∷ ts) _ = search (united_all, numbered_labels, each_alike)
-
-pub met_axis : (texts : List Text) (axis : AxisValue) (labels : List (List Label)) (n : ℕ) (parts : Parts) → axis ≡ nameless_axis labels n → n ≡ levels_of parts → have_same_levels parts ≡ true → IsSettled labels_value texts labels → repeated_on_any same_tuple (labels_of_tables (parts_value texts parts)) ≡ None → All (IsAxisFor texts axis) parts
-met_axis _ _ _ n [] _ _ _ _ _ = All-nil _
-met_axis texts axis _ n (t ∷ ts) is count same given once = λ k d lt.
-    let own = each_of (λ T. first_twice same_tuple T.labels ≡ None) (table_value texts) (t ∷ ts) (each_of (λ own. first_twice same_tuple own ≡ None) (λ T. T.labels) (parts_value texts (t ∷ ts)) (none_twice (labels_of_tables (parts_value texts (t ∷ ts))) once)) k d lt in
-    record {
-      levels = inr (ap (λ x. length x.names) is ∙ length-replicate n _ ∙ count ∙ sym (all_levels t ts same k d lt));
-      given = grind arith;
-      meet = meets_once (labels_value texts (slice_index_or (t ∷ ts) k d).labels) _ own;
-    }
+united_alike _ [] _ = grind arith
+united_alike _ (t ∷ ts) _ = search (united_all, each_alike)

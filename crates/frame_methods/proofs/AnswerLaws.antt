@@ -14,13 +14,10 @@ use Rattle.{
 abbrev pub answer_of : World → Method → Bound → Table → Result Entry FaultValue
 answer_of w m b t = answer_for m (arguments_from (parameters_of m) (arguments_in w b.args.now) 0 (parameters_of m)) t
 
-pub answer_is : (w : World) (m m' : Method) (b : Bound) (t : Table) → m ≡ m' → b.parameters.now ≡ parameters_of m → answer_of w m' b t ≡ answer_in w m b t
-answer_is w m _ b t is parameters = cc
-
 -- by what stands at the places of its parameters
 pub answer_by : (w : World) (m m' : Method) (b : Bound) (t : Table) (go : (ℕ → Given) → Result Entry FaultValue) → m ≡ m' → b.parameters.now ≡ parameters_of m
     → go (argument_at (parameters_of m') (arguments_in w b.args.now)) ≡ answer_of w m' b t → go (stands_at w.tables w.texts b) ≡ answer_in w m b t
-answer_by = grind (arith, answer_is)
+answer_by = grind arith
 
 -- a table that is made of an object's, by another wording
 pub makes_by : (w : World) (m m' : Method) (b : Bound) (source : NumberedTable) (id : ℕ) (r : Result NumberedTable OpFault) (go : (ℕ → Given) → Table → Result Entry FaultValue) (meant : Result Entry FaultValue) → w.tables id ≡ Some source → m ≡ m'

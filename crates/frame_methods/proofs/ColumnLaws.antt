@@ -1,13 +1,12 @@
 -- Columns that are made one by one.
 use Rattle.{
-  std.proofs.{Common.{◌≡◌, refl, ℕ, ◌+◌, ◌<◌, List, [], ◌∷◌, ◌++◌, map, drop, length, append_assoc, length-append, All, Result, Ok, Err, slice_index_or, arith}, lemmas.{List.{map-append, Elements.{All-append, All-cons, All-nil}}, Option.{slice_get-get_or}}},
+  std.proofs.{Common.{◌≡◌, refl, ℕ, ◌+◌, ◌<◌, List, [], ◌∷◌, ◌++◌, map, length, append_assoc, length-append, Result, Ok, Err, slice_index_or, arith}, lemmas.List.{map-append, map_push, drop_more, Elements.{All-push}}},
   cell_core.specs.declared.cell.Cell.{Cell},
   meaning.specs.{Text.{Text}, Cell.{CellValue, IsLonger, AreGiven}, Fault.{FaultValue}},
   column_core.specs.{Columns.{CellColumn}, Blocks.{CellBlock}},
   table_meaning.specs.{Settled.{IsSettled}, Table.{ColumnOf, NumberedTable, column_value, column_at, no_column, table_value}},
   form_meaning.specs.Finish.{try_all},
   frame_store.{specs.{Parts.{block_column, single_block, IsSingle, table_column}, Shown.{columns_value, cells_value}}, proofs.Settling.{settled_later, seen_later, cells_settled, cells_given, column_settled, columns_settled, columns_given, columns_part, longer_twice}},
-  label_methods.proofs.Lists.{drop_next},
   nullable_array.specs.declared.ops.ArrayFault.{ArrayFault},
   frame_methods.specs.Columns.{IsFront, IsFault},
 }
@@ -16,30 +15,23 @@ use Rattle.{
 pub given_later : (old new : List Text) (cells : List Cell) → IsLonger old new → AreGiven old cells → AreGiven new cells
 given_later old new _ longer given = cells_given _ _ (settled_later cells_value old new _ longer (cells_settled _ _ given))
 
--- the column at a place, and those after it
-pub at_place : (columns : List (ColumnOf Cell)) (place : ℕ) (a : ColumnOf Cell) → place < length columns → column_at columns place ≡ a → drop place columns ≡ a ∷ drop (place + 1) columns
-at_place columns place a lt is = grind (arith, drop_next columns place a, slice_get-get_or)
-
-one_more : (P : ColumnOf Cell → Type 0) (made : List CellBlock) (b : CellBlock) → All P (map block_column made) → P (block_column b) → All P (map block_column (made ++ b ∷ []))
-one_more P made b all here = rw (map-append block_column made (b ∷ [])) (All-append P (map _ made) (block_column b ∷ []) all (All-cons P (block_column b) [] here (All-nil P)))
-
 pub front_step : (f : ColumnOf CellValue → Result (ColumnOf CellValue) FaultValue) (first dict dict' : List Text) (columns : List (ColumnOf Cell)) (rows place : ℕ) (made made' : List CellBlock) (a new : CellColumn)
     → IsFront f first dict columns rows place made → place < length columns → column_at columns place ≡ table_column a → IsLonger dict dict' → AreGiven dict' new.cells → length new.cells ≡ rows
     → made' ≡ made ++ single_block (table_column new) ∷ [] → f (column_value first (table_column a)) ≡ Ok (column_value dict' (table_column new))
     → IsFront f first dict' columns rows (place + 1) made'
 front_step f first dict dict' columns rows place made _ a new so_far lt at longer given full more is = rw more record {
   longer = longer_twice first dict dict' so_far.longer longer;
-  given = one_more (λ c. AreGiven dict' c.cells) made (single_block (table_column new)) (λ k d lt. given_later dict dict' (slice_index_or (map block_column made) k d).cells longer (so_far.given k d lt)) given;
-  single = All-append IsSingle made (single_block (table_column new) ∷ []) so_far.single (All-cons IsSingle (single_block (table_column new)) [] refl (All-nil IsSingle));
-  filled = one_more (λ c. length c.cells ≡ rows) made (single_block (table_column new)) so_far.filled full;
+  given = rw (map_push block_column made (single_block (table_column new))) (All-push (λ c. AreGiven dict' c.cells) (map block_column made) _ (λ k d lt. given_later dict dict' (slice_index_or (map block_column made) k d).cells longer (so_far.given k d lt)) given);
+  single = All-push IsSingle made (single_block (table_column new)) so_far.single refl;
+  filled = rw (map_push block_column made (single_block (table_column new))) (All-push (λ c. length c.cells ≡ rows) (map block_column made) _ so_far.filled full);
   count = grind (arith, length-append);
-  answer = grind (arith, map-append, seen_later columns_value dict dict' (map block_column made) longer (columns_settled dict (map block_column made) so_far.given), at_place columns place (table_column a) lt at, append_assoc);
+  answer = grind (arith, map-append, seen_later columns_value dict dict' (map block_column made) longer (columns_settled dict (map block_column made) so_far.given), drop_more columns place no_column lt, append_assoc);
 }
 
 pub front_refused : (f : ColumnOf CellValue → Result (ColumnOf CellValue) FaultValue) (first dict : List Text) (columns : List (ColumnOf Cell)) (rows place : ℕ) (made : List CellBlock) (a : CellColumn) (fault : FaultValue)
     → IsFront f first dict columns rows place made → place < length columns → column_at columns place ≡ table_column a → f (column_value first (table_column a)) ≡ Err fault
     → try_all f (columns_value first columns) ≡ Err fault
-front_refused f first dict columns rows place made a _ so_far lt at is = cc (at_place columns place (table_column a) lt at, so_far.answer, is)
+front_refused f first dict columns rows place made a _ so_far lt at is = cc (drop_more columns place no_column lt, so_far.answer, is)
 
 -- the column at a place was given
 pub place_given : (dict : List Text) (t : NumberedTable) (place : ℕ) (a : CellColumn) → IsSettled table_value dict t → place < length t.columns → column_at t.columns place ≡ table_column a → AreGiven dict a.cells

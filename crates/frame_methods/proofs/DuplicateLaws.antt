@@ -1,17 +1,17 @@
 -- Numbers that tell rows apart, and marks of the rows that an earlier row equals.
 use Rattle.{
-  std.{proofs.{Common.{◌≡◌, ◌∙◌, append_assoc, refl, ap, sym, arith, rules, ℕ, zero, suc, ◌+◌, ◌<◌, ◌≤◌, Bool, true, false, ◌&&◌, ◌||◌, nat_eq, List, [], ◌∷◌, ◌++◌, map, length, drop, set, slice_index_or, slice_get, All, Some, None, Ok}, Math.ListN.{get_or-map}, lemmas.{Bool.Decides.{nat_tests, same_from_decides}, List.{length-map, length-set, drop_more, get_or-set_same, get_or-set_other, Elements.{All-cons, All-nil, All-map, All-get_or}, Folds.{list_any-append}}, Map.Keys.{apart_from_distinct}, Simd.{map-map}, Option.{slice_get_within, get_or_from_slice_get}}}, specs.{Prelude.{slice_index, not}, Bool.{Decides}, Cmp.Lexicographic.{pointwise}, List.{list_any, range_with_len, IsDistinct}}},
+  std.{proofs.{Common.{◌≡◌, ◌∙◌, append_assoc, refl, ap, sym, arith, rules, ℕ, zero, suc, ◌+◌, ◌<◌, ◌≤◌, Bool, true, ◌&&◌, ◌||◌, nat_eq, List, [], ◌∷◌, ◌++◌, map, length, drop, set, slice_index_or, slice_get, All, Some, None, Ok}, Math.ListN.{get_or-map}, lemmas.{Bool.{cases_eq, Decides.{nat_tests, same_from_decides}}, List.{length-map, length-set, drop_more, get_or-set_same, get_or-set_other, Elements.{recursion_from_All, All-map}, Folds.{list_any-append}}, Map.Keys.{apart_from_distinct}, Simd.{map-map}, Option.{slice_get_within, get_or_from_slice_get}}}, specs.{Prelude.{slice_index, not}, Bool.{Decides}, Cmp.Lexicographic.{pointwise}, List.{AllByRecursion as ByRecursion, list_any, range_with_len, IsDistinct}}},
   indexmap.specs.IndexSet.{insert_key},
   cell_core.specs.{Texts.{AreDistinct}, declared.{cell.{Cell.{Cell}, Kind.TheVariants.{Boolean}}, grid.Shape.TheVariants.{Series}}},
   column_core.specs.Columns.{CellColumn},
-  meaning.specs.{Cell.{na_cell, datum, IsGiven, AreGiven}, Reduce.{same_cell}, Text.{Text}},
+  meaning.specs.{Cell.{na_cell, datum, IsGiven}, Reduce.{same_cell}, Text.{Text}},
   multi_index.specs.Axes.{AxisValue},
   table_meaning.specs.Table.{ColumnOf, NumberedTable, column_at, no_column, table_value},
   form_meaning.specs.Finish.{within_limits},
   method_meaning.specs.Rows.{cells_by_row, repeats},
   column_operators.specs.Marks.{same_number},
   frame_store.{specs.{Parts.{table_with, axis_of, table_column}, Shown.{Makes}, World.{IsKnownTable}}, proofs.Settling.{columns_part, columns_given, level_names_part, labels_part, columns_settled, table_settled}},
-  selections.{specs.Across.{cell_across}, proofs.{AnswerLaws.{column_seen}, PickedLaws.{list_is, places_inside}}},
+  selections.{specs.Across.{cell_across}, proofs.{AnswerLaws.{column_seen}, PickedLaws.{listed_is, places_inside}}},
   label_methods.{specs.Rows.{row_cells}, proofs.{RowLaws.{cells_in, by_rows}, TableLaws.{limited_within}}},
   frame_methods.{specs.Rows.{AreNumbers, duplicated_among}, proofs.ListedLaws.{cell_by_number}},
 }
@@ -44,22 +44,13 @@ pub numbered_more : (old : List ℕ) (cells : List Cell) (row number : ℕ) (c :
     → c ≡ slice_index_or cells row cell.Na → keys' ≡ insert_key same_key keys (slice_index numbers row, c) → slice_get keys' number ≡ Some stored → same_key (slice_index numbers row, c) stored ≡ true
     → IsDistinct same_key keys' → AreNumbered old cells (row + 1) (set numbers row number) keys'
 numbered_more old cells row number c numbers keys keys' stored so_far lt here keyed at same unique =
+    let this : stored ≡ (slice_index old row, slice_index_or cells row cell.Na) = sym ((key_decides _ stored).0 same) ∙ (λ j. (so_far.later row (omega arith) j, here j)) in
     record {
       count = grind (arith, length-set);
       later = grind (arith, get_or-set_other);
-      told = grind (arith, told_at, nat_eq);
+      told = λ k below. grind (arith, cases_eq k row, so_far.count, get_or-set_same, get_or-set_other, kept_place, this);
       unique = unique;
     }
-  where
-    this : stored ≡ (slice_index old row, slice_index_or cells row cell.Na)
-    this = sym ((key_decides _ stored).0 same) ∙ (λ j. (so_far.later row (omega arith) j, here j))
-
-    inside : row < length numbers
-    inside = omega (arith, so_far.count, lt)
-
-    told_at : (k : ℕ) → k < row + 1 → (b : Bool) → nat_eq k row ≡ b → slice_get keys' (slice_index (set numbers row number) k) ≡ Some (slice_index old k, slice_index_or cells k cell.Na)
-    told_at k below true is = grind (arith, nat_tests, slice_get, get_or-set_same, inside, this)
-    told_at k below false is = grind (arith, nat_tests, slice_get, get_or-set_other, kept_place)
 
 -- different keys stand at different places
 not_before : (keys : List Key) (a b : ℕ) (x : Key) → IsDistinct same_key keys → slice_get keys a ≡ Some x → slice_get keys b ≡ Some x → a < b → ⊥
@@ -99,29 +90,24 @@ pub marks_more : (numbers seen seen' : List ℕ) (cells cells' : List Cell) (i x
 marks_more = grind (arith, nat_eq, append_assoc, repeats_seen, key_seen, drop_more)
 
 -- rows that are told apart alike repeat alike
-repeats_alike : {X Y : Type 0} (n : ℕ) (same : X → X → Bool) (same' : Y → Y → Bool) (f : ℕ → X) (g : ℕ → Y) → ((i j : ℕ) → i < n → j < n → same (f i) (f j) ≡ same' (g i) (g j)) → (before rows : List ℕ)
-    → All (λ row. row < n) before → All (λ row. row < n) rows → repeats same (map f before) (map f rows) ≡ repeats same' (map g before) (map g rows)
-repeats_alike n _ _ f g _ _ [] _ _ = refl
-repeats_alike n same same' f g alike before (r ∷ rs) below all =
-    λ j. stands _ below j ∷ repeats_alike n same same' f g alike (r ∷ before) rs (All-cons (λ row. row < n) r before here below) (λ k d lt. all (suc k) d (omega arith)) j
-  where
-    here : r < n
-    here = all 0 r (omega arith)
+module _ {X Y : Type 0} (n : ℕ) (same : X → X → Bool) (same' : Y → Y → Bool) (f : ℕ → X) (g : ℕ → Y) (alike : (i j : ℕ) → i < n → j < n → same (f i) (f j) ≡ same' (g i) (g j)) where
+  any_alike : (r : ℕ) (bs : List ℕ) → r < n → ByRecursion (λ row. row < n) bs → list_any (same (f r)) (map f bs) ≡ list_any (same' (g r)) (map g bs)
+  any_alike _ [] _ _ = refl
+  any_alike r (b ∷ bs) here inside = grind (arith, alike r b, any_alike r bs)
 
-    stands : (bs : List ℕ) → All (λ row. row < n) bs → list_any (same (f r)) (map f bs) ≡ list_any (same' (g r)) (map g bs)
-    stands [] _ = refl
-    stands (b ∷ bs) inside = grind (arith, alike r b here (inside 0 b (omega arith)), stands bs (λ k d lt. inside (suc k) d (omega arith)))
+  repeats_alike : (before rows : List ℕ) → ByRecursion (λ row. row < n) before → ByRecursion (λ row. row < n) rows → repeats same (map f before) (map f rows) ≡ repeats same' (map g before) (map g rows)
+  repeats_alike _ [] _ _ = refl
+  repeats_alike before (r ∷ rs) below all = grind (arith, any_alike r before, repeats_alike (r ∷ before) rs)
 
 -- the cells of two rows are the same by number where they are so with texts
-row_by_number : (texts : List Text) (t : NumberedTable) (i j : ℕ) (places : List ℕ) → AreDistinct texts → IsKnownTable texts t → All (λ place. place < length t.columns) places → i < length t.labels → j < length t.labels
+row_by_number : (texts : List Text) (t : NumberedTable) (i j : ℕ) (places : List ℕ) → AreDistinct texts → IsKnownTable texts t → ByRecursion (λ place. place < length t.columns) places → i < length t.labels → j < length t.labels
     → pointwise same_number (row_cells t places i) (row_cells t places j) ≡ pointwise same_cell (cells_in (table_value texts t) places i) (cells_in (table_value texts t) places j)
 row_by_number _ t i j [] distinct known inside hi hj = refl
 row_by_number texts t i j (p ∷ ps) distinct known inside hi hj =
-    λ k. (cell_by_number _ _ _ distinct (given i hi) (given j hj) ∙ (λ l. same_cell (seen i l) (seen j l))) k
-    && row_by_number _ t i j ps distinct known (λ m d lt. inside (suc m) d (omega arith)) hi hj k
+    grind (arith, cell_by_number texts _ _ distinct (given i hi) (given j hj), seen i, seen j, row_by_number texts t i j ps distinct known inside.1 hi hj)
   where
     given : (row : ℕ) → row < length t.labels → IsGiven texts (cell_across t row p)
-    given _ lt = grind (arith, All-get_or (λ c. AreGiven texts c.cells) t.columns p no_column (inside 0 p (omega arith)) (columns_given _ _ (columns_part _ t known.given)))
+    given _ lt = grind (arith, columns_given _ _ (columns_part texts t known.given) p no_column inside.0)
 
     seen : (row : ℕ) → datum texts (cell_across t row p) ≡ slice_index_or (column_at (table_value texts t).columns p).cells row na_cell
     seen row = cc (get_or-map (datum texts) (column_at t.columns p).cells row cell.Na, column_seen texts t.columns p)
@@ -136,10 +122,10 @@ marks_alike : (texts : List Text) (t : NumberedTable) (places numbers : List ℕ
     → repeats nat_eq [] numbers ≡ repeats (pointwise same_cell) [] (cells_by_row (table_value texts t) places)
 marks_alike texts t places numbers distinct known inside told =
     let n = length t.labels in
-    (λ j. repeats nat_eq [] (sym (list_is (slice_index numbers) numbers 0 0 (λ k lt. grind arith)) j))
-    ∙ (λ j. repeats nat_eq [] (map (slice_index numbers) (range_with_len 0 (told.count j))))
-    ∙ repeats_alike n _ _ _ (cells_in (table_value texts t) places) (λ i j hi hj. told.equal i j hi hj ∙ row_by_number _ t i j _ distinct known inside hi hj)
-    [] _ (All-nil (λ row. row < n)) (places_inside (range_with_len 0 n) n n refl refl)
+    let listed : numbers ≡ map (slice_index numbers) (range_with_len 0 n) = grind (arith, listed_is numbers 0, told.count) in
+    ap (repeats nat_eq []) listed
+    ∙ repeats_alike n _ _ _ (cells_in (table_value texts t) places) (λ i j hi hj. told.equal i j hi hj ∙ row_by_number _ t i j _ distinct known (recursion_from_All (λ place. place < length t.columns) places inside) hi hj)
+    [] _ tt (recursion_from_All (λ row. row < n) _ (places_inside (range_with_len 0 n) n n refl refl))
     ∙ ap (repeats (pointwise same_cell) []) (grind (arith, cells_in, length-map, by_rows))
 
 abbrev marks_table : AxisValue → CellColumn → NumberedTable

@@ -1,9 +1,9 @@
 -- The cells that an operation holds were given.
 use Rattle.{
-  std.proofs.{Common.{suc, List, [], ◌∷◌, arith}, lemmas.List.Elements.{All-cons, All-nil}},
+  std.proofs.{Common.{suc, List, [], ◌∷◌, arith}, lemmas.List.{length-append, Elements.{All-cons, All-nil}}},
   cell_core.specs.declared.cell.Cell.{Cell},
   meaning.specs.{Text.{Text}, Cell.{IsGiven, AreGiven, IsLonger}},
-  frame_methods.{specs.Columns.{EachGiven}, proofs.ColumnLaws.{given_later}},
+  frame_methods.specs.Columns.{EachGiven},
 }
 
 -- by the list, and one by one
@@ -17,4 +17,5 @@ are_given texts (c ∷ cs) given = All-cons (IsGiven texts) c cs given.0 (are_gi
 
 -- what was given one by one stays so
 pub each_later : (old new : List Text) (cs : List Cell) → IsLonger old new → EachGiven old cs → EachGiven new cs
-each_later _ _ cs longer given = each_given _ cs (given_later _ _ cs longer (are_given _ cs given))
+each_later _ _ [] _ _ = tt
+each_later _ _ (c ∷ cs) longer given = (grind (arith, length-append), each_later _ _ cs longer given.1)

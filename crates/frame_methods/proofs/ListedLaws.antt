@@ -1,18 +1,17 @@
 -- Cells that are in a list, by number and with texts.
 use Rattle.{
-  std.{proofs.{Common.{◌≡◌, ◌∙◌, ◌<◌, ◌+◌, refl, sym, ℕ, suc, Bool, true, ◌||◌, List, [], ◌∷◌, ◌++◌, map, length, drop, get_or, Option, Some, None, IfSome, Result, Ok, arith}, lemmas.List.{map-append, Folds.{list_any-append}, Elements.{All-append, All-cons, All-nil, All-map}}}, specs.{Option.{option_map}, Bool.{Decides}, List.{list_any}}},
-  cell_core.specs.{declared.cell.{Cell.{Cell}, Kind.TheVariants.{Boolean}}, Texts.{AreDistinct}},
+  std.{proofs.{Common.{◌≡◌, ◌∙◌, ◌<◌, ◌+◌, refl, sym, ℕ, Bool, true, ◌||◌, List, [], ◌∷◌, ◌++◌, length, drop, get_or, Option, Some, None, IfSome, Result, arith}, lemmas.List.{map-append, Folds.{list_any-append}, Elements.{All-push}}}, specs.{Option.{option_map}, Bool.{Decides}, List.{list_any}}},
+  cell_core.specs.{declared.cell.Cell.{Cell}, Texts.{AreDistinct}},
   form_parts.{specs.Labels.{label_of}, proofs.LabelLaws.{same_by_number}},
   meaning.specs.{Text.{Text}, Cell.{CellValue, truth_cell, datum, label_datum, IsGiven, AreGiven}, Operator.{cell_label}, Reduce.{same_cell}, Fault.{FaultValue}},
-  column_core.specs.Columns.{CellColumn},
-  table_meaning.specs.{Settled.{IsSettled}, Table.{Table, column_value}, Value.{Entry, GivenList}},
+  table_meaning.specs.{Settled.{IsSettled}, Table.{Table}, Value.{Entry, GivenList}},
   form_meaning.specs.{Make.{on}, Select.{cells_of}},
   method_meaning.specs.Methods.{is_in, each_column},
-  frame_store.{specs.{Objects.{Tables}, Arguments.{items_of}, Shown.{cells_value}, declared.arguments.Item.{Item}, Parts.{table_column}}, proofs.Settling.{cell_settled, cell_given}},
+  frame_store.{specs.{Objects.{Tables}, Arguments.{items_of}, Shown.{cells_value}, declared.arguments.Item.{Item}}, proofs.Settling.{cell_settled, cell_given}},
   signatures.{proofs.ScalarLaws.{scalars_are}, specs.Scalars.{scalars, with_cell}},
   label_methods.proofs.ScalarLaws.{IsScalarOf, scalars_from},
-  frame_methods.specs.Listed.{noted, listed_column},
-  column_operators.specs.Marks.{same_number, listed_mark},
+  frame_methods.specs.{Listed.{noted, listed_column}, Columns.{EachGiven}},
+  column_operators.specs.Marks.{same_number},
 }
 
 -- a cell as a label
@@ -28,24 +27,10 @@ cell_by_number texts a b distinct f g =
     let labels : Decides (same_number a b) (label_of a ≡ label_of b) = grind arith in
     grind (arith, same_by_number _ _ _ _ distinct (label_settled _ a f) (label_settled _ b g) labels, label_seen)
 
-any_by_number : (texts : List Text) (c : Cell) (values : List Cell) → AreDistinct texts → IsGiven texts c → AreGiven texts values
+pub any_by_number : (texts : List Text) (c : Cell) (values : List Cell) → AreDistinct texts → IsGiven texts c → EachGiven texts values
     → list_any (same_cell (datum texts c)) (cells_value texts values) ≡ list_any (same_number c) values
 any_by_number _ c [] _ _ _ = refl
-any_by_number _ c (v ∷ vs) distinct here given =
-    λ j. sym (cell_by_number _ c v distinct here (given 0 v (omega arith))) j || any_by_number _ c vs distinct here (λ k d lt. given (suc k) d (omega arith)) j
-
-marks : (texts : List Text) (values cells : List Cell) → AreDistinct texts → AreGiven texts values → AreGiven texts cells
-    → map (is_in (cells_value texts values)) (cells_value texts cells) ≡ cells_value texts (map (listed_mark values) cells)
-marks _ _ [] _ _ _ = refl
-marks _ _ (c ∷ cs) distinct given all =
-    λ j. truth_cell (any_by_number _ c _ distinct (all 0 c (omega arith)) given j) ∷ marks _ _ cs distinct given (λ k d lt. all (suc k) d (omega arith)) j
-
-pub listed_answer : (texts : List Text) (values : List Cell) (a new : CellColumn) → AreDistinct texts → AreGiven texts values → AreGiven texts a.cells → new ≡ record { kind = Boolean; cells = map (listed_mark values) a.cells }
-    → listed_column (cells_value texts values) (column_value texts (table_column a)) ≡ Ok (column_value texts (table_column new))
-listed_answer texts values a _ distinct given all is = grind (arith, marks texts values a.cells distinct given all)
-
-pub listed_given : (texts : List Text) (values : List Cell) (a new : CellColumn) → new ≡ record { kind = Boolean; cells = map (listed_mark values) a.cells } → AreGiven texts new.cells
-listed_given texts values a _ is = rw is (All-map (IsGiven texts) (listed_mark values) a.cells (λ k d lt. tt))
+any_by_number texts c (v ∷ vs) distinct here given = grind (arith, cell_by_number texts c v distinct here given.0, any_by_number texts c vs distinct here given.1)
 
 -- a cell and those after it are settled where they are so together
 abbrev AreBoth : List Text → Option Cell → (List Text → List CellValue) → Type 0
@@ -64,7 +49,7 @@ first_settled _ items i _ o lt is scalar settled =
 -- one cell more among the different ones
 pub noted_given : (texts : List Text) (values : List Cell) (o : Option Cell) → AreGiven texts values → IfSome o (IsGiven texts) → AreGiven texts (noted values o)
 noted_given _ _ None given _ = given
-noted_given texts values (Some c) given here = grind (arith, All-append (IsGiven texts) values (c ∷ []) given (All-cons (IsGiven texts) c [] here (All-nil (IsGiven texts))))
+noted_given texts values (Some c) given here = grind (arith, All-push (IsGiven texts) values c given here)
 
 -- what passes at a cell passes where the cell is
 passes_at : (test : CellValue → Bool) (texts : List Text) (c : Cell) (values : List Cell) → list_any (same_number c) values ≡ true → test (datum texts c) ≡ true → list_any test (cells_value texts values) ≡ true

@@ -1,15 +1,12 @@
 -- Objects under other headings.
 use Rattle.{
   std.proofs.Common.{arith, ◌≡◌, refl, pos, List, [], ◌∷◌, ◌++◌, length, Option, Some, None, slice_index_or, unwrap_or, Result},
-  cell_core.specs.declared.{cell.Label.{Label}, grid.Shape.TheVariants.{Frame}},
+  cell_core.specs.declared.cell.Label.{Label},
   meaning.specs.{Text.{Text}, Cell.{LabelValue, int, label_datum}, Fault.{FaultValue}},
-  table_meaning.specs.{Settled.{IsSettled}, Table.{NumberedTable, table_value, heading_value}, Value.{Entry}},
-  form_meaning.specs.Finish.{limited},
+  table_meaning.specs.{Settled.{IsSettled}, Table.{heading_value}, Value.{Entry}},
   frame_store.specs.{declared.{arguments.Value.{Value}, fault.OpFault.{OpFault}}, Parts.{HeadingList}, Shown.{Shown, headings_value, FormAnswers}},
-  selections.specs.Picked.{headed_by},
   label_methods.specs.Labels.{column_tuple},
 }
-use Rattle.method_meaning.specs.Methods as meant
 
 -- a heading that is read of what is settled is settled
 pub named_settled : {A : Type 0} (view : List Text → A) (read : A → Option LabelValue) (texts : List Text) (name : Option Label) (labels : List (Option Label))
@@ -31,10 +28,6 @@ one_item (h ∷ g ∷ hs) is = cc
 
 abbrev pub frame_heading : Option LabelValue → Option LabelValue
 frame_heading h = Some (unwrap_or h (int (pos 0)))
-
-pub frame_meant : (texts : List Text) (t : NumberedTable) (headings : HeadingList) (h : Option Label) (l : Label) → headings ≡ record { columns_name = t.columns_name; labels = Some l ∷ [] } → column_tuple h ≡ l ∷ [] → t.headings ≡ h ∷ []
-    → limited (table_value texts (headed_by Frame headings t)) ≡ limited (meant.as_frame (table_value texts t))
-frame_meant = grind (arith, label_seen)
 
 -- a list of one heading
 pub heading_list : (columns_name name : Option Label) (first list : HeadingList) → first ≡ record { columns_name = columns_name; labels = [] } → list ≡ record first { labels = first.labels ++ name ∷ [] }

@@ -1,38 +1,34 @@
 -- What is made of a column, with texts.
 use Rattle.{
-  std.{proofs.{Common.{arith, ◌≡◌, ◌∙◌, refl, ap, sym, ℕ, suc, ◌+◌, ◌-◌, ℤ, pos, negsuc, nat_lt, Bool, true, List, [], ◌∷◌, map, length, Result, Ok, IfOk, Option, if◌then◌else◌}, lemmas.{List.{length-map, FromFn.{length-map-range_with_len}, Elements.{All-map}}, Simd.{map-map}}, Math.ListN.{get_or-map}}, specs.List.{range_with_len}},
-  cell_core.specs.declared.cell.{Cell.{Cell}, Kind.{Kind, TheVariants.{Boolean}}},
-  meaning.specs.{Text.{Text}, Cell.{CellValue, na_cell, datum, holds, IsGiven, AreGiven}, Column.{ColumnValue, ColumnFault, try_each, tabulate, shifted, shifted_row}, Cast.{cast_column}, Cumulate.{Cumulation, running, cumulate_column}},
+  std.{proofs.{Common.{arith, ◌≡◌, ◌∙◌, refl, ap, sym, ℕ, suc, ◌+◌, ◌-◌, ℤ, pos, negsuc, nat_lt, Bool, List, [], ◌∷◌, map, length, Result, Ok, IfOk, Option, if◌then◌else◌}, lemmas.{List.{length-map, FromFn.{length-map-range_with_len}, Elements.{All-map}}, Simd.{map-map}}, Math.ListN.{get_or-map}}, specs.List.{range_with_len}},
+  cell_core.specs.declared.cell.{Cell.{Cell}, Kind.{Kind}},
+  meaning.specs.{Text.{Text}, Cell.{CellValue, na_cell, datum, IsGiven, AreGiven}, Column.{ColumnValue, ColumnFault, try_each, tabulate, shifted, shifted_row}, Cast.{cast_column}, Cumulate.{Cumulation, running, cumulate_column}},
   column_core.specs.Columns.{CellColumn},
   nullable_array.specs.{Answers.{Answers}, declared.ops.ArrayFault.{ArrayFault}},
-  column_operators.specs.Marks.{missing_mark, filled_cell},
   table_meaning.specs.Table.{column_value},
   form_meaning.specs.Finish.{made_column},
-  method_meaning.specs.Methods.{filled, filled_column, shifted_column},
+  method_meaning.specs.Methods.{mapped, shifted_column},
   frame_store.{specs.{Shown.{cells_value}, Parts.{table_column}}, proofs.Settling.{settled_by, cells_settled, cells_given}},
-  frame_methods.specs.{Columns.{MakesColumn}, Marks.{mark_of, marked_column}},
+  frame_methods.specs.Columns.{MakesColumn},
 }
 use Rattle.cell_core.specs.declared.cell.Cell.TheVariants as cell
 use Rattle.column_core.specs.Columns as kernel
 
 -- cells by themselves
-map_values : (f : CellValue → CellValue) (made : Cell → Cell) (texts : List Text) → ((c : Cell) → f (datum texts c) ≡ datum texts (made c)) → (cs : List Cell) → map f (map (datum texts) cs) ≡ map (datum texts) (map made cs)
-map_values f _ _ _ [] = refl
-map_values f _ _ same (c ∷ cs) = λ j. same c j ∷ map_values f _ _ same cs j
+mapped_cells : (f : CellValue → CellValue) (made : Cell → Cell) (texts : List Text) (cs : List Cell) → ((c : Cell) → IsGiven texts c → f (datum texts c) ≡ datum texts (made c)) → AreGiven texts cs
+    → map f (map (datum texts) cs) ≡ map (datum texts) (map made cs)
+mapped_cells f _ _ [] _ _ = refl
+mapped_cells f made texts (c ∷ cs) same given = λ j. same c (given 0 c (omega arith)) j ∷ mapped_cells f made texts cs same (λ k d lt. given (suc k) d (omega arith)) j
 
-pub marked_answer : (missing : Bool) (texts : List Text) (a new : CellColumn) → new ≡ record { kind = Boolean; cells = map (missing_mark missing) a.cells }
-    → marked_column missing (column_value texts (table_column a)) ≡ Ok (column_value texts (table_column new))
-marked_answer missing texts a _ is = grind (arith, map_values (mark_of missing) (missing_mark missing) texts (grind arith) a.cells)
+abbrev IsMapped : Kind → (Cell → Cell) → CellColumn → CellColumn → Type 0
+IsMapped kind made a new = new ≡ record { kind = kind; cells = map made a.cells }
 
-pub marked_given : (missing : Bool) (texts : List Text) (a new : CellColumn) → new ≡ record { kind = Boolean; cells = map (missing_mark missing) a.cells } → AreGiven texts new.cells
-marked_given missing texts a _ is = rw is (All-map (IsGiven texts) (missing_mark missing) a.cells (λ k d lt. grind arith))
+pub marked_answer : (kind : Kind) (f : CellValue → CellValue) (made : Cell → Cell) (texts : List Text) (a new : CellColumn) → ((c : Cell) → IsGiven texts c → f (datum texts c) ≡ datum texts (made c)) → AreGiven texts a.cells
+    → IsMapped kind made a new → mapped kind f (column_value texts (table_column a)) ≡ Ok (column_value texts (table_column new))
+marked_answer kind f made texts a _ same given is = grind (arith, mapped_cells f made texts a.cells same given)
 
-pub filled_answer : (value : Cell) (texts : List Text) (kind : Kind) (a new : CellColumn) → kind ≡ a.kind → holds kind (datum texts value) ≡ true → new ≡ record { kind = kind; cells = map (filled_cell value) a.cells }
-    → filled_column (datum texts value) (column_value texts (table_column a)) ≡ Ok (column_value texts (table_column new))
-filled_answer value texts kind a _ same fits is = grind (arith, map_values (filled (datum texts value)) (filled_cell value) texts (grind arith) a.cells)
-
-pub filled_given : (value : Cell) (texts : List Text) (kind : Kind) (a new : CellColumn) → IsGiven texts value → AreGiven texts a.cells → new ≡ record { kind = kind; cells = map (filled_cell value) a.cells } → AreGiven texts new.cells
-filled_given value texts _ a _ given all is = rw is (All-map (IsGiven texts) (filled_cell value) a.cells (λ k d lt. grind (arith, all k d lt)))
+pub mapped_given : (kind : Kind) (made : Cell → Cell) (texts : List Text) (a new : CellColumn) → ((c : Cell) → IsGiven texts c → IsGiven texts (made c)) → AreGiven texts a.cells → IsMapped kind made a new → AreGiven texts new.cells
+mapped_given _ made texts a _ stays given is = rw is (All-map (IsGiven texts) made a.cells (λ k d lt. stays _ (given k d lt)))
 
 -- a shift
 

@@ -10,7 +10,7 @@ use Rattle.{
   select_meaning.specs.Select.{rows_taken},
   method_meaning.specs.Rows.{head_result, tail_result, cells_by_row, all_places},
   frame_store.specs.{Objects.{table_or}, Parts.{HeadingList}, Shown.{columns_value, Makes}, declared.fault.OpFault.{OpFault}},
-  selections.{specs.Chosen.{chosen}, proofs.{PickedLaws.{list_is, read_is}, TakenLaws.{chosen_rows, chosen_settled}, AnswerLaws.{own_name, own_labels}}},
+  selections.{specs.Chosen.{chosen}, proofs.{PickedLaws.{listed_is, read_is}, TakenLaws.{chosen_rows, chosen_settled}, AnswerLaws.{own_name, own_labels}}},
   label_methods.proofs.{RowLaws.{cells_in, by_rows}, TableLaws.{limited_within}},
   frame_methods.specs.Rows.{complete},
 }
@@ -39,7 +39,7 @@ last_meant t (pos (suc n)) count is =
     let all = length t.labels in
     let first : all - count ≡ all - suc n = omega (arith, is) in
     let steps : count ≡ div_ceil (all - (all - suc n)) 1 = grind arith in
-    cc (same_run (all - count) (all - suc n) count (div_ceil (all - (all - suc n)) 1) first steps, above_zero n)
+    cc (first, steps, above_zero n)
 last_meant t (negsuc n) count is =
     let all = length t.labels in
     let first : all - count ≡ min (suc n) all = omega (arith, is) in
@@ -68,7 +68,7 @@ pub makes_so : (texts : List Text) (r : Result NumberedTable OpFault) (meant mea
 makes_so = grind arith
 
 pub all_columns_are : (t : Table) → map (column_at t.columns) (all_places t) ≡ t.columns
-all_columns_are t = list_is _ _ 0 _ (λ k lt. let e : 0 + k ≡ k = omega arith in ap (column_at t.columns) e)
+all_columns_are t = listed_is t.columns _
 
 pub row_there : (t : Table) (row : ℕ) → row < length t.labels → slice_index_or (cells_by_row t (all_places t)) row [] ≡ (row_of na_cell t row).cells
 row_there t row lt = cc (by_rows t (all_places t), get_or-tabulate (length t.labels) (cells_in t (all_places t)) row [] lt, all_columns_are t)

@@ -1,8 +1,8 @@
 -- Series over the labels of columns.
 use Rattle.{
-  std.proofs.{Common.{arith, ◌≡◌, refl, ap, sym, true, List, [], ◌∷◌, map, length, None, Ok, Err}, lemmas.List.{length-map}},
+  std.proofs.{Common.{arith, ◌≡◌, refl, ap, sym, true, List, [], ◌∷◌, map, length, None, Ok}, lemmas.List.{length-map}},
   cell_core.specs.declared.{cell.Kind.{Kind}, grid.Shape.TheVariants.{Series, Frame}},
-  meaning.specs.{Text.{Text}, Cell.{datum, AreGiven}, Fault.{FaultValue}},
+  meaning.specs.{Text.{Text}, Cell.{datum, AreGiven}},
   column_core.specs.Columns.{CellColumn},
   multi_index.specs.Axes.{AxisValue},
   table_meaning.specs.{Table.{NumberedTable, table_value, heading_value}, Value.{table}, Settled.{IsSettled}},
@@ -30,23 +30,18 @@ series_seen texts t kind cells same = λ j.
       columns = record { kind = sym same j; cells = map (datum texts) cells.cells } ∷ [];
     }
 
-pub frame_answer : (op : Summary) (texts : List Text) (t made : NumberedTable) (kind : Kind) (axis : AxisValue) (cells : CellColumn)
+-- the Series is what is meant, and it is settled
+pub frame_made : (op : Summary) (texts : List Text) (t made : NumberedTable) (kind : Kind) (axis : AxisValue) (cells : CellColumn)
     → try_all (summary_as op kind) (columns_value texts t.columns) ≡ Ok (map (datum texts) cells.cells) → kind ≡ kind_for op (columns_value texts t.columns) → cells.kind ≡ kind
-    → within_limits (length t.columns) 1 ≡ true → length t.headings ≡ length t.columns → axis ≡ summaries_axis t → made ≡ summaries_table t axis cells
-    → summary_of Frame op (table_value texts t) ≡ Ok (table (table_value texts made))
-frame_answer _ texts t _ kind _ cells all kinds same within headed axis_is is = grind (arith, limited_within, length-map, series_seen texts t kind cells same)
-
-pub frame_refused : (op : Summary) (texts : List Text) (t : NumberedTable) (kind : Kind) (fault : FaultValue)
-    → try_all (summary_as op kind) (columns_value texts t.columns) ≡ Err fault → kind ≡ kind_for op (columns_value texts t.columns) → summary_of Frame op (table_value texts t) ≡ Err fault
-frame_refused _ _ t _ _ all kinds = cc
-
-pub frame_settled : (texts : List Text) (t made : NumberedTable) (axis : AxisValue) (cells : CellColumn) → IsSettled table_value texts t → AreGiven texts cells.cells → axis ≡ summaries_axis t → made ≡ summaries_table t axis cells
-    → IsSettled table_value texts made
-frame_settled texts t _ _ cells settled given axis_is is =
-    rw (is, axis_is)
-    (table_settled _ (summaries_table t (summaries_axis t) cells)
-    (λ more. refl)
-    (λ more. ap (λ n. n ∷ []) (columns_name_part _ t settled more))
-    (settled_by headings_value labels_value (map _) _ _ _ (λ ts. tuples_seen ts _) (headings_part _ t settled))
-    (λ more. refl)
-    (columns_settled _ (table_column cells ∷ []) (grind arith)))
+    → within_limits (length t.columns) 1 ≡ true → length t.headings ≡ length t.columns → axis ≡ summaries_axis t → made ≡ summaries_table t axis cells → IsSettled table_value texts t → AreGiven texts cells.cells
+    → (summary_of Frame op (table_value texts t) ≡ Ok (table (table_value texts made))) × IsSettled table_value texts made
+frame_made _ texts t _ kind _ cells all kinds same within headed axis_is is settled given = (
+  grind (arith, limited_within, length-map, series_seen texts t kind cells same),
+  rw (is, axis_is)
+      (table_settled _ (summaries_table t (summaries_axis t) cells)
+      (λ more. refl)
+      (λ more. ap (λ n. n ∷ []) (columns_name_part _ t settled more))
+      (settled_by headings_value labels_value (map _) _ _ _ (λ ts. tuples_seen ts _) (headings_part _ t settled))
+      (λ more. refl)
+      (columns_settled _ (table_column cells ∷ []) (grind arith))),
+)

@@ -9,21 +9,22 @@ use Rattle.form_meaning.specs.declared.TableMethod.TheVariants as table_method
 use Rattle.form_meaning.specs.declared.LevelMethod.TheVariants as level_method
 use Rattle.form_meaning.specs.declared.LabelMethod.TheVariants as label_method
 
-pub rename_of_series : (m : TableMethod) (s : Shape) → m ≡ table_method.RenameSeries → fits_shape (method.Table m) s ≡ true → s ≡ Series
-unfolding method_names
-rename_of_series = grind (arith, of_series)
+module _ (m : TableMethod) (s : Shape) (fits : fits_shape (method.Table m) s ≡ true) where
+  pub rename_of_series : m ≡ table_method.RenameSeries → s ≡ Series
+  unfolding method_names
+  rename_of_series = grind (arith, of_series)
 
-pub to_frame_of_series : (m : TableMethod) (s : Shape) → m ≡ table_method.ToFrame → fits_shape (method.Table m) s ≡ true → s ≡ Series
-unfolding method_names
-to_frame_of_series = grind (arith, of_series)
+  pub to_frame_of_series : m ≡ table_method.ToFrame → s ≡ Series
+  unfolding method_names
+  to_frame_of_series = grind (arith, of_series)
 
-pub rename_of_frame : (m : TableMethod) (s : Shape) → m ≡ table_method.RenameFrame → fits_shape (method.Table m) s ≡ true → s ≡ Frame
-unfolding method_names
-rename_of_frame = grind arith
+  pub rename_of_frame : m ≡ table_method.RenameFrame → s ≡ Frame
+  unfolding method_names
+  rename_of_frame = grind arith
 
-pub drop_of_frame : (m : TableMethod) (s : Shape) → m ≡ table_method.DropColumns → fits_shape (method.Table m) s ≡ true → s ≡ Frame
-unfolding method_names
-drop_of_frame = grind arith
+  pub drop_of_frame : m ≡ table_method.DropColumns → s ≡ Frame
+  unfolding method_names
+  drop_of_frame = grind arith
 
 pub set_index_of_frame : (m : LevelMethod) (s : Shape) → m ≡ level_method.SetIndex → fits_shape (method.Levels m) s ≡ true → s ≡ Frame
 unfolding method_names

@@ -1,12 +1,12 @@
 -- Summaries of columns.
 use Rattle.{
-  std.{proofs.{Common.{arith, ◌≡◌, append_assoc, ◌<◌, ◌+◌, ◌^◌, ℕ, pos, mod-eq_of_lt, List, [], ◌∷◌, ◌++◌, length, length-append, Result, Ok}, lemmas.List.{map-append, Elements.{All-append, All-cons, All-nil}}}, specs.Int.{int_wrap, cast_signed, w64}},
+  std.{proofs.{Common.{arith, ◌≡◌, append_assoc, ◌<◌, ◌+◌, ◌^◌, ℕ, pos, mod-eq_of_lt, List, [], ◌∷◌, ◌++◌, length, length-append, Result, Ok}, lemmas.List.{map-append, drop_more, Elements.{All-push}}}, specs.Int.{int_wrap, cast_signed, w64}},
   cell_core.specs.declared.cell.{Cell.{Cell}, Kind.{Kind}},
   meaning.specs.{Text.{Text}, Cell.{CellValue, datum, IsGiven}, Fault.{FaultValue}, Reduce.{distinct_count}},
   column_core.specs.Columns.{CellColumn},
-  table_meaning.specs.Table.{ColumnOf, column_value, column_at},
+  table_meaning.specs.Table.{ColumnOf, column_value, column_at, no_column},
   frame_store.specs.Parts.{table_column},
-  frame_methods.{specs.Summaries.{AreCells, counted_cell}, proofs.ColumnLaws.{at_place}},
+  frame_methods.specs.Summaries.{AreCells, counted_cell},
 }
 use Rattle.column_core.specs.Columns as kernel
 use Rattle.method_meaning.specs.Methods as meant
@@ -26,6 +26,6 @@ pub cells_step : (f : ColumnOf CellValue → Result CellValue FaultValue) (dict 
 cells_step f dict columns kind place made _ a x so_far lt at given more is = rw more record {
   same = so_far.same;
   count = grind (arith, length-append);
-  given = All-append (IsGiven dict) made.cells (x ∷ []) so_far.given (All-cons (IsGiven dict) x [] given (All-nil (IsGiven dict)));
-  answer = grind (arith, at_place columns place (table_column a) lt at, map-append, append_assoc);
+  given = All-push (IsGiven dict) made.cells x so_far.given given;
+  answer = grind (arith, drop_more columns place no_column lt, map-append, append_assoc);
 }

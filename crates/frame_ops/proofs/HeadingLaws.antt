@@ -1,20 +1,18 @@
--- Labels of columns, and labels of rows that are those of columns.
+-- Labels of columns, labels of rows that are those of columns, and tables under the headings that an operator gives them.
 use Rattle.{
-  std.{proofs.{Common.{◌≡◌, ◌∙◌, ℕ, ◌+◌, ◌<◌, Bool, true, false, List, [], ◌∷◌, ◌++◌, length, map, drop, refl, ap, sym, subst, arith, nat_eq, add-one, Option, Some, None, slice_index_or}, Math.Seq.{drop-cons}, lemmas.{List.{get_or-map, length-map}, Bool.Decides.{nat_tests}}}, specs.{Prelude.{◌≢◌}, Cmp.Lexicographic.{as_long}}},
-  cell_core.specs.declared.cell.Label.{Label},
-  meaning.specs.{Text.{Text}, Cell.{LabelValue, na, label_datum}},
+  frame_store.{specs.{Shown.{Makes, headings_value, labels_value}, Parts.{HeadingList, block_column, table_with, axis_of}}, proofs.Settling.{columns_name_part, headings_part}},
+  std.{proofs.{Common.{◌≡◌, ℕ, ◌+◌, ◌<◌, Bool, true, false, List, [], ◌∷◌, ◌++◌, length, map, drop, refl, ap, sym, subst, arith, nat_eq, add-one, Option, Some, None, slice_index_or, Result, Ok}, Math.Seq.{drop-cons}, lemmas.{List.{get_or-map, length-map}, Bool.Decides.{nat_tests}}}, specs.{Prelude.{◌≢◌}, Cmp.Lexicographic.{as_long}}},
+  cell_core.specs.{declared.{cell.Label.{Label}, grid.Shape.{Shape, TheVariants.{Series, Frame}}}, Texts.{IsLonger}},
+  meaning.specs.{Text.{Text}, Cell.{LabelValue, na, label_datum, CellValue}, Fault.{FaultValue, then_value}},
   multi_index.specs.Axes.{HaveLevels},
-  table_meaning.specs.{Settled.{IsSettled}, Table.{heading_value}},
-  form_meaning.specs.{Finish.{same_heading}, Infix.{same_headings, are_headings, tuple_heading}},
-  frame_store.specs.Shown.{headings_value, labels_value},
-  form_parts.proofs.RowLaws.{tuples_settled},
+  table_meaning.specs.{Settled.{IsSettled}, Table.{heading_value, ColumnOf, NumberedTable, table_value}, Valid.{AreHeadings, IsWhole}},
+  form_meaning.specs.{Finish.{same_heading, with_columns}, Infix.{same_headings, are_headings, tuple_heading}},
+  form_parts.{proofs.{RowLaws.{tuples_settled}, TableMade.{under_settled, whole_under, made_is_settled, made_is_meant}}, specs.Makes.{blocks_value, AreColumns}},
+  column_core.specs.Blocks.{CellBlock},
+  frame_ops.specs.{declared.naming.Naming.{Naming, TheVariants.{Kept, Name, ColumnsName}}, Namings.{headings_by, named_by, IsNaming, IsSettledNaming}},
 }
 use Rattle.cell_core.specs.declared.cell.Label.TheVariants as label
-
--- the heading at a place
-pub heading_settled : (texts : List Text) (hs : List (Option Label)) (h : Option Label) (k : ℕ) → IsSettled headings_value texts hs → k < length hs → h ≡ slice_index_or hs k None → IsSettled heading_value texts h
-heading_settled texts hs h k settled lt is = subst (IsSettled heading_value texts) (sym is) (λ more.
-    sym (get_or-map (heading_value (texts ++ more)) hs k None None lt) ∙ ap (λ l. slice_index_or l k None) (settled more) ∙ get_or-map (heading_value texts) hs k None None lt)
+use Rattle.table_meaning.specs.Value as value
 
 -- the label of a row on its one level
 pub label_settled : (texts : List Text) (ls : List (List Label)) (l : Label) (k : ℕ) → IsSettled labels_value texts ls → HaveLevels 1 ls → k < length ls → l ≡ slice_index_or (slice_index_or ls k []) 0 label.Na → IsSettled heading_value texts (Some l)
@@ -42,16 +40,12 @@ other_rows = grind (arith, labels_differ, length-map)
 pub other_levels : (texts : List Text) (levels count : ℕ) (ls : List (List Label)) (hs : List (Option Label)) → HaveLevels levels ls → levels ≢ 1 → count ≡ length ls → length ls ≡ length hs
     → nat_eq count 0 ≡ are_headings (labels_value texts ls) (headings_value texts hs)
 other_levels _ _ _ [] [] alike n is same = grind (arith, nat_tests)
-other_levels _ _ _ [] (h ∷ hs) alike n is same = search
-other_levels _ _ _ (t ∷ ls) [] alike n is same = search
-other_levels _ _ _ ([] ∷ ls) (h ∷ hs) alike n is same = grind (arith, nat_tests)
 other_levels _ _ _ ((l ∷ []) ∷ ls) (h ∷ hs) alike n is same = absurd (n (sym (alike 0 [] (omega arith))))
-other_levels _ _ _ ((l ∷ m ∷ r) ∷ ls) (h ∷ hs) alike n is same = grind (arith, nat_tests)
+other_levels _ _ _ ls hs alike n is same = grind (arith, nat_tests)
 
 pub one_label : (t : List Label) → length t ≡ 1 → t ≡ slice_index_or t 0 label.Na ∷ []
-one_label [] e = search
 one_label (l ∷ []) e = refl
-one_label (l ∷ m ∷ r) e = search
+one_label t e = search
 
 pub heading_at : (keys : List (List Label)) (k : ℕ) (d : Option Label) → k < length keys → slice_index_or (map tuple_heading keys) k d ≡ tuple_heading (slice_index_or keys k [])
 heading_at keys k d = get_or-map tuple_heading keys k [] d
@@ -61,3 +55,38 @@ pub one_more_heading : (texts : List Text) (ls : List (List Label)) (hs : List (
     → l ≡ slice_index_or (slice_index_or ls k []) 0 label.Na → h ≡ slice_index_or hs k None → same_heading (Some (label_datum texts l)) (heading_value texts h) ≡ true
     → are_headings (labels_value texts (drop k ls)) (headings_value texts (drop k hs)) ≡ whole → are_headings (labels_value texts (drop (k + 1) ls)) (headings_value texts (drop (k + 1) hs)) ≡ whole
 one_more_heading = grind (arith, one_label, drop-cons, add-one)
+
+-- Tables under the headings that an operator gives them.
+-- a Series under a name, and a frame under a name of its columns
+series_headings : (shape : Shape) (columns_name : Option Label) (headings : List (Option Label)) (name : Option Label) → shape ≡ Series → AreHeadings shape columns_name headings → AreHeadings shape columns_name (name ∷ [])
+series_headings = grind arith
+
+frame_headings : (shape : Shape) (columns_name : Option Label) (headings : List (Option Label)) (name : Option Label) → shape ≡ Frame → AreHeadings shape columns_name headings → AreHeadings shape name headings
+frame_headings = grind arith
+
+-- the headings that an operator gives are as many as the table has, and fit its shape
+pub counted_by : (t : NumberedTable) (naming : Naming) → IsWhole t → IsNaming t naming → length (headings_by t naming).labels ≡ length t.headings
+counted_by = grind arith
+
+pub fits_by : (t : NumberedTable) (naming : Naming) → IsWhole t → IsNaming t naming → AreHeadings t.shape (headings_by t naming).columns_name (headings_by t naming).labels
+fits_by = grind (arith, series_headings, frame_headings)
+
+pub named_settled : (texts : List Text) (t : NumberedTable) (naming : Naming) → IsSettled table_value texts t → IsSettledNaming texts naming → IsSettled table_value texts (named_by t naming)
+named_settled _ t Kept = search
+named_settled _ t (Name n) = search (under_settled, columns_name_part)
+named_settled _ t (ColumnsName n) = search (under_settled, headings_part)
+
+-- the table may be made
+pub whole_named : (texts : List Text) (t : NumberedTable) (naming : Naming) (blocks : List CellBlock) → IsWhole t → IsNaming t naming → AreColumns texts (length t.labels) (length t.columns) blocks
+    → IsWhole (table_with t.shape (axis_of t) (headings_by t naming) (map block_column blocks))
+whole_named = search (whole_under, counted_by, fits_by)
+
+module _ (old new : List Text) (t made : NumberedTable) (naming : Naming) (h : HeadingList) (blocks : List CellBlock) (longer : IsLonger old new) (settled : IsSettled table_value old t) (name : IsSettledNaming old naming)
+    (same : h ≡ headings_by t naming) (is : made ≡ table_with t.shape (axis_of t) h (map block_column blocks)) where
+  made_by : made ≡ table_with t.shape (axis_of t) (headings_by t naming) (map block_column blocks)
+  made_by = cc
+
+  -- it is settled, and it is what is meant
+  pub named_makes : (meant : Result (List (ColumnOf CellValue)) FaultValue) → meant ≡ Ok (blocks_value new blocks) → AreColumns new (length t.labels) (length t.columns) blocks
+      → Makes new (Ok made) (then_value meant (λ columns. Ok (value.table (with_columns (table_value old (named_by t naming)) columns))))
+  named_makes _ are columns = (grind (arith, made_is_meant, named_settled, made_by), search (made_by, made_is_settled, named_settled))

@@ -1,6 +1,6 @@
 -- Laws that the goals of functions want, by the name of the first that does.
 use Rattle.{
-  frame_ops.proofs.{Meanings.{columns_seen}, HeadingLaws.{other_rows, label_settled}, JoinedTable.{sides_beyond, meant_of}, NamingLaws.{counted_by, fits_by}, AcrossLaws.{one_unfit, one_more_fits}, SpreadLaws.{one_more_spread, spread_refused, spread_beyond, spread_made}, InfixLaws.{joined_tests, makes_as}, WideLaws.{known_wide, widened_seen}},
+  frame_ops.proofs.{MeetingLaws.{columns_seen}, HeadingLaws.{other_rows, label_settled, counted_by, fits_by}, JoinLaws.{sides_beyond, meant_of}, WideLaws.{one_unfit, one_more_fits, one_more_spread, spread_refused, spread_beyond, spread_made, known_wide, widened_seen}, InfixLaws.{joined_tests, makes_as}},
   frame_store.proofs.Settling.{labels_part},
   std.proofs.lemmas.{List.{length-map}, Bool.Decides.{nat_tests}},
   form_parts.proofs.GapLaws.{single_on},

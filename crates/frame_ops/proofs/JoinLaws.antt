@@ -1,19 +1,21 @@
--- Rows that are joined, and the sides of two tables on them.
+-- Rows that are joined, and the table of two tables on them.
 use Rattle.{
-  std.{proofs.{Common.{◌≡◌, ◌<◌, ◌+◌, ℕ, suc, Bool, List, [], ◌∷◌, length, refl, ap, arith, Option, None, Result, Ok, Err, slice_index_or, if◌then◌else◌, below_more, get_or-set_other, get_or-set_same}, lemmas.List.{length-map, Elements.{All-map}}}, specs.{Prelude.{slice_set}, List.{list_all}}},
-  cell_core.specs.{declared.cell.Label.{Label}, Texts.{AreDistinct}},
-  meaning.specs.{Text.{Text}, Cell.{CellValue, na_cell}, Symbol.{Binary}},
+  std.{proofs.{Common.{◌≡◌, ◌<◌, ◌+◌, ℕ, suc, List, [], ◌∷◌, length, refl, ap, arith, Option, None, Result, Ok, Err, slice_index_or, below_more, get_or-set_other, get_or-set_same, ◌∙◌, true, false, map, sym, subst, All}, lemmas.List.{length-map, Elements.{All-map}}}, specs.{Prelude.{slice_set}, List.{list_all}}},
+  cell_core.specs.{declared.cell.Label.{Label}, Texts.{AreDistinct, IsLonger, AreGiven}},
+  meaning.specs.{Text.{Text}, Cell.{CellValue, na_cell}, Symbol.{Binary}, Fault.{FaultValue, limit, then_value}},
   index_core.proofs.RangeLaws.{length-range_labels},
-  multi_index.specs.Axes.{AxisValue, HaveLevels, range_axis},
+  multi_index.specs.Axes.{HaveLevels, range_axis},
   row_keys.specs.Keys.{same_tuple as same_numbers},
-  align_meaning.{specs.{Faults.{AlignRefusal, duplicate_labels, too_large, met_rows}, Joins.{Entry, Lists, outer, lists_of}}, proofs.{InsideLaws.{AreInside, joined_inside}, SeenLaws.{answer_seen, outer_seen}}},
+  align_meaning.{specs.{Faults.{AlignRefusal}, Joins.{Lists, outer}}, proofs.{InsideLaws.{AreInside, joined_inside}, SeenLaws.{answer_seen, outer_seen}}},
   label_align.specs.{declared.{fault.AlignFault.{AlignFault, TheVariants.{DuplicateLabels, TooLarge, NoMemory}}, joined.Joined.{Joined}}, Answers.{AlignsBy}, Joined.{lists_seen}, Tuples.{tuple_less}},
-  table_meaning.specs.{Settled.{IsSettled}, Table.{ColumnOf, NumberedTable, heading_value, tuple_value}, Valid.{IsWhole}},
-  form_meaning.specs.Infix.{same_tuple, tuple_before, common_name, common_names, joined_rows, on_rows, meets, beside},
-  frame_store.specs.Shown.{labels_value, headings_value},
-  form_parts.{specs.{Faults.{align_refusal}, Makes.{MakesBy}}, proofs.RowLaws.{tuple_by_number, tuples_settled, settled_tuples}},
-  frame_ops.specs.Joining.{joined_value, side_on, IsJoined},
+  table_meaning.specs.{Settled.{IsSettled}, Table.{ColumnOf, NumberedTable, heading_value, tuple_value, Table, table_value}, Valid.{IsWhole}, Value.{Entry}},
+  form_meaning.specs.{Infix.{same_tuple, tuple_before, common_name, common_names, joined_rows, on_rows, meets, beside, Meeting, joined_columns, with_joined, joined_infix}, Finish.{within_limits, with_columns}},
+  frame_store.{specs.{Shown.{labels_value, headings_value, Makes, columns_value}, declared.fault.OpFault.{OpFault}, Parts.{table_with, block_column}}, proofs.Settling.{table_settled, columns_part, columns_name_part, headings_part, columns_given}},
+  form_parts.{specs.{Faults.{align_refusal}, Makes.{MakesBy, blocks_value, AreColumns}}, proofs.{RowLaws.{tuple_by_number, tuples_settled, settled_tuples}, TableMade.{made_is_meant, made_is_settled, refused_on}, GapLaws.{on_rows_given, on_rows_seen}}},
+  frame_ops.{specs.{Joining.{joined_value, side_on}, declared.{naming.Naming.{Naming}, other.Other.TheVariants.{Beside}}, Namings.{headings_by, named_by, IsSettledNaming}, Pairs.{all_met, kinds_meet, columns_meant, columns_for}}, proofs.{MeetingLaws.{kinds_seen, table_meant, beside_meetings}, HeadingLaws.{named_settled}}},
+  column_core.specs.{Blocks.{CellBlock}, Moves.{IsPlaceOf}},
 }
+use Rattle.table_meaning.specs.Value as value
 
 -- a tuple of so many labels, whose texts were given
 abbrev pub IsKept : List Text → ℕ → List Label → Type 0
@@ -29,25 +31,16 @@ module _ (texts : List Text) (a b : List (List Label)) (distinct : AreDistinct t
       outer_seen _ _ _ _ _ _ (λ x y h k. tuple_by_number _ x y distinct h k) (λ x y h k. refl) a b
       (tuples_settled _ a given) (tuples_settled _ b given')
 
-  meant_as : (r : Result (Lists (List Label)) (AlignRefusal (List Label))) → numbers ≡ r → joined_rows (labels_value texts a) (labels_value texts b) ≡ met_rows (answer_seen (tuple_value texts) r)
-  meant_as r is = cc seen
-
   pub rows_meant : (rows : Joined) → numbers ≡ Ok (lists_seen rows) → joined_rows (labels_value texts a) (labels_value texts b) ≡ Ok (joined_value texts rows)
-  rows_meant _ is = search meant_as
-
-  no_duplicate : (key : List Label) (b : Bool) (es : List (Entry (List Label))) → (if b then Err too_large else Ok (lists_of es)) ≡ Err (duplicate_labels key) → ⊥
-  no_duplicate = grind arith
+  rows_meant _ is = grind (arith, seen)
 
   pub rows_refused : (fault : AlignFault) → AlignsBy lists_seen (Err fault) numbers → MakesBy joined_value texts (Err (align_refusal fault)) (joined_rows (labels_value texts a) (labels_value texts b))
-  rows_refused (DuplicateLabels key) is = search no_duplicate
-  rows_refused TooLarge is = search meant_as
+  rows_refused (DuplicateLabels key) is = grind arith
+  rows_refused TooLarge is = grind (arith, seen)
   rows_refused NoMemory _ = tt
 
   pub rows_inside : (levels : ℕ) → HaveLevels levels a → HaveLevels levels b → (rows : Joined) → numbers ≡ Ok (lists_seen rows) → AreInside (IsKept texts levels) (length a) (length b) (lists_seen rows)
   rows_inside = search (joined_inside, tuples_settled)
-
-pub is_joined : (texts : List Text) (x y : AxisValue) (rows : Joined) → AreInside (IsKept texts (length x.names)) (length x.tuples) (length y.tuples) (lists_seen rows) → IsJoined x y rows
-is_joined = grind arith
 
 pub joined_given : (texts : List Text) (levels m n : ℕ) (rows : Joined) → AreInside (IsKept texts levels) m n (lists_seen rows) → IsSettled labels_value texts rows.axis.tuples
 joined_given _ _ m n _ h = settled_tuples _ _ (λ k d lt. (h.keyed k d lt).1)
@@ -96,3 +89,77 @@ side_is_whole t rows whole = record {
   filled = All-map (λ c. length c.cells ≡ length (range_axis (length rows)).tuples) _ t.columns (λ k d lt. grind (arith, length-map, rows_numbered));
   headings = whole.headings;
 }
+
+-- The table of two tables whose rows are joined.
+-- the columns of the sides
+module _ (op : Binary) (texts : List Text) (a b : NumberedTable) (rows : Joined) (columns : length b.columns ≡ length a.columns) where
+  abbrev met_columns : List Meeting
+  met_columns = joined_columns (table_value texts a) (table_value texts b) (joined_value texts rows)
+
+  abbrev left : NumberedTable
+  left = side_on a rows.left
+
+  abbrev right : NumberedTable
+  right = side_on b rows.right
+
+  -- too many cells
+  pub sides_beyond : list_all (kinds_meet op) (all_met a (Beside b)) ≡ true → within_limits (length rows.axis.tuples) (length a.columns) ≡ false → columns_meant op (length rows.axis.tuples) true met_columns ≡ Err limit
+  sides_beyond kinds beyond =
+      let all : list_all (meets op) met_columns ≡ true = cc (kinds_on op rows.left rows.right (columns_value texts a.columns) (columns_value texts b.columns), beside_meetings texts b a.columns columns, kinds_seen op texts (all_met a (Beside b))) in
+      grind (arith, length-beside, length-map)
+
+  -- the same of tables that are the sides
+  module _ (l r : NumberedTable) (is : l ≡ left) (is' : r ≡ right) (count : length rows.left ≡ length rows.axis.tuples) where
+    pub meant_of : columns_for op texts l (Beside r) ≡ columns_meant op (length rows.axis.tuples) true met_columns
+    meant_of = grind (arith, rows_numbered, beside_meetings, length-map, on_rows_seen)
+
+-- the texts of a side were given
+pub side_given : (texts : List Text) (t l : NumberedTable) (rows : List (Option ℕ)) → l ≡ side_on t rows → IsWhole t → IsSettled table_value texts t → All (IsPlaceOf (length t.labels)) rows → All (λ c. AreGiven texts c.cells) l.columns
+side_given _ t _ _ is whole settled inside = rw is (search (on_rows_given, columns_given, columns_part))
+
+module _ (old new : List Text) (a b : NumberedTable) (naming : Naming) (rows : Joined) where
+  abbrev v : Table
+  v = table_value old a
+
+  abbrev w : Table
+  w = table_value old b
+
+  abbrev t : Table
+  t = table_value old (named_by a naming)
+
+  -- the left table on the joined rows, as it is meant, and by its parts
+  abbrev u : Table
+  u = with_joined v w t (joined_value old rows)
+
+  abbrev framed : NumberedTable
+  framed = table_with a.shape rows.axis (headings_by a naming) a.columns
+
+  module _ (op : Binary) (is : joined_rows v.labels w.labels ≡ Ok (joined_value old rows)) where
+    abbrev met_meant : Result (List (ColumnOf CellValue)) FaultValue
+    met_meant = columns_meant op (length rows.axis.tuples) true (joined_columns v w (joined_value old rows))
+
+    abbrev meant : Result Entry FaultValue
+    meant = then_value (joined_rows v.labels w.labels) (joined_infix op v w t)
+
+    columns_as : then_value met_meant (λ columns. Ok (value.table (with_columns u columns))) ≡ meant
+    columns_as = grind (arith, table_meant, length-map)
+
+    -- a refusal
+    pub joined_refused : (made : Result (List CellBlock) OpFault) (fault : OpFault) → made ≡ Err fault → MakesBy blocks_value new made met_meant → Makes new (Err fault) meant
+    joined_refused _ fault was makes = subst (Makes new (Err fault)) columns_as (search refused_on)
+
+    module _ (settled : IsSettled table_value old a) (name : IsSettledNaming old naming) (given : IsSettled labels_value old rows.axis.tuples) (given' : IsSettled headings_value old rows.axis.names) where
+      framed_settled : IsSettled table_value old framed
+      framed_settled =
+          let named = named_settled _ a _ settled name in
+          grind (arith, table_settled, columns_name_part, headings_part, columns_part)
+
+      pub joined_makes : (blocks : List CellBlock) (made : NumberedTable) → made ≡ table_with a.shape rows.axis (headings_by a naming) (map block_column blocks) → headings_value old rows.axis.names ≡ common_names v.level_names w.level_names
+          → IsLonger old new → MakesBy blocks_value new (Ok blocks) met_meant → AreColumns new (length rows.axis.tuples) (length a.columns) blocks → Makes new (Ok made) meant
+      joined_makes _ _ made_is names longer are columns =
+          rw made_is (
+            sym columns_as
+                ∙ (λ i. then_value met_meant (λ columns. Ok (value.table (with_columns (record t { labels = labels_value old rows.axis.tuples; level_names = sym names i }) columns))))
+                ∙ made_is_meant old new framed _ _ _ longer framed_settled are,
+            made_is_settled old new framed _ _ _ _ longer framed_settled columns,
+          )

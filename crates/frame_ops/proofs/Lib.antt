@@ -1,14 +1,6 @@
-pub mod AnswerLaws
-pub mod ColumnsMade
-pub mod Meanings
-pub mod HeadingLaws
-pub mod NamingLaws
 pub mod MeetingLaws
+pub mod HeadingLaws
 pub mod InfixLaws
 pub mod JoinLaws
-pub mod JoinedTable
 pub mod WideLaws
-pub mod SpreadLaws
-pub mod AcrossLaws
-pub mod SignLaws
 pub mod Hints

@@ -1,160 +1,290 @@
--- Frames under joined labels of columns.
+-- Frames under joined labels of columns, and a Series in each row of a frame.
 use Rattle.{
-  std.{proofs.{Math.ListN.{get_or-map as mapped}, Common.{◌≡◌, ◌≢◌, ◌∙◌, ◌<◌, ◌+◌, ◌++◌, ℕ, zero, suc, pos, List, [], ◌∷◌, length, map, take, replicate, refl, ap, sym, arith, add-one, All, Option, Some, None, Result, slice_index_or}, lemmas.{List.{get_or-map, length-map, length-replicate, map-append, Elements.{All-nil, All-cons, All-head, All-tail, All-map, All-replicate}}, Option.{get_or_from_slice_get}}}, specs.Prelude.{slice_get, IsSome, IfOk, unwrap_or}},
-  cell_core.specs.{declared.{cell.{Cell.{Cell, TheVariants.{Na}}, Label.{Label}}, grid.Shape.{Shape, TheVariants.{Frame}}}, Texts.{AreGiven, IsGiven}},
-  meaning.specs.{Text.{Text}, Cell.{LabelValue, int, na_cell}},
+  std.{proofs.{Common.{◌≢◌, ◌≡◌, ◌∙◌, ◌<◌, ◌+◌, ◌++◌, ℕ, zero, suc, pos, List, [], ◌∷◌, length, map, take, replicate, refl, ap, sym, arith, add-one, All, Option, Some, None, Result, slice_index_or, Bool, true, false, Ok, Err, if◌then◌else◌, ◌&&◌, ◌||◌, nat_eq, drop}, lemmas.{List.{map_more, get_or-map, length-map, length-replicate, map-append, Elements.{All-nil, All-cons, All-head, All-tail, All-map, All-replicate}, Folds.{list_all-map}}, Option.{get_or_from_slice_get}, Bool.Decides.{nat_tests}}, Math.Seq.{drop-cons}}, specs.{Prelude.{slice_get, IsSome, unwrap_or}, List.{list_any}}},
+  frame_store.{specs.{Parts.{single_block, HeadingList, with_heading, block_column, table_column}, Shown.{labels_value, headings_value, columns_value}, World.{IsKnownTable}, declared.fault.OpFault.{OpFault, TheVariants.{Refused, NoMemory}}}, proofs.Settling.{settled_by, table_settled, columns_settled, columns_given, columns_name_part, level_names_part, labels_part, headings_part, columns_part}},
+  selections.{proofs.{AnswerLaws.{column_seen}, HeadingLaws.{different, repeated_seen}, RefusalLaws.{repeated_settled}}, specs.Headings.{repeated_heading, NamesRepeated}},
+  frame_ops.{proofs.{MeetingLaws.{map-replicate, levels_one}, HeadingLaws.{one_label, heading_at}, InfixLaws.{series_given}}, specs.{Joining.{AreApart, AreSideRows}, Widening.{heading_tuple, labels_axis, headings_of_keys, widened, AreColumnKeys, spread_table}, Pairs.{repeated}}},
+  cell_core.specs.{declared.{cell.{Cell.{Cell, TheVariants.{Na}}, Label.{Label}, Kind.{Kind}}, grid.Shape.{Shape, TheVariants.{Frame, Series}}}, Texts.{AreGiven, IsGiven, AreDistinct}},
+  meaning.specs.{Text.{Text}, Cell.{LabelValue, int, na_cell, datum}, Fault.{limit, FaultValue, wrong_kind, bad_value, not_aligned, then_value}, FaultOf.{fault_of}, Symbol.{Binary}},
   column_core.specs.{Blocks.{CellBlock}, Columns.{CellColumn}, Moves.{IsPlaceOf}},
   multi_index.specs.Axes.{AxisValue, HaveLevels},
-  table_meaning.specs.{Settled.{IsSettled}, Table.{ColumnOf, NumberedTable, column_at, column_value, table_value}, Valid.{AreHeadings, IsWhole}},
-  form_meaning.specs.{Finish.{column_labels}, Infix.{tuple_heading, column_or_missing, columns_or_missing, on_columns}},
-  frame_store.{specs.{Parts.{HeadingList, with_heading, block_column, table_column}, Shown.{labels_value, headings_value, columns_value}, World.{IsKnownTable}}, proofs.Settling.{settled_by, table_settled, columns_settled, columns_given, columns_name_part, level_names_part, labels_part, headings_part, columns_part}},
-  frame_ops.{specs.{Joining.{AreApart, AreSideRows}, Widening.{heading_tuple, labels_axis, headings_of_keys, widened, AreColumnKeys}}, proofs.{AnswerLaws.{map-replicate, taken_more}, HeadingLaws.{one_label, heading_at}}},
+  table_meaning.specs.{Settled.{IsSettled}, Table.{ColumnOf, NumberedTable, column_at, column_value, table_value, Table, heading_value, tuple_value}, Valid.{AreHeadings, IsWhole, within_limits}, Value.{Entry}},
+  form_meaning.specs.{Finish.{column_labels, unless_repeated, limited_table, column_of_value, same_kind}, Infix.{tuple_heading, column_or_missing, columns_or_missing, on_columns, spread, spread_series, spread_frame, same_tuple, on_levels, compares, takes_each, labels_fit, joined_turned, across_unequal}},
+  form_parts.{specs.Makes.{MakesBy}, proofs.RowLaws.{tuple_by_number, tuples_settled}},
+  pick_meaning.specs.Rows.{rows_where, are_some},
+  row_keys.specs.{Keys.{same_tuple as same_numbers}, Partners.{rows_with}},
 }
 
 -- labels of columns as tuples
-single : (h : Option Label) → length (heading_tuple h) ≡ 1
-single = grind arith
-
 pub tuples_alike : (hs : List (Option Label)) → HaveLevels 1 (map heading_tuple hs)
-tuples_alike hs = All-map (λ tuple. length tuple ≡ 1) heading_tuple hs (λ k d lt. single _)
+tuples_alike hs = All-map (λ tuple. length tuple ≡ 1) heading_tuple hs (λ k d lt. grind arith)
 
 abbrev label_tuple : Option LabelValue → List LabelValue
 label_tuple h = unwrap_or h (int (pos 0)) ∷ []
 
-pub tuples_seen : (texts : List Text) (hs : List (Option Label)) → map label_tuple (headings_value texts hs) ≡ labels_value texts (map heading_tuple hs)
-tuples_seen _ [] = refl
-tuples_seen texts (None ∷ hs) = cc (tuples_seen texts hs)
-tuples_seen texts (Some l ∷ hs) = cc (tuples_seen texts hs)
+module _ (texts : List Text) where
+  pub tuples_seen : (hs : List (Option Label)) → map label_tuple (headings_value texts hs) ≡ labels_value texts (map heading_tuple hs)
+  tuples_seen [] = refl
+  tuples_seen (None ∷ hs) = cc (tuples_seen hs)
+  tuples_seen (Some l ∷ hs) = cc (tuples_seen hs)
 
-pub labels_seen : (texts : List Text) (x : AxisValue) (t : NumberedTable) → x ≡ labels_axis t → labels_value texts x.tuples ≡ column_labels (table_value texts t)
-labels_seen = grind (arith, tuples_seen)
-
-pub labels_given : (texts : List Text) (x : AxisValue) (t : NumberedTable) → x ≡ labels_axis t → IsSettled table_value texts t → IsSettled labels_value texts x.tuples
-labels_given _ x t is settled = rw is (settled_by headings_value labels_value (map _) _ _ _ (λ more. tuples_seen _ _) (headings_part _ t settled))
-
--- headings that differ are tuples that differ
-tuple_apart : (g h : Option Label) → IsSome g → IsSome h → g ≢ h → heading_tuple g ≢ heading_tuple h
-tuple_apart = grind arith
+  pub keys_seen : (keys : List (List Label)) → headings_value texts (map tuple_heading keys) ≡ map tuple_heading (labels_value texts keys)
+  keys_seen [] = refl
+  keys_seen ([] ∷ keys) = cc (keys_seen keys)
+  keys_seen ((l ∷ ls) ∷ keys) = cc (keys_seen keys)
 
 tuple_at : (hs : List (Option Label)) (k : ℕ) (d : List Label) → k < length hs → slice_index_or (map heading_tuple hs) k d ≡ heading_tuple (slice_index_or hs k None)
 tuple_at hs k d = get_or-map heading_tuple hs k None d
 
-pub labels_apart : (x : AxisValue) (t : NumberedTable) → x ≡ labels_axis t → IsWhole t → t.shape ≡ Frame → AreApart x.tuples
-labels_apart = grind (arith, length-map, tuple_at, tuple_apart)
+module _ (x : AxisValue) (t : NumberedTable) (is : x ≡ labels_axis t) where
+  pub labels_seen : (texts : List Text) → labels_value texts x.tuples ≡ column_labels (table_value texts t)
+  labels_seen = grind (arith, tuples_seen)
 
-pub if_both : {A E : Type 0} (P Q R : A → Type 0) → ((x : A) → P x → Q x → R x) → (r : Result A E) → IfOk r P → IfOk r Q → IfOk r R
-if_both P Q R = grind arith
+  pub labels_given : (texts : List Text) → IsSettled table_value texts t → IsSettled labels_value texts x.tuples
+  labels_given _ settled = rw is (settled_by headings_value labels_value (map _) _ _ _ (λ more. tuples_seen _ _) (headings_part _ t settled))
+
+  pub labels_apart : IsWhole t → t.shape ≡ Frame → AreApart x.tuples
+  labels_apart = grind (arith, length-map, tuple_at)
 
 -- the headings of keys, one more of them
 
 pub one_more_key : (name : Option Label) (keys : List (List Label)) (place : ℕ) (tuple : List Label) (l : Label) (h h' : HeadingList) → place < length keys → h ≡ headings_of_keys name (take place keys)
     → slice_get keys place ≡ Some tuple → slice_get tuple 0 ≡ Some l → h' ≡ with_heading h (Some l) → h' ≡ headings_of_keys name (take (place + 1) keys)
-one_more_key _ keys place _ _ _ _ lt before at first pushed = grind (arith, get_or_from_slice_get, taken_more tuple_heading keys place [] lt)
+one_more_key _ keys place _ _ _ _ lt before at first pushed = grind (arith, get_or_from_slice_get, map_more tuple_heading keys place [] lt)
 
 -- columns at places, or missing
-module _ (na : Cell) (count : ℕ) (own other : List (ColumnOf Cell)) where
-  one_more_column : (k : ℕ) (ps os : List (Option ℕ)) → k < length ps → length os ≡ length ps
-      → columns_or_missing na count own other (take (suc k) ps) (take (suc k) os) ≡ columns_or_missing na count own other (take k ps) (take k os) ++ column_or_missing na count own other (slice_index_or ps k None) (slice_index_or os k None) ∷ []
-  one_more_column k [] _ lt same = grind arith
-  one_more_column k (p ∷ ps) [] lt same = search
+module _ (count : ℕ) (own other : List (ColumnOf Cell)) where
+  abbrev column : Option ℕ → Option ℕ → ColumnOf Cell
+  column p o = column_or_missing Na count own other p o
+
+  abbrev wide : List (Option ℕ) → List (Option ℕ) → List (ColumnOf Cell)
+  wide ps os = columns_or_missing Na count own other ps os
+
+  one_more_column : (k : ℕ) (ps os : List (Option ℕ)) → k < length ps → length os ≡ length ps → wide (take (suc k) ps) (take (suc k) os) ≡ wide (take k ps) (take k os) ++ column (slice_index_or ps k None) (slice_index_or os k None) ∷ []
   one_more_column zero (p ∷ ps) (o ∷ os) _ _ = refl
   one_more_column (suc k) (p ∷ ps) (o ∷ os) lt same = cc (one_more_column k ps os (omega (arith, lt)) (omega (arith, same)))
+  one_more_column k ps os lt same = grind arith
 
-pub length-wide : {C : Type 0} (na : C) (count : ℕ) (own other : List (ColumnOf C)) (ps os : List (Option ℕ)) → length os ≡ length ps → length (columns_or_missing na count own other ps os) ≡ length ps
-length-wide _ _ _ _ [] _ _ = refl
-length-wide _ _ _ _ (p ∷ ps) [] same = search
-length-wide na _ _ _ (p ∷ ps) (o ∷ os) same = ap suc (length-wide na _ _ _ ps os (omega (arith, same)))
+  length-wide : (ps os : List (Option ℕ)) → length os ≡ length ps → length (wide ps os) ≡ length ps
+  length-wide (p ∷ ps) (o ∷ os) same = ap suc (length-wide ps os (omega (arith, same)))
+  length-wide [] os same = refl
+  length-wide (p ∷ ps) [] same = search
 
-module _ (P : ColumnOf Cell → Type 0) (count : ℕ) (own other : List (ColumnOf Cell)) (each : (p o : Option ℕ) → IsPlaceOf (length own) p → P (column_or_missing Na count own other p o)) where
-  all_wide : (ps os : List (Option ℕ)) → All (IsPlaceOf (length own)) ps → All P (columns_or_missing Na count own other ps os)
-  all_wide [] _ _ = All-nil P
-  all_wide (p ∷ ps) [] _ = All-nil P
-  all_wide (p ∷ ps) (o ∷ os) all =
-      All-cons P _ (columns_or_missing Na count own other ps os) (each p o (All-head (IsPlaceOf (length own)) p ps all)) (all_wide ps os (All-tail (IsPlaceOf (length own)) p ps all))
+  all_wide : (P : ColumnOf Cell → Type 0) → ((p o : Option ℕ) → IsPlaceOf (length own) p → P (column p o)) → (ps os : List (Option ℕ)) → All (IsPlaceOf (length own)) ps → All P (wide ps os)
+  all_wide P each (p ∷ ps) (o ∷ os) all =
+      All-cons P _ (wide ps os) (each p o (All-head (IsPlaceOf (length own)) p ps all)) (all_wide P each ps os (All-tail (IsPlaceOf (length own)) p ps all))
+  all_wide P each ps os all = All-nil P
 
--- with texts
-module _ (texts : List Text) (count : ℕ) (own other : List (ColumnOf Cell)) where
-  column_seen : (cs : List (ColumnOf Cell)) (p : ℕ) → column_value texts (column_at cs p) ≡ column_at (columns_value texts cs) p
-  column_seen cs p = sym (mapped (column_value texts) cs p _)
+  -- with texts
+  module _ (texts : List Text) where
+    wide_column_seen : (p o : Option ℕ) → column_value texts (column p o) ≡ column_or_missing na_cell count (columns_value texts own) (columns_value texts other) p o
+    wide_column_seen (Some p) o = sym (column_seen texts own p)
+    wide_column_seen None (Some o) = grind (arith, column_seen, map-replicate)
+    wide_column_seen None None = search map-replicate
 
-  wide_column_seen : (p o : Option ℕ) → column_value texts (column_or_missing Na count own other p o) ≡ column_or_missing na_cell count (columns_value texts own) (columns_value texts other) p o
-  wide_column_seen (Some p) o = column_seen _ p
-  wide_column_seen None (Some o) = grind (arith, column_seen, map-replicate)
-  wide_column_seen None None = search map-replicate
+    wide_seen : (ps os : List (Option ℕ)) → columns_value texts (wide ps os) ≡ columns_or_missing na_cell count (columns_value texts own) (columns_value texts other) ps os
+    wide_seen (p ∷ ps) (o ∷ os) = λ i. wide_column_seen p o i ∷ wide_seen ps os i
+    wide_seen [] os = refl
+    wide_seen (p ∷ ps) [] = refl
 
-  pub wide_seen : (ps os : List (Option ℕ)) → columns_value texts (columns_or_missing Na count own other ps os) ≡ columns_or_missing na_cell count (columns_value texts own) (columns_value texts other) ps os
-  wide_seen [] _ = refl
-  wide_seen (p ∷ ps) [] = refl
-  wide_seen (p ∷ ps) (o ∷ os) = λ i. wide_column_seen p o i ∷ wide_seen ps os i
+heading_apart : (s t : List Label) → length s ≡ 1 → length t ≡ 1 → s ≢ t → tuple_heading s ≢ tuple_heading t
+heading_apart s t one one' = grind (arith, one_label s one, one_label t one')
 
-pub keys_seen : (texts : List Text) (keys : List (List Label)) → headings_value texts (map tuple_heading keys) ≡ map tuple_heading (labels_value texts keys)
-keys_seen _ [] = refl
-keys_seen texts ([] ∷ keys) = cc (keys_seen texts keys)
-keys_seen texts ((l ∷ ls) ∷ keys) = cc (keys_seen texts keys)
+keys_head : (shape : Shape) → shape ≡ Frame → (name : Option Label) (keys : List (List Label)) → AreColumnKeys keys → AreHeadings shape name (map tuple_heading keys)
+keys_head = grind (arith, one_label, length-map, heading_at, heading_apart)
 
 module _ (own other : NumberedTable) (keys : List (List Label)) (places opposites : List (Option ℕ)) where
   pub widened_seen : (texts : List Text) → table_value texts (widened own other keys places opposites) ≡ on_columns (table_value texts own) (table_value texts other) (labels_value texts keys) places opposites
   widened_seen = search (wide_seen, length-map, keys_seen)
 
-  -- it is whole
-  heading_apart : (s t : List Label) → length s ≡ 1 → length t ≡ 1 → s ≢ t → tuple_heading s ≢ tuple_heading t
-  heading_apart s t one one' = grind (arith, one_label s one, one_label t one')
+  -- rows of the labels of columns are places of columns
+  module _ (frame : own.shape ≡ Frame) (are : AreColumnKeys keys) (side : AreSideRows (length keys) (labels_axis own) places) (side' : AreSideRows (length keys) (labels_axis other) opposites) where
+    inside : IsWhole own → All (IsPlaceOf (length own.columns)) places
+    inside = grind (arith, length-map)
 
-  keys_head : (shape : Shape) → shape ≡ Frame → (name : Option Label) → AreColumnKeys keys → AreHeadings shape name (map tuple_heading keys)
-  keys_head = grind (arith, single, one_label, length-map, heading_at, heading_apart)
+    abbrev count : ℕ
+    count = length own.labels
 
-  pub widened_whole : IsWhole own → own.shape ≡ Frame → AreColumnKeys keys → length places ≡ length keys → length opposites ≡ length places → All (IsPlaceOf (length own.columns)) places → IsWhole (widened own other keys places opposites)
-  widened_whole whole frame are many many' inside = record {
-    headed = grind (arith, length-map, length-wide);
-    filled = search (all_wide, column_filled);
-    headings = search keys_head;
-  }
-    where
-      column_filled : (p o : Option ℕ) → IsPlaceOf (length own.columns) p → length (column_or_missing Na (length own.labels) own.columns other.columns p o).cells ≡ length own.labels
-      column_filled (Some p) o within = grind arith
-      column_filled None (Some o) within = search length-replicate
-      column_filled None None within = search length-replicate
-
-  pub widened_given : (texts : List Text) → IsSettled table_value texts own → IsSettled labels_value texts keys → All (IsPlaceOf (length own.columns)) places → IsSettled table_value texts (widened own other keys places opposites)
-  widened_given texts settled given inside =
-      table_settled _ _ (columns_name_part _ _ settled) (level_names_part _ _ settled) (labels_part _ _ settled)
-      (grind (arith, settled_by, keys_seen))
-      (columns_settled _ _ (all_wide (λ c. AreGiven texts c.cells) _ _ _ column_given places _ inside))
-    where
-      missing_given : (n : ℕ) → AreGiven texts (replicate n Na)
-      missing_given n = All-replicate (IsGiven texts) n Na tt
-
-      column_given : (p o : Option ℕ) → IsPlaceOf (length own.columns) p → AreGiven texts (column_or_missing Na (length own.labels) own.columns other.columns p o).cells
-      column_given (Some p) o within = search (columns_given, columns_part)
-      column_given None (Some o) within = search missing_given
-      column_given None None within = search missing_given
-
--- rows of the labels of columns are places of columns
-pub side_places : (t : NumberedTable) (count : ℕ) (rows : List (Option ℕ)) → IsWhole t → AreSideRows count (labels_axis t) rows → All (IsPlaceOf (length t.columns)) rows
-side_places = grind (arith, length-map)
-
-pub known_wide : (texts : List Text) (own other : NumberedTable) (keys : List (List Label)) (places opposites : List (Option ℕ)) → IsKnownTable texts own → own.shape ≡ Frame → AreColumnKeys keys → IsSettled labels_value texts keys
-    → AreSideRows (length keys) (labels_axis own) places → AreSideRows (length keys) (labels_axis other) opposites → IsKnownTable texts (widened own other keys places opposites)
-known_wide _ own other _ _ _ known frame are given side side' =
-    let inside = side_places _ _ _ known.whole side in
-    record {
-      whole = widened_whole own other _ _ _ known.whole frame are side.count_is (side'.count_is ∙ sym side.count_is) inside;
-      given = search widened_given;
+    pub widened_whole : IsWhole own → IsWhole (widened own other keys places opposites)
+    widened_whole whole = record {
+      headed = grind (arith, length-map, length-wide);
+      filled = all_wide _ _ _ (λ c. length c.cells ≡ count) column_filled places _ (inside whole);
+      headings = search keys_head;
     }
+      where
+        column_filled : (p o : Option ℕ) → IsPlaceOf (length own.columns) p → length (column count own.columns other.columns p o).cells ≡ count
+        column_filled (Some p) o within = grind arith
+        column_filled None (Some o) within = search length-replicate
+        column_filled None None within = search length-replicate
 
--- a column of a side, or a missing one
-pub own_column : {E : Type 0} (r : Result CellColumn E) (a : CellColumn) (count : ℕ) (own other : List (ColumnOf Cell)) (place opposite : Option ℕ) (p : ℕ) → place ≡ Some p → column_at own p ≡ table_column a → IfOk r (λ c. c ≡ a)
-    → IfOk r (λ made. table_column made ≡ column_or_missing Na count own other place opposite)
-own_column = grind arith
+    pub known_wide : (texts : List Text) → IsKnownTable texts own → IsSettled labels_value texts keys → IsKnownTable texts (widened own other keys places opposites)
+    known_wide texts known given = record {
+      whole = widened_whole known.whole;
+      given = table_settled _ _ (columns_name_part _ _ known.given) (level_names_part _ _ known.given) (labels_part _ _ known.given)
+          (grind (arith, settled_by, keys_seen))
+          (columns_settled _ _ (all_wide _ _ _ (λ c. AreGiven texts c.cells) column_given places _ (inside known.whole)));
+    }
+      where
+        missing_given : (n : ℕ) → AreGiven texts (replicate n Na)
+        missing_given n = All-replicate (IsGiven texts) n Na tt
 
-pub place_at : (count : ℕ) (ps : List (Option ℕ)) (k : ℕ) (p : Option ℕ) → All (IsPlaceOf count) ps → k < length ps → slice_get ps k ≡ Some p → IsPlaceOf count p
-place_at = grind (arith, get_or_from_slice_get)
+        column_given : (p o : Option ℕ) → IsPlaceOf (length own.columns) p → AreGiven texts (column count own.columns other.columns p o).cells
+        column_given (Some p) o within = search (columns_given, columns_part)
+        column_given None (Some o) within = search missing_given
+        column_given None None within = search missing_given
 
-pub wide_step : (count : ℕ) (own other : List (ColumnOf Cell)) (ps os : List (Option ℕ)) (k : ℕ) (p o : Option ℕ) (made made' : List CellBlock) (block : CellBlock) (column : CellColumn)
+pub wide_step : (count : ℕ) (own other : List (ColumnOf Cell)) (ps os : List (Option ℕ)) (k : ℕ) (p o : Option ℕ) (made made' : List CellBlock) (block : CellBlock) (c : CellColumn)
     → k < length ps → length os ≡ length ps → slice_get ps k ≡ Some p → slice_get os k ≡ Some o
-    → map block_column made ≡ columns_or_missing Na count own other (take k ps) (take k os) → made' ≡ made ++ block ∷ [] → block ≡ record { kind = column.kind; rows = length column.cells; columns = column.cells ∷ [] }
-    → table_column column ≡ column_or_missing Na count own other p o → map block_column made' ≡ columns_or_missing Na count own other (take (k + 1) ps) (take (k + 1) os)
+    → map block_column made ≡ wide count own other (take k ps) (take k os) → made' ≡ made ++ block ∷ [] → block ≡ single_block (table_column c)
+    → table_column c ≡ column count own other p o → map block_column made' ≡ wide count own other (take (k + 1) ps) (take (k + 1) os)
 wide_step _ _ _ ps os k p o _ _ _ _ lt same at at' before pushed is here =
     let place = get_or_from_slice_get ps k p None at in
     let opposite = get_or_from_slice_get os k o None at' in
     grind (arith, map-append, add-one, one_more_column)
+
+-- A Series in each row of a frame, as a frame whose columns it labels.
+
+-- the columns of cells, one more of them
+pub one_more_spread : (kind : Kind) (rows : ℕ) (cells : List Cell) (place : ℕ) (cell : Cell) (made made' : List CellBlock) (block : CellBlock) (c : CellColumn) → place < length cells → slice_get cells place ≡ Some cell
+    → map block_column made ≡ map (repeated kind rows) (take place cells) → made' ≡ made ++ block ∷ [] → block ≡ single_block (table_column c)
+    → c ≡ record { kind = kind; cells = replicate rows cell } → map block_column made' ≡ map (repeated kind rows) (take (place + 1) cells)
+one_more_spread kind rows cells place _ _ _ _ _ lt at before pushed is made_is = grind (arith, get_or_from_slice_get, map-append, map_more (repeated kind rows) cells place Na lt)
+
+-- with texts
+spread_seen_columns : (texts : List Text) (kind : Kind) (rows : ℕ) (cells : List Cell) → columns_value texts (map (repeated kind rows) cells) ≡ map (λ c. column_of_value (spread kind rows c)) (map (datum texts) cells)
+spread_seen_columns _ _ _ [] = refl
+spread_seen_columns texts kind rows (c ∷ cs) = search (map-replicate, spread_seen_columns texts kind rows cs)
+
+headings_some : (labels : List (List Label)) → HaveLevels 1 labels → All IsSome (map tuple_heading labels)
+headings_some labels alike = All-map IsSome tuple_heading labels (λ k d lt. grind (arith, one_label))
+
+frame_head : (shape : Shape) → shape ≡ Frame → (name : Option Label) (hs : List (Option Label)) → All IsSome hs → repeated_heading hs ≡ None → AreHeadings shape name hs
+frame_head = grind (arith, different)
+
+-- the kinds need no texts
+takes_seen : (op : Binary) (texts : List Text) (f s : NumberedTable) → takes_each op (table_value texts f) (table_value texts s) ≡ takes_each op f s
+takes_seen = grind (arith, list_all-map, column_seen)
+
+-- a label is one of the rows' where some rows have it
+any_rows : (p : List Label → Bool) (row : ℕ) (xs : List (List Label)) → are_some (rows_where p row xs) ≡ list_any p xs
+any_rows p _ [] = refl
+any_rows p row (x ∷ xs) = grind (arith, any_rows p (row + 1) xs)
+
+-- one column more
+module _ (kind : Kind) (labels keys : List (List Label)) (cs : List (ColumnOf Cell)) where
+  module _ (place : ℕ) (rows : List ℕ) (lt : place < length keys) (lt' : place < length cs) (is : rows ≡ slice_index_or (map (rows_with labels) keys) place []) where
+    abbrev fits : Bool
+    fits = if are_some rows then same_kind (column_at cs place).kind kind else true
+
+    abbrev fit_at : ℕ → Bool
+    fit_at k = labels_fit same_numbers kind labels (drop k keys) (drop k cs)
+
+    fits_from : fit_at place ≡ (fits && fit_at (place + 1))
+    fits_from =
+        let key = slice_index_or keys place [] in
+        let found : rows ≡ rows_where (same_numbers key) 0 labels = grind (arith, get_or-map) in
+        grind (arith, any_rows, drop-cons, add-one)
+
+    pub one_more_fits : (whole : Bool) → fits ≡ true → fit_at place ≡ whole → fit_at (place + 1) ≡ whole
+    one_more_fits _ fit before = cc fits_from
+
+    pub one_unfit : (whole : Bool) → fits ≡ false → fit_at place ≡ whole → false ≡ whole
+    one_unfit _ unfit before = cc fits_from
+
+-- with texts
+any_seen : (texts : List Text) (key : List Label) (labels : List (List Label)) → AreDistinct texts → IsSettled tuple_value texts key → All (IsSettled tuple_value texts) labels → list_any (same_tuple (tuple_value texts key)) (labels_value texts labels) ≡ list_any (same_numbers key) labels
+any_seen _ _ [] _ _ _ = refl
+any_seen texts _ (t ∷ ts) distinct here all =
+    λ j. tuple_by_number _ _ t distinct here (All-head (IsSettled tuple_value texts) t ts all) j || any_seen _ _ ts distinct here (All-tail (IsSettled tuple_value texts) t ts all) j
+
+fit_seen : (texts : List Text) (kind : Kind) (labels keys : List (List Label)) (cs : List (ColumnOf Cell)) → AreDistinct texts → All (IsSettled tuple_value texts) labels → All (IsSettled tuple_value texts) keys
+    → labels_fit same_tuple kind (labels_value texts labels) (labels_value texts keys) (columns_value texts cs) ≡ labels_fit same_numbers kind labels keys cs
+fit_seen _ _ _ [] _ _ _ _ = refl
+fit_seen _ _ _ (k ∷ ks) [] _ _ _ = refl
+fit_seen texts kind _ (k ∷ ks) (c ∷ cs) distinct all each =
+    λ j. (if any_seen _ k _ distinct (All-head (IsSettled tuple_value texts) k ks each) all j then same_kind c.kind kind else true)
+    && fit_seen _ kind _ ks cs distinct all (All-tail (IsSettled tuple_value texts) k ks each) j
+
+module _ (texts : List Text) (f s : NumberedTable) where
+  abbrev cells : List Cell
+  cells = (column_at s.columns 0).cells
+
+  abbrev kind : Kind
+  kind = (column_at s.columns 0).kind
+
+  abbrev v : Table
+  v = table_value texts f
+
+  abbrev w : Table
+  w = table_value texts s
+
+  abbrev labels : List (Option Label)
+  labels = map tuple_heading s.labels
+
+  pub spread_seen : table_value texts (spread_table f s) ≡ spread_series v w
+  spread_seen = search (column_seen, length-map, spread_seen_columns, keys_seen)
+
+  module _ (known : IsKnownTable texts f) (known' : IsKnownTable texts s) (frame : f.shape ≡ Frame) (series : s.shape ≡ Series) where
+    headings_given : IsSettled headings_value texts labels
+    headings_given = search (settled_by, keys_seen, labels_part)
+
+    pub spread_known : HaveLevels 1 s.labels → repeated_heading labels ≡ None → IsKnownTable texts (spread_table f s)
+    spread_known alike none = record {
+      whole = record {
+        headed = grind (arith, length-map);
+        filled = All-map (λ c. length c.cells ≡ length f.labels) (repeated kind (length f.labels)) cells (λ k d lt. length-replicate (length f.labels) _);
+        headings = search (frame_head, headings_some);
+      };
+      given = table_settled _ _ (columns_name_part _ f known.given) (level_names_part _ f known.given) (labels_part _ f known.given) headings_given
+          (columns_settled _ _
+          (All-map (λ c. AreGiven texts c.cells) (repeated kind (length f.labels)) cells
+          (λ k d lt. All-replicate (IsGiven texts) (length f.labels) _ (series_given _ s known'.whole series known'.given k d lt))));
+    }
+
+    module _ (distinct : AreDistinct texts) where
+      -- unless a label stands twice, by numbers
+      frame_by : (found : Option Label) → repeated_heading labels ≡ found → spread_frame v w ≡ unless_repeated (heading_value texts found) (limited_table (spread_series v w))
+      frame_by _ is = cc (keys_seen texts s.labels, repeated_seen texts labels distinct headings_given)
+
+      pub spread_refused : (fault : OpFault) → NamesRepeated fault (repeated_heading labels) → MakesBy table_value texts (Err fault) (spread_frame v w)
+      spread_refused (Refused code) named = (
+        frame_by _ named.1 ∙ ap (λ c. Err (fault_of texts c)) (sym named.2),
+        search (repeated_settled, headings_given),
+      )
+      spread_refused NoMemory _ = tt
+
+      -- within the limits, and beyond them
+      many : length (spread_series v w).columns ≡ length s.labels
+      many = grind (arith, length-map, column_seen)
+
+      limited_by : (b : Bool) → repeated_heading labels ≡ None → within_limits (length f.labels) (length s.labels) ≡ b → spread_frame v w ≡ (if b then Ok (spread_series v w) else Err limit)
+      limited_by _ none within = grind (arith, length-map, many, frame_by None none)
+
+      pub spread_made : repeated_heading labels ≡ None → within_limits (length f.labels) (length s.labels) ≡ true → spread_frame v w ≡ Ok (table_value texts (spread_table f s))
+      spread_made none within = limited_by _ none within ∙ ap Ok (sym spread_seen)
+
+      pub spread_beyond : repeated_heading labels ≡ None → within_limits (length f.labels) (length s.labels) ≡ false → spread_frame v w ≡ Err limit
+      spread_beyond none within = limited_by _ none within
+
+  -- A frame and a Series of other labels than its columns.
+  module _ (op : Binary) (left : Bool) where
+    abbrev met : Result Entry FaultValue
+    met = then_value (spread_frame v w) (joined_turned op left v)
+
+    abbrev rest : Bool → Bool → Result Entry FaultValue
+    rest fit compared = if fit then (if compared then Err (bad_value not_aligned) else met) else Err wrong_kind
+
+    abbrev fit_meant : Bool
+    fit_meant = labels_fit same_tuple (column_at w.columns 0).kind w.labels (column_labels v) v.columns
+
+    fit_is : AreDistinct texts → IsSettled table_value texts f → IsSettled table_value texts s → fit_meant ≡ labels_fit same_numbers kind s.labels (map heading_tuple f.headings) f.columns
+    fit_is distinct given given' =
+        (λ i. labels_fit same_tuple (column_seen texts s.columns 0 i).kind w.labels (tuples_seen texts f.headings i) v.columns)
+        ∙ fit_seen _ _ _ _ _ distinct (tuples_settled _ _ (labels_part _ s given')) (tuples_settled _ _ (labels_given _ f refl _ given))
+
+    pub by_tests : (k l : Bool) → takes_each op f s ≡ k → nat_eq (length s.level_names) 1 ≡ l → across_unequal op left v w ≡ on_levels k l (rest fit_meant (compares op))
+    by_tests = grind (arith, takes_seen, levels_one)
+
+    pub by_labels : (fit compared : Bool) → takes_each op f s ≡ true → length s.level_names ≡ 1 → AreDistinct texts → IsSettled table_value texts f → IsSettled table_value texts s
+        → fit ≡ labels_fit same_numbers kind s.labels (map heading_tuple f.headings) f.columns → compares op ≡ compared → across_unequal op left v w ≡ rest fit compared
+    by_labels _ _ kinds one distinct given given' is compared = cc (by_tests true true kinds (grind (arith, nat_tests)), fit_is distinct given given')

@@ -1,19 +1,17 @@
 -- The labels of columns as labels of rows.
 use Rattle.{
-  std.proofs.{Common.{arith, ◌≡◌, refl, pos, List, [], ◌∷◌, map, length, Option, unwrap_or}, lemmas.List.Elements.{All-map}},
+  std.proofs.{Common.{arith, ◌≡◌, pos, List, [], ◌∷◌, map, length, Option, unwrap_or}, lemmas.List.Elements.{All-map}},
   cell_core.specs.declared.cell.Label.{Label},
   meaning.specs.{Text.{Text}, Cell.{LabelValue, int}},
   multi_index.specs.Axes.{HaveLevels},
   table_meaning.specs.Table.{heading_value, tuple_value},
   frame_store.specs.Shown.{labels_value, headings_value},
+  column_core.proofs.CellRows.{map-map},
   label_methods.specs.Labels.{column_tuple},
 }
 
-single : (h : Option Label) → length (column_tuple h) ≡ 1
-single = grind arith
-
 pub tuples_alike : (hs : List (Option Label)) → HaveLevels 1 (map column_tuple hs)
-tuples_alike hs = All-map (λ tuple. length tuple ≡ 1) column_tuple hs (λ k d lt. single _)
+tuples_alike hs = All-map (λ tuple. length tuple ≡ 1) column_tuple hs (λ k d lt. grind arith)
 
 -- the label of a column as a tuple, with texts
 abbrev pub label_tuple : Option LabelValue → List LabelValue
@@ -23,5 +21,4 @@ tuple_seen : (texts : List Text) (h : Option Label) → label_tuple (heading_val
 tuple_seen = grind arith
 
 pub tuples_seen : (texts : List Text) (hs : List (Option Label)) → map label_tuple (headings_value texts hs) ≡ labels_value texts (map column_tuple hs)
-tuples_seen _ [] = refl
-tuples_seen texts (h ∷ hs) = λ j. tuple_seen texts h j ∷ tuples_seen texts hs j
+tuples_seen texts hs = simp (map-map, tuple_seen)

@@ -1,6 +1,6 @@
 -- Laws that the goals of functions want, by the name of the first that does.
 use Rattle.{
-  label_methods.proofs.{ResetTableLaws.{renumbered_beyond, range_rows, reset_refused, reset_some, reset_made, parts_repeated, parts_beyond}, SectionLaws.{section_missing, section_beyond}, IndexingLaws.{rows_alike, single_column}, LevelMoveLaws.{swapped_seen, swapped_settled, dropped_seen, level_stays, dropped_settled}, ReindexLaws.{one_more_or_missing, own_labels_given, columns_refused, columns_repeated, columns_beyond, rows_made, rows_whole}, UnderLaws.{one_more_column, one_more_single, whole_under}},
+  label_methods.proofs.{ResetLaws.{renumbered_beyond, range_rows, reset_refused, reset_some, reset_made, parts_repeated, parts_beyond}, LevelMoveLaws.{section_missing, section_beyond, swapped_seen, swapped_settled, dropped_seen, level_stays, dropped_settled}, IndexingLaws.{rows_alike, single_column}, ReindexLaws.{own_labels_given, columns_refused, columns_repeated, columns_beyond, rows_made, rows_whole, one_more_column, one_more_single, whole_under}},
   selections.proofs.{RefusalLaws.{no_key_settled}, PlaceLaws.{place_passed}, PickedLaws.{places_inside}},
   pick_meaning.proofs.InsideLaws.{rows_inside},
   std.proofs.lemmas.{Option.{get_or_from_slice_get}, List.{length-map}, Result.{err_from_is_err_and}},
@@ -21,7 +21,7 @@ pub ruleset without_level = (dropped_seen, level_stays, dropped_settled)
 
 pub ruleset subset_places = (length-map, places_inside)
 
-pub ruleset columns_or_missing = (one_more_or_missing, single_on)
+pub ruleset columns_or_missing = (one_more_column, single_on)
 
 pub ruleset columns_reindexed = (own_labels_given, err_from_is_err_and, columns_refused, columns_repeated, columns_beyond)
 

@@ -1,16 +1,16 @@
 -- Columns as the labels of the rows.
 use Rattle.{
-  std.{proofs.{Common.{◌≡◌, refl, sym, arith, ℕ, zero, suc, ◌+◌, ◌<◌, ◌≤◌, true, false, List, [], ◌∷◌, ◌++◌, map, length, take, get_or, slice_index_or, All, Option, Some, None, Ok, Err}, Math.ListN.{get_or-map}, lemmas.{Bool.Decides.{nat_tests}, List.{length-map, map-append, take_more, ext_get_or, FromFn.{length-range_with_len, length-map-range_with_len, get_or-map-range_with_len}, Elements.{All-map}}, Option.{get_or_from_slice_get}}}, specs.{Prelude.{filter, slice_get, IsSome}, List.{range_with_len}}},
+  std.{proofs.{Common.{zero, suc, ◌≡◌, refl, sym, arith, ℕ, ◌+◌, ◌<◌, ◌≤◌, true, false, List, [], ◌∷◌, ◌++◌, map, length, take, get_or, slice_index_or, All, Option, Some, None, Ok, Err}, Math.ListN.{get_or-map}, lemmas.{Bool.Decides.{nat_tests}, List.{length-map, map-append, take_more, ext_get_or, FromFn.{length-range_with_len, length-map-range_with_len, get_or-map-range_with_len}, Elements.{All-map}}, Option.{get_or_from_slice_get}}}, specs.{Prelude.{filter, slice_get, IsSome}, List.{range_with_len}}},
   cell_core.specs.{Texts.{AreDistinct}, declared.{cell.{Cell.{Cell}, Label.{Label}}, grid.Shape.TheVariants.{Frame}}},
-  column_core.specs.Blocks.{CellBlock},
+  column_core.proofs.CellRows.{map-map},
   meaning.specs.{Cell.{na_cell, datum}, Fault.{limit}, Operator.{cell_label}, Text.{Text}},
   multi_index.specs.Axes.{AxisValue, HaveLevels, single_tuples},
   table_meaning.specs.{Settled.{IsSettled}, Table.{ColumnOf, NumberedTable, Table, column_at, table_value, heading_value, tuple_value, column_value}, Valid.{IsWhole}},
   form_meaning.specs.{Finish.{within_limits, limited, unless_repeated}, Select.{heading_at}},
   form_parts.specs.Labels.{label_of},
   method_meaning.specs.{Rows.{cells_by_row, places_besides}, Levels.{on_levels, indexed_by, index_set}},
-  frame_store.{specs.{declared.fault.OpFault.{OpFault, TheVariants.{Refused, NoMemory}}, Parts.{HeadingList, columns_of, AreColumnsOf, table_with}, Shown.{labels_value, headings_value, Makes}}, proofs.Settling.{settled_by, headings_part}},
-  selections.{specs.{Across.{cell_across}, Headings.{NamesRepeated, repeated_heading}, Selected.{heading_of, headings_at}}, proofs.{AnswerLaws.{column_seen}, HeadingLaws.{repeated_seen, different}, PickedLaws.{one_more_place}, KeyLaws.{label_seen}, PlanLaws.{only_place}, PlaceLaws.{heading_seen, heading_settled}, RefusalLaws.{repeated_settled}}},
+  frame_store.{specs.{declared.fault.OpFault.{OpFault, TheVariants.{Refused, NoMemory}}, Parts.{HeadingList, AreColumnsOf, table_with}, Shown.{labels_value, headings_value, Makes}}, proofs.Settling.{settled_by, headings_part}},
+  selections.{specs.{Across.{cell_across}, Headings.{NamesRepeated, repeated_heading}, Selected.{heading_of, headings_at}}, proofs.{AnswerLaws.{column_seen}, HeadingLaws.{repeated_seen, different}, PickedLaws.{one_more_place}, KeyLaws.{label_seen}, PlanLaws.{only_place}, PlaceLaws.{heading_seen}, RefusalLaws.{repeated_settled}}},
   label_methods.{specs.Levels.{row_labels}, proofs.{RowLaws.{cells_in, by_rows}, NamedLaws.{is_other, others_meant}}},
 }
 use Rattle.cell_core.specs.declared.cell.Cell.TheVariants as cell
@@ -19,8 +19,7 @@ cell_seen : (texts : List Text) (t : NumberedTable) (row place : ℕ) → datum 
 cell_seen texts t row place = cc (get_or-map (datum texts) (column_at t.columns place).cells row cell.Na, column_seen texts t.columns place)
 
 row_seen : (texts : List Text) (t : NumberedTable) (places : List ℕ) (row : ℕ) → tuple_value texts (row_labels t places row) ≡ map cell_label (cells_in (table_value texts t) places row)
-row_seen _ t [] _ = refl
-row_seen texts t (p ∷ ps) row = search (label_seen, cell_seen, row_seen texts t ps row)
+row_seen texts t places row = simp (map-map, label_seen, cell_seen)
 
 rows_seen : (texts : List Text) (t : NumberedTable) (places rows : List ℕ) → labels_value texts (map (row_labels t places) rows) ≡ map (map cell_label) (map (cells_in (table_value texts t) places) rows)
 rows_seen _ t _ [] = refl
@@ -37,8 +36,7 @@ headings_seen _ t [] = refl
 headings_seen texts t (p ∷ ps) = search (heading_seen, headings_seen texts t ps)
 
 pub headings_settled : (texts : List Text) (t : NumberedTable) (places : List ℕ) → IsSettled headings_value texts t.headings → IsSettled headings_value texts (headings_at t places)
-headings_settled _ t [] _ = λ more. refl
-headings_settled _ t (p ∷ ps) settled = λ more j. heading_settled _ _ p _ refl settled more j ∷ headings_settled _ t ps settled more j
+headings_settled texts t places = settled_by headings_value headings_value (λ hs. map (λ place. slice_index_or hs place None) places) texts t.headings (headings_at t places) (λ ts. sym (headings_seen ts t places))
 
 columns_seen : (texts : List Text) (t : NumberedTable) (places : List ℕ) → map (column_value texts) (map (column_at t.columns) places) ≡ map (column_at (table_value texts t).columns) places
 columns_seen _ t [] = refl
@@ -82,21 +80,16 @@ column_rows t kept whole below = All-map (λ c. length c.cells ≡ length t.labe
 pub labelled : (t : NumberedTable) (kept : List ℕ) → All IsSome t.headings → All (λ place. place < length t.headings) kept → All IsSome (headings_at t kept)
 labelled t kept some below = All-map IsSome (heading_of t) kept (λ k d lt. some _ _ (below k d lt))
 
--- all of this, by what the code made
-module _ (t : NumberedTable) (axis : AxisValue) (headings : HeadingList) (blocks : List CellBlock) (places kept : List ℕ) (axis_is : axis ≡ index_axis t places) (headed : headings ≡ kept_headings t kept) (columns : columns_of blocks ≡ map (column_at t.columns) kept) where
-  pub made_index : table_with Frame axis headings (columns_of blocks) ≡ index_table t places kept
-  made_index = search
-
-  pub index_whole : IsWhole t → t.shape ≡ Frame → AreColumnsOf t kept → repeated_heading (headings_at t kept) ≡ None → IsWhole (table_with Frame axis headings (columns_of blocks))
-  index_whole = grind (arith, length-map, length-range_with_len, labelled, made_index, column_rows, different)
-
-pub kept_meant : (t : NumberedTable) (places kept : List ℕ) (count : ℕ) → kept ≡ filter (is_other places) (range_with_len 0 count) → count ≡ length t.columns → (texts : List Text) → kept ≡ places_besides (table_value texts t) places
-kept_meant t _ _ _ is same texts = search (others_meant texts)
+pub index_whole : (t : NumberedTable) (places kept : List ℕ) → IsWhole t → t.shape ≡ Frame → AreColumnsOf t kept → repeated_heading (headings_at t kept) ≡ None → IsWhole (index_table t places kept)
+index_whole = grind (arith, length-map, length-range_with_len, labelled, column_rows, different)
 
 -- what is meant, by the headings that stand again
-module _ (texts : List Text) (t : NumberedTable) (places kept : List ℕ) (distinct : AreDistinct texts) (settled : IsSettled table_value texts t) (besides : (texts : List Text) → kept ≡ places_besides (table_value texts t) places) where
+module _ (texts : List Text) (t : NumberedTable) (places kept : List ℕ) (distinct : AreDistinct texts) (settled : IsSettled table_value texts t) (count : ℕ) (is_kept : kept ≡ filter (is_other places) (range_with_len 0 count)) (same : count ≡ length t.columns) where
   abbrev T : Table
   T = table_value texts t
+
+  besides : (texts : List Text) → kept ≡ places_besides (table_value texts t) places
+  besides texts = search (others_meant texts)
 
   index_is : (found : Option Label) → repeated_heading (headings_at t kept) ≡ found → index_set T places ≡ unless_repeated (heading_value texts found) (on_levels (length places) (limited (indexed_by T places)))
   index_is found is = cc (besides texts, headings_seen texts t kept, repeated_seen texts (headings_at t kept) distinct (headings_settled texts t kept (headings_part texts t settled)))
@@ -105,27 +98,15 @@ module _ (texts : List Text) (t : NumberedTable) (places kept : List ℕ) (disti
   index_repeated (Refused code) named = grind (arith, index_is _ named.1, repeated_settled, headings_settled, headings_part)
   index_repeated NoMemory named = tt
 
-  index_rows : length (indexed_by T places).labels ≡ length t.labels
-  index_rows = search (length-map, length-range_with_len)
-
-  index_columns : length (indexed_by T places).columns ≡ length kept
-  index_columns = grind (arith, length-map, besides texts)
-
   module _ (none : repeated_heading (headings_at t kept) ≡ None) where
     -- beyond the limits, of levels or of cells
-    pub without_level : length places ≡ 0 → index_set T places ≡ Err limit
-    without_level = grind (arith, nat_tests, index_is None none)
-
-    pub beyond_levels : 4 < length places → index_set T places ≡ Err limit
-    beyond_levels = grind (arith, nat_tests, index_is None none)
-
-    pub beyond_cells : within_limits (length t.labels) (length kept) ≡ false → index_set T places ≡ Err limit
-    beyond_cells = grind (arith, index_is None none, index_rows, index_columns)
+    pub index_beyond : (1 ≤ length places → length places ≤ 4 → within_limits (length t.labels) (length kept) ≡ false) → index_set T places ≡ Err limit
+    index_beyond = grind (arith, nat_tests, index_is None none, length-map, length-range_with_len, besides texts)
 
     pub index_made : (made : NumberedTable) → t.shape ≡ Frame → 1 ≤ length places → length places ≤ 4 → within_limits (length t.labels) (length kept) ≡ true → made ≡ index_table t places kept → Makes texts (Ok made) (index_set T places)
-    index_made _ frame some few within is = (
-      grind (arith, nat_tests, index_is None none, index_rows, index_columns, index_seen texts t places kept frame (besides texts)),
-      rw is (settled_by table_value table_value (λ v. indexed_by v places) _ t _ (λ ts. sym (index_seen ts t _ _ frame (besides ts))) settled),
+    index_made made frame some few within is = (
+      grind (arith, nat_tests, index_is None none, length-map, length-range_with_len, index_seen texts t places kept frame (besides texts)),
+      λ more. cc (is, index_seen (texts ++ more) t places kept frame (besides (texts ++ more)), index_seen texts t places kept frame (besides texts), settled more),
     )
 
 -- the label of a row in one column

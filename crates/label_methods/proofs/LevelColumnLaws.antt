@@ -1,6 +1,6 @@
 -- The labels of a level as the cells of a column, row by row.
 use Rattle.{
-  std.{proofs.{Common.{◌≡◌, subst, ℕ, zero, suc, ◌+◌, ◌<◌, List, [], ◌∷◌, ◌++◌, map, drop, length, slice_index_or, slice_get, Option, Some, append-nil, arith}, Math.Seq.{drop-cons}, lemmas.{List.{length-map, map-append, FromFn.{length-range_with_len, get_or-range_with_len}}, Option.{get_or_from_slice_get}}}, specs.{Prelude.{Result, Ok, Err, unwrap_or}, List.{range_with_len}, Option.{option_and_then}}},
+  std.{proofs.{Common.{subst, ◌≡◌, ℕ, zero, suc, ◌+◌, ◌<◌, List, [], ◌∷◌, ◌++◌, map, drop, length, slice_index_or, slice_get, Option, Some, append-nil, arith, append_assoc, Result, Ok, Err}, Math.Seq.{drop-cons}, lemmas.{List.{length-map, map-append, FromFn.{length-range_with_len, get_or-range_with_len}}, Option.{get_or_from_slice_get}}}, specs.{Prelude.{Result, Ok, Err, unwrap_or}, List.{range_with_len}, Option.{option_and_then}}},
   cell_core.specs.declared.cell.{Cell.{Cell}, Kind.{Kind, TheVariants.{Int64}}, Label.{Label, TheVariants.{Na}}},
   meaning.specs.{Text.{Text}, Cell.{CellValue, datum}, Fault.{FaultValue}},
   column_core.specs.{Blocks.{CellBlock}, Columns.{CellColumn}},
@@ -9,8 +9,13 @@ use Rattle.{
   form_meaning.specs.{Finish.{try_all}, Set.{first_kind}},
   form_parts.specs.Makes.{MakesBy, blocks_value},
   frame_store.specs.{Parts.{single_block, table_column}, Shown.{cells_value}, declared.fault.OpFault.{OpFault}},
-  label_methods.{specs.{Columns.{seen_column, with_front}, LevelColumns.{cell_of, level_cells, held_after, held_column, GetsCell, RefusesCell, level_column, level_columns}}, proofs.{Lists.{drop_next, drop_all}, FrontLaws.{front_next}}},
+  label_methods.{specs.{Columns.{seen_column, with_front}, LevelColumns.{cell_of, level_cells, held_after, held_column, GetsCell, RefusesCell, level_column, level_columns}}, proofs.Lists.{drop_next, drop_all}},
 }
+
+-- one item more is made
+pub front_next : {A B : Type 0} (f : A → Result B FaultValue) (made : List B) (x : A) (y : B) (xs : List A) (whole : Result (List B) FaultValue)
+    → with_front made (try_all f (x ∷ xs)) ≡ whole → f x ≡ Ok y → with_front (made ++ y ∷ []) (try_all f xs) ≡ whole
+front_next = grind (arith, append_assoc)
 
 cell_is : (tuples : List (List Label)) (row level : ℕ) (l : Label) → option_and_then (λ tuple. slice_get tuple level) (slice_get tuples row) ≡ Some l
     → slice_get (map (λ tuple. cell_of (slice_index_or tuple level Na)) tuples) row ≡ Some (cell_of l)

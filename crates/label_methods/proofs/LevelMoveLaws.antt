@@ -1,14 +1,21 @@
--- Levels that go, or change places with one another.
+-- Levels that go, or change places with one another, and rows by their label on one level.
 use Rattle.{
-  std.{proofs.{Common.{◌≡◌, refl, sym, ℕ, ◌≤◌, List, [], ◌∷◌, map, length, Option, Some, None, arith}, Math.ListN.{get_or-map}, lemmas.{Bool.Decides.{nat_tests}, List.{length-map, map-set}}}, specs.{Prelude.{IfSome, remove, swap}, Option.{option_map}}},
-  cell_core.specs.{Texts.{IsGiven}, declared.cell.{Cell.{Cell}, Label.{Label}}},
-  meaning.specs.{Text.{Text}, Cell.{datum}},
-  multi_index.specs.Axes.{AxisValue, without_level, with_swapped},
-  table_meaning.specs.{Change.{with_labels}, Settled.{IsSettled}, Table.{NumberedTable, table_value}, Value.{scalar_in}},
-  form_meaning.specs.Finish.{limited},
-  method_meaning.specs.Levels.{level_dropped, level_gone, levels_swapped},
-  frame_store.{specs.{Arguments.{arguments_of}, Objects.{Tables}, Parts.{axis_of}, Shown.{labels_value}}, proofs.{ColumnLaws.{map-remove}, Settling.{settled_by, cell_given}}},
+  std.{proofs.{Common.{ap, ◌≡◌, refl, sym, ℕ, ◌≤◌, List, [], ◌∷◌, map, length, Option, Some, None, arith, ◌∙◌, ◌++◌, true, false, slice_index_or, Ok, Err}, Math.ListN.{get_or-map}, lemmas.{Bool.Decides.{nat_tests}, List.{length-map, map-set, FromFn.{length-range_with_len}, Elements.{All-map}}}}, specs.{Prelude.{IfSome, remove, swap, ◌≢◌}, Option.{option_map}, List.{range_with_len}}},
+  cell_core.specs.{Texts.{IsGiven, AreDistinct}, declared.cell.{Cell.{Cell}, Label.{Label, TheVariants.{Na}}}},
+  meaning.specs.{Text.{Text}, Cell.{datum, LabelValue, na, label_datum}, Fault.{no_key, limit}},
+  multi_index.specs.Axes.{AxisValue, without_level, with_swapped, taken_axis, tuples_at},
+  table_meaning.specs.{Change.{with_labels}, Settled.{IsSettled}, Table.{NumberedTable, table_value, Table, column_at, tuple_value}, Value.{scalar_in}, Valid.{IsWhole}},
+  form_meaning.specs.{Binding.{same_label}, Finish.{limited, within_limits}},
+  method_meaning.specs.{Levels.{level_dropped, level_gone, levels_swapped}, Section.{has_label, rows_with_label, section}},
+  frame_store.{specs.{Arguments.{arguments_of}, Objects.{Tables}, Parts.{axis_of, headings_of}, Shown.{labels_value, Makes}}, proofs.{ColumnLaws.{map-remove}, Settling.{settled_by, cell_given, labels_part}}},
   signatures.{specs.{Bound.{Tells}, declared.bound.Bound.{Bound}}, proofs.ToldLaws.{told_settled, some_same}},
+  column_core.proofs.CellRows.{map-map},
+  row_keys.specs.Keys.{label_in},
+  pick_meaning.{specs.{Labels.{unless_none}, Rows.{rows_where}}, proofs.RowLaws.{rows_where-map}},
+  form_parts.proofs.{LabelLaws.{same_by_number}, RowLaws.{tuples_settled}},
+  select_meaning.specs.{Keys.{found_pick}, Select.{rows_taken}},
+  selections.{specs.Chosen.{chosen, cells_at}, proofs.{HeadingLaws.{label_decides}, TakenLaws.{chosen_rows}}},
+  label_methods.specs.Section.{has_number, section_of},
 }
 
 -- the texts of an argument were given
@@ -17,37 +24,85 @@ option_given b _ None _ _ _ _ = tt
 option_given b _ (Some c) _ _ tells settled = cell_given _ c (λ more. some_same _ _ (told_settled b _ scalar_in (λ _ ts. Some (datum ts c)) _ _ tells settled more))
 
 -- what is made of a list, item by item
-
 map-swap : {X Y : Type 0} (f : X → Y) (xs : List X) (i j : ℕ) → map f (swap xs i j) ≡ swap (map f xs) i j
 map-swap = grind (arith, map-set, get_or-map)
 
 each_removed : (texts : List Text) (tuples : List (List Label)) (level : ℕ) → labels_value texts (map (λ tuple. remove tuple level) tuples) ≡ map (λ tuple. remove tuple level) (labels_value texts tuples)
-each_removed _ [] _ = refl
-each_removed texts (t ∷ ts) level = search (map-remove, each_removed texts ts level)
+each_removed texts tuples level = simp (map-map, map-remove)
 
 each_swapped : (texts : List Text) (tuples : List (List Label)) (a b : ℕ) → labels_value texts (map (λ tuple. swap tuple a b) tuples) ≡ map (λ tuple. swap tuple a b) (labels_value texts tuples)
-each_swapped _ [] a b = refl
-each_swapped texts (t ∷ ts) a b = search (map-swap, each_swapped texts ts a b)
+each_swapped texts tuples a b = simp (map-map, map-swap)
 
 -- the table without a level
 pub dropped_seen : (texts : List Text) (t : NumberedTable) (axis : AxisValue) (level : ℕ) → axis ≡ without_level (axis_of t) level → table_value texts (with_labels t axis.tuples axis.names) ≡ level_dropped (table_value texts t) level
 dropped_seen = grind (arith, each_removed, map-remove)
 
 pub dropped_settled : (texts : List Text) (t : NumberedTable) (axis : AxisValue) (level : ℕ) → axis ≡ without_level (axis_of t) level → IsSettled table_value texts t → IsSettled table_value texts (with_labels t axis.tuples axis.names)
-dropped_settled _ t _ level is settled =
-    settled_by table_value table_value (λ v. level_dropped v level) _ t _ (λ ts. sym (dropped_seen ts t _ _ is)) settled
+dropped_settled texts t axis level is settled = λ more. cc (dropped_seen (texts ++ more) t axis level is, dropped_seen texts t axis level is, settled more)
 
 -- another level stays, or none does
-levels_counted : (texts : List Text) (t : NumberedTable) → length (table_value texts t).level_names ≡ length t.level_names
-levels_counted = search length-map
-
 pub level_stays : (texts : List Text) (t : NumberedTable) (level : ℕ) → 2 ≤ length t.level_names → level_gone (table_value texts t) level ≡ limited (level_dropped (table_value texts t) level)
-level_stays = grind (arith, levels_counted, nat_tests)
+level_stays = grind (arith, length-map, nat_tests)
 
 -- the table with two levels exchanged
 pub swapped_seen : (texts : List Text) (t : NumberedTable) (axis : AxisValue) (a b : ℕ) → axis ≡ with_swapped (axis_of t) a b → table_value texts (with_labels t axis.tuples axis.names) ≡ levels_swapped (table_value texts t) a b
 swapped_seen = grind (arith, each_swapped, map-swap)
 
 pub swapped_settled : (texts : List Text) (t : NumberedTable) (axis : AxisValue) (a b : ℕ) → axis ≡ with_swapped (axis_of t) a b → IsSettled table_value texts t → IsSettled table_value texts (with_labels t axis.tuples axis.names)
-swapped_settled _ t _ a b is settled =
-    settled_by table_value table_value (λ v. levels_swapped v a b) _ t _ (λ ts. sym (swapped_seen ts t _ a b is)) settled
+swapped_settled texts t axis a b is settled = λ more. cc (swapped_seen (texts ++ more) t axis a b is, swapped_seen texts t axis a b is, settled more)
+
+module _ (texts : List Text) where
+  -- the label of a level, with its text
+  label_there : (tuple : List Label) (level : ℕ) → slice_index_or (tuple_value texts tuple) level na ≡ label_datum texts (label_in level tuple)
+  label_there tuple level = get_or-map (label_datum texts) tuple level Na
+
+module _ (texts : List Text) (distinct : AreDistinct texts) (l : Label) (given : IsSettled label_datum texts l) (level : ℕ) where
+  label_given : (tuple : List Label) → IsSettled tuple_value texts tuple → IsSettled label_datum texts (label_in level tuple)
+  label_given tuple settled = λ more. cc (label_there (texts ++ more) tuple level, label_there texts tuple level, settled more)
+
+  has_seen : (tuple : List Label) → IsSettled tuple_value texts tuple → has_label level (label_datum texts l) (tuple_value texts tuple) ≡ has_number level l tuple
+  has_seen tuple settled =
+      ap (same_label (label_datum texts l)) (label_there _ tuple _)
+      ∙ sym (search (same_by_number, label_given, label_decides))
+
+  -- the rows that have a label are those that have its number
+  pub rows_by_number : (tuples : List (List Label)) → IsSettled labels_value texts tuples → rows_where (has_label level (label_datum texts l)) 0 (labels_value texts tuples) ≡ rows_where (has_number level l) 0 tuples
+  rows_by_number _ settled = rows_where-map _ _ _ _ has_seen 0 _ (tuples_settled _ _ settled)
+
+-- the table of some rows without a level, with texts
+section_seen : (texts : List Text) (t : NumberedTable) (rows : List ℕ) (level : ℕ) → table_value texts (section_of t rows level) ≡ level_dropped (rows_taken (table_value texts t) rows) level
+section_seen texts t rows level =
+    let all = range_with_len 0 (length t.columns) in
+    cc (dropped_seen texts (chosen t.shape (headings_of t) rows all t) (without_level (taken_axis (axis_of t) rows) level) level refl, chosen_rows texts (headings_of t) rows all t refl refl)
+
+pub section_whole : (t : NumberedTable) (rows : List ℕ) (level : ℕ) → IsWhole t → IsWhole (section_of t rows level)
+section_whole t rows level whole =
+    let tuples = tuples_at t.labels rows in
+    record {
+      headed = search (length-map, length-range_with_len);
+      filled = All-map (λ c. length c.cells ≡ length (map (λ tuple. remove tuple level) tuples)) (λ place. cells_at rows (column_at t.columns place)) (range_with_len 0 (length _)) (λ k d lt. grind (arith, length-map));
+      headings = whole.headings;
+    }
+
+-- what is meant, by the rows that are found
+module _ (texts : List Text) (distinct : AreDistinct texts) (t : NumberedTable) (l : Label) (level : ℕ) (rows : List ℕ) (given : IsSettled label_datum texts l) (settled : IsSettled table_value texts t) (is : rows ≡ rows_where (has_number level l) 0 t.labels) where
+  abbrev V : Table
+  V = table_value texts t
+
+  abbrev key : LabelValue
+  key = label_datum texts l
+
+  found : rows_with_label V key level ≡ found_pick (unless_none (key ∷ []) rows)
+  found = grind (arith, rows_by_number, labels_part)
+
+  pub section_missing : length rows ≡ 0 → section V key level ≡ Err (no_key (key ∷ []))
+  section_missing = grind (arith, found)
+
+  meant : length rows ≢ 0 → section V key level ≡ limited (level_dropped (rows_taken V rows) level)
+  meant = grind (arith, found)
+
+  pub section_beyond : length rows ≢ 0 → within_limits (length rows) (length t.columns) ≡ false → section V key level ≡ Err limit
+  section_beyond = grind (arith, meant, length-map)
+
+  pub section_answer : (made : NumberedTable) → length rows ≢ 0 → within_limits (length rows) (length t.columns) ≡ true → made ≡ section_of t rows level → Makes texts (Ok made) (section V key level)
+  section_answer _ some within same = grind (arith, meant, length-map, section_seen, settled_by)

@@ -1,10 +1,9 @@
 -- Names of levels that an argument is.
 use Rattle.{
-  std.proofs.Common.{arith, ◌≡◌, ◌∙◌, ap, sym, ℕ, List, [], ◌∷◌, ◌++◌, Option, None, option_map},
+  std.proofs.Common.{arith, ◌≡◌, ℕ, List, [], ◌∷◌, ◌++◌, Option, None, option_map},
   cell_core.specs.declared.cell.Label.{Label},
   meaning.specs.{Operator.{cell_label}, Text.{Text}},
   table_meaning.specs.{Table.{heading_value}, Value.{Given, scalar_in, list_in}, Settled.{IsSettled}},
-  form_meaning.specs.Binding.{argument_at},
   method_meaning.specs.Levels.{names_in},
   frame_store.specs.{Objects.{Tables}, Arguments.{arguments_of}, Shown.{headings_value}},
   signatures.specs.{Bound.{stands_at}, declared.bound.Bound.{Bound}},
@@ -18,5 +17,4 @@ single_name = grind arith
 -- names that were given
 pub names_given : (b : Bound) (place : ℕ) (names : List (Option Label)) (live : Tables) (texts : List Text) → ((live : Tables) (texts : List Text) → headings_value texts names ≡ names_in (stands_at live texts b place))
     → IsSettled (arguments_of live) texts b.args.now → IsSettled headings_value texts names
-names_given b place _ live texts told settled = λ more.
-    told live (texts ++ more) ∙ ap (λ gs. names_in (argument_at b.parameters.now gs place)) (settled more) ∙ sym (told live texts)
+names_given b place _ live texts told settled = λ more. cc (told live (texts ++ more), settled more, told live texts)

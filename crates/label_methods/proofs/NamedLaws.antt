@@ -1,31 +1,18 @@
 -- Columns that an argument names, and a frame without them.
 use Rattle.{
   std.{proofs.{Common.{◌≡◌, append-nil, refl, arith, ℕ, ◌+◌, ◌<◌, Bool, true, false, nat_eq, List, [], ◌∷◌, length, take, set, slice_get, All, Some, Result}, lemmas.{Bool.Decides.{nat_tests}, List.{length-map, length-set, take_more, get_or-set_same, get_or-set_other, Elements.{All-filter, filter-append}, Folds.{list_any-append}}, Option.{get_or_from_slice_get}}}, specs.{Prelude.{not, filter}, List.{list_any, range_with_len}}},
-  meaning.specs.{Text.{Text}, Cell.{CellValue}, Operator.{cell_label}, Fault.{FaultValue}},
-  table_meaning.specs.{Table.{NumberedTable, Table, table_value}, Value.{Given, GivenList, scalar_in, list_in}},
-  form_meaning.specs.Select.{labels_of},
-  method_meaning.specs.Rows.{labels_in, all_places, places_besides},
+  meaning.specs.{Text.{Text}, Fault.{FaultValue}},
+  table_meaning.specs.Table.{NumberedTable, Table, table_value},
+  method_meaning.specs.Rows.{all_places, places_besides},
   frame_store.specs.declared.fault.OpFault.{OpFault},
   selections.proofs.PickedLaws.{one_more_place, places_inside},
-  signatures.proofs.ToldLaws.{some_same},
   label_methods.specs.Named.{FindsPlaces, AreMarks},
 }
 
--- another wording of what is meant
-pub found_so : (texts : List Text) (t : NumberedTable) (r : Result (List ℕ) OpFault) (meant meant' : Result (List ℕ) FaultValue) → meant ≡ meant' → FindsPlaces texts t r meant → FindsPlaces texts t r meant'
-found_so = grind arith
-
--- and another name of the table
+-- another name of the table, and another wording of what is meant
 pub found_at : (texts : List Text) (source t : NumberedTable) (r : Result (List ℕ) OpFault) (meant : Table → Result (List ℕ) FaultValue) (meant' : Result (List ℕ) FaultValue) → source ≡ t → meant (table_value texts t) ≡ meant'
     → FindsPlaces texts source r (meant (table_value texts source)) → FindsPlaces texts t r meant'
-found_at = grind (arith, found_so)
-
--- the labels that an argument names
-pub label_named : (g : Given) (c : CellValue) → Some c ≡ scalar_in g → cell_label c ∷ [] ≡ labels_in g
-label_named = grind (arith, some_same)
-
-pub labels_named : (g : Given) (parts : GivenList) → Some parts ≡ list_in g → labels_of parts ≡ labels_in g
-labels_named = grind (arith, some_same)
+found_at = grind arith
 
 -- marks of places
 pub marks_more : (marks marks' : List Bool) (limit k place : ℕ) (places : List ℕ) → AreMarks marks limit (take k places) → k < length places → slice_get places k ≡ Some place → place < limit → marks' ≡ set marks place true

@@ -1,29 +1,28 @@
--- The columns of two frames whose cells are the keys, and the labels of all columns beside one another.
+-- Calls of `merge`, the columns of two frames whose cells are the keys, and the labels of all columns beside one another.
 use Rattle.{
-  std.{proofs.{lemmas.{Option.{same_Some, get_or_from_slice_get, slice_get_within}, Bool.{and_parts, Decides.{nat_tests}}, List.{get_or_default, map-append, take_more, drop_more, length-map, Folds.{list_any_at, list_any_none, list_any-append}, Sums.{position_or_len_is}, Elements.{filter_more}}}, Common.{rules, ◌≡◌, ◌+◌, ◌<◌, ◌≤◌, sym, ℕ, true, false, nat_eq, List, length, slice_get, slice_index_or, Some, arith, refl, Bool, ◌||◌, [], ◌∷◌, ◌++◌, map, take, Option, if◌then◌else◌, ◌∙◌, ap, zero, suc, ◌&&◌, append-nil, filter, drop, None, Result, Ok, Err, nat_lt}, Math.ListN.{get_or-map}}, specs.{List.{position_or_len, list_any, range_with_len}, Prelude.{codes, filter_map}}},
-  frame_store.{specs.{World.{IsKnownTable}, Shown.{headings_value, cells_value}, Parts.{table_column}}, proofs.Settling.{settled_later, seen_later, headings_part}},
-  method_meaning.specs.{Merge.{is_key, MergeKeys, suffixed_heading, right_places, kinds_at, are_same_kinds}, Rows.{all_places, places_besides}, Levels.{label_cell}},
+  std.{proofs.{lemmas.{List.{append_assoc, drop_more, get_or_default, map-append, take_more, length-map, Folds.{list_any_at, list_any_none, list_any-append}, Sums.{position_or_len_is}}, Option.{same_Some, get_or_from_slice_get, slice_get_within}, Bool.{and_parts, Decides.{nat_tests}}}, Common.{rules, ◌≡◌, ◌+◌, ◌<◌, ◌≤◌, sym, ℕ, true, false, nat_eq, List, length, slice_get, slice_index_or, Some, arith, refl, Bool, ◌||◌, [], ◌∷◌, ◌++◌, map, take, Option, if◌then◌else◌, ◌∙◌, ap, zero, suc, ◌&&◌, filter, drop, None, Result, Ok, Err, nat_lt, ⊎_elim, option_map}, Math.ListN.{get_or-map}}, specs.{List.{position_or_len, list_any, range_with_len}, Prelude.{codes, filter_map, IfSome}}},
+  frame_store.{specs.{World.{IsKnownTable, World, entry_in, AreKnownArguments}, Shown.{headings_value, cells_value, Makes}, Parts.{table_column}, declared.{arguments.{Chain.{Chain, TheVariants.{Plain}}, Named.{Named}, Value.{Value, TheVariants.{Object}}}, fault.OpFault.{OpFault}, object.ObjId.{ObjId}}, Arguments.{object_value, shape_at}, Objects.{Tables}}, proofs.Settling.{settled_later, seen_later, headings_part}},
+  method_meaning.specs.{Merge.{is_key, MergeKeys, suffixed_heading, right_places, kinds_at, are_same_kinds, merged_rows, how_named, validate_in, merge_result}, Rows.{all_places, places_besides}, Levels.{label_cell}, Calls.{is_merge, merge_call, chain_result, call_result}},
   indexmap.specs.IndexSet.{insert_key},
-  cell_core.specs.{declared.cell.{Label.{Label}, Cell.{Cell}, Kind.{Kind}}, Texts.{AreDistinct, IsLonger}},
-  meaning.specs.{Text.{Text}, Cell.{LabelValue, datum, label_datum}, Operator.{cell_label}, Fault.{FaultValue, bad_value, key_kinds, limit}},
-  table_meaning.{specs.{Settled.{IsSettled}, Table.{NumberedTable, Table, table_value, heading_value, column_at}}, proofs.KindLaws.{kind_is, kind_itself}},
-  form_meaning.specs.{Select.{heading_at}, Finish.{try_all, same_kind}},
+  cell_core.specs.{declared.{cell.{Label.{Label}, Cell.{Cell}, Kind.{Kind}}, grid.Shape.{Shape, TheVariants.{Frame}}}, Texts.{AreDistinct, IsLonger}},
+  meaning.specs.{Text.{Text}, Cell.{LabelValue, datum, label_datum, CellValue}, Operator.{cell_label}, Fault.{FaultValue, bad_value, key_kinds, limit, then_value}},
+  table_meaning.{specs.{Settled.{IsSettled}, Table.{NumberedTable, Table, table_value, heading_value, column_at}, Value.{Entry, cell, Given, GivenList, NamedGiven, one, no_given, more_given, object_in}}, proofs.KindLaws.{kind_is, kind_itself}},
+  form_meaning.{specs.{Select.{heading_at, cells_of}, Finish.{try_all, same_kind}, declared.{Method.{Method, TheVariants.{Other}}, OtherMethod.TheVariants.{Merge}, Parameter.{Parameter}}, Signature.{method_names, method_named, fits_shape, parameters_of, needed, optional}, Binding.{each, is_scalar, count_of, takes, text_in}, Make.{on}}, proofs.ShapeLaws.{named_fits, of_frame}},
   selections.{specs.{Headings.{same_heading}, Selected.{heading_of, headings_at}}, proofs.{HeadingLaws.{heading_decides, same_seen, head_settled, rest_settled}, PlaceLaws.{heading_seen, heading_settled}, AnswerLaws.{column_seen}, PickedLaws.{list_is}}},
-  label_methods.{proofs.IndexingLaws.{headings_seen, headings_settled}, specs.LevelColumns.{cell_of}},
-  merge_forms.specs.{Headings.{AreAmong, label_beside, merged_headings}, declared.keys.MergeKeys.{MergeKeys as NumberedKeys}, Keys.{keys_value, cell_labels, keys_told, keys_checked, kinds_of, AreMergeKeys}},
+  label_methods.{proofs.IndexingLaws.{headings_seen, headings_settled}, specs.{LevelColumns.{cell_of}, Chains.{chain_in}}},
+  merge_forms.specs.{Headings.{AreAmong, label_beside, merged_headings}, declared.keys.MergeKeys.{MergeKeys as NumberedKeys}, Keys.{keys_value, cell_labels, keys_told, keys_checked, kinds_of, AreMergeKeys, keys_seen, labels_on}, Calls.{is_plain, merge_of, IsMergeCall}},
   column_core.specs.Columns.{CellColumn},
+  join_meaning.specs.declared.{How.{How}, Validate.{Validate}},
+  form_parts.specs.Makes.{MakesBy},
+  signatures.{specs.{Bound.{given_in, stands_at, IsBound}, declared.bound.Bound.{Bound as BoundArguments}}, proofs.RuleLaws.{filled}},
 }
 use Rattle.form_meaning.specs.Finish as finish
-use Rattle.cell_core.specs.declared.cell.Label.TheVariants as label
+use Rattle.form_meaning.specs.declared.ParameterName.TheVariants as name
+use Rattle.form_meaning.specs.declared.Form.TheVariants as form
+use Rattle.form_meaning.specs.declared.Omitted.TheVariants as omitted
 
 abbrev Headings : Type 0
 Headings = List (Option Label)
-
-nat_same : (a b : ℕ) → nat_eq a b ≡ true → a ≡ b
-nat_same = grind (arith, nat_tests)
-
-nat_other : (a b : ℕ) → (a ≡ b → ⊥) → nat_eq a b ≡ false
-nat_other = grind (arith, nat_eq, nat_same)
 
 module _ (keys : List ℕ) (column place there : ℕ) (lt : place < length keys) (at : slice_get keys place ≡ Some there) where
   here : column ≡ there → nat_eq column (slice_index_or keys place 0) ≡ true
@@ -36,7 +35,7 @@ module _ (keys : List ℕ) (column place there : ℕ) (lt : place < length keys)
   key_place = grind (arith, position_or_len_is, nat_eq, here)
 
   pub key_passed : (column ≡ there → ⊥) → ((k : ℕ) → k < place → nat_eq column (slice_index_or keys k 0) ≡ false) → (k : ℕ) → k < place + 1 → nat_eq column (slice_index_or keys k 0) ≡ false
-  key_passed = grind (arith, nat_eq, nat_other, nat_same, get_or_from_slice_get, nat_tests)
+  key_passed = grind (arith, nat_eq, get_or_from_slice_get, nat_tests)
 
 pub no_key : (keys : List ℕ) (column place : ℕ) → length keys ≤ place → ((k : ℕ) → k < place → nat_eq column (slice_index_or keys k 0) ≡ false) → false ≡ is_key keys column
 no_key = search (rules, list_any_none, nat_eq, get_or_default)
@@ -45,11 +44,8 @@ no_key = search (rules, list_any_none, nat_eq, get_or_default)
 among : (q h : Option Label) (keys : Headings) → list_any (same_heading h) keys ≡ true → same_heading q h ≡ true → list_any (same_heading q) keys ≡ true
 among = grind (arith, heading_decides)
 
-or_there : (a k : Bool) → (a ≡ true → k ≡ true) → k ≡ (k || (a || false))
-or_there = grind arith
-
 set_more : (q h : Option Label) (keys : Headings) → list_any (same_heading q) (insert_key same_heading keys h) ≡ (list_any (same_heading q) keys || (same_heading q h || false))
-set_more = search (rules, or_there, among, list_any-append)
+set_more = grind (arith, among, list_any-append)
 
 pub one_more_among : (t : NumberedTable) (places : List ℕ) (k place : ℕ) (h : Option Label) (keys keys' : Headings) → slice_get places k ≡ Some place → h ≡ heading_of t place → keys' ≡ insert_key same_heading keys h
     → AreAmong keys (headings_at t (take k places)) → AreAmong keys' (headings_at t (take (k + 1) places))
@@ -80,11 +76,12 @@ module _ (texts : List Text) (distinct : AreDistinct texts) (t other : NumberedT
   pub labels_are : (keys : List ℕ) (suffix : Text) (xs : List ℕ) → map (label_beside T t keys suffix set) xs ≡ map (λ place. if is_key keys place then heading_at T place else suffixed_heading suffix others (heading_at T place)) xs
   labels_are = grind (arith, among_at)
 
+-- labels that are put together were given
+pub labels_given : (mid new : List Text) (labels own whole : Headings) → IsLonger mid new → IsSettled headings_value mid labels → IsSettled headings_value new own → whole ≡ labels ++ own → IsSettled headings_value new whole
+labels_given mid new labels _ _ longer given given' is = rw is (λ more. rw (map-append, map-append, settled_later headings_value mid new labels longer given more, given' more))
+
 -- the labels of some columns, one more of them
 module _ (first old new : List Text) (f : Table → ℕ → Option LabelValue) (t : NumberedTable) (places : List ℕ) (k place : ℕ) (h : Option Label) (labels labels' : Headings) (longer : IsLonger old new) (given : IsSettled headings_value old labels) (pushed : labels' ≡ labels ++ h ∷ []) where
-  pub one_more_given : IsSettled heading_value new h → IsSettled headings_value new labels'
-  one_more_given here = rw pushed (λ more. rw (map-append, map-append, settled_later headings_value old new labels longer given more, here more))
-
   pub one_more_label : slice_get places k ≡ Some place → IsLonger first old → IsSettled table_value first t → heading_value new h ≡ f (table_value old t) place
       → headings_value old labels ≡ map (f (table_value first t)) (take k places) → headings_value new labels' ≡ map (f (table_value first t)) (take (k + 1) places)
   one_more_label at before settled = grind (arith, pushed, map-append, seen_later headings_value old new labels longer given, seen_later table_value first old t before settled, take_more places k 0 (slice_get_within places k place at), get_or_from_slice_get places k place 0 at)
@@ -116,10 +113,6 @@ module _ (texts mid new : List Text) (l r : NumberedTable) (keys : MergeKeys) (d
         all_are,
       )
 
--- and they were given
-pub labels_given : (mid new : List Text) (labels own whole : Headings) → IsLonger mid new → IsSettled headings_value mid labels → IsSettled headings_value new own → whole ≡ labels ++ own → IsSettled headings_value new whole
-labels_given mid new labels _ _ longer given given' is = rw is (λ more. rw (map-append, map-append, settled_later headings_value mid new labels longer given more, given' more))
-
 -- as many places as labels
 pub all_count : {A B : Type 0} (f : A → Result B FaultValue) (xs : List A) (ys : List B) → try_all f xs ≡ Ok ys → length ys ≡ length xs
 all_count f [] [] _ = refl
@@ -129,9 +122,6 @@ all_count f (x ∷ xs) _ is = grind (arith, all_count f xs)
 -- a label as a cell
 cell_is : (texts : List Text) (l : Label) → datum texts (cell_of l) ≡ label_cell (label_datum texts l)
 cell_is = grind arith
-
-label_is : (texts : List Text) (l : Label) → cell_label (datum texts (cell_of l)) ≡ label_datum texts l
-label_is = grind arith
 
 -- the headings of all columns
 all_headings : (t : NumberedTable) (places : List ℕ) (count : ℕ) → places ≡ range_with_len 0 count → count ≡ length t.headings → headings_at t places ≡ t.headings
@@ -147,29 +137,19 @@ abbrev pub is_common : List (Option LabelValue) → Option LabelValue → Bool
 is_common others h = list_any (finish.same_heading h) others
 
 module _ (texts : List Text) (hs : Headings) (others : List (Option LabelValue)) (place : ℕ) (h : Option Label) (lt : place < length hs) (is : h ≡ slice_index_or hs place None) where
-  abbrev kept : ℕ → List (Option LabelValue)
-  kept n = filter (is_common others) (take n (headings_value texts hs))
+  abbrev rest : ℕ → List LabelValue
+  rest n = filter_map (λ h. h) (filter (is_common others) (headings_value texts (drop n hs)))
 
-  next_kept : (b : Bool) → is_common others (heading_value texts h) ≡ b → kept (place + 1) ≡ kept place ++ (if b then heading_value texts h ∷ [] else [])
-  next_kept b there =
-      let seen : slice_index_or (headings_value texts hs) place None ≡ heading_value texts h = cc (get_or-map (heading_value texts) hs place None, is) in
-      rw (filter_more (is_common others) (headings_value texts hs) place None (omega (arith, lt, length-map hs (heading_value texts))), seen, there)
+  pub one_more_common : (l : Label) (cells cells' : List Cell) (whole : List LabelValue) → h ≡ Some l → is_common others (heading_value texts h) ≡ true → cells' ≡ cells ++ cell_of l ∷ []
+      → cell_labels texts cells ++ rest place ≡ whole → cell_labels texts cells' ++ rest (place + 1) ≡ whole
+  one_more_common l _ _ _ some there pushed before = grind (arith, drop_more hs place None lt, map-append, append_assoc)
 
-  pub one_more_common : (l : Label) (cells cells' : List Cell) → h ≡ Some l → is_common others (heading_value texts h) ≡ true → cells' ≡ cells ++ cell_of l ∷ []
-      → map (λ label. Some label) (cell_labels texts cells) ≡ kept place → map (λ label. Some label) (cell_labels texts cells') ≡ kept (place + 1)
-  one_more_common l _ _ some there pushed before = rw (pushed, map-append, map-append, map-append, before, label_is _ l, next_kept true there, some)
-
-  pub no_more_common : (labels : List (Option LabelValue)) → is_common others (heading_value texts h) ≡ false → labels ≡ kept place → labels ≡ kept (place + 1)
-  no_more_common _ there before = rw (next_kept false there, append-nil) before
+  pub no_more_common : (labels whole : List LabelValue) → is_common others (heading_value texts h) ≡ false → labels ++ rest place ≡ whole → labels ++ rest (place + 1) ≡ whole
+  no_more_common _ _ there before = grind (arith, drop_more hs place None lt)
 
 -- the cell of a label whose text was given
 pub cell_given : (texts : List Text) (l : Label) (cells cells' : List Cell) → IsSettled heading_value texts (Some l) → cells' ≡ cells ++ cell_of l ∷ [] → IsSettled cells_value texts cells → IsSettled cells_value texts cells'
 cell_given texts l _ _ here pushed given = rw pushed (λ more. rw (map-append, map-append, given more, cell_is _ l, cell_is _ l, same_Some (label_datum (texts ++ more) l) _ (here more)))
-
--- the columns of common labels
-pub labels_of_some : (labels : List LabelValue) → filter_map (λ h. h) (map (λ label. Some label) labels) ≡ labels
-labels_of_some [] = refl
-labels_of_some (l ∷ labels) = cc (labels_of_some labels)
 
 -- kinds
 kinds_seen : (texts : List Text) (t : NumberedTable) (places : List ℕ) → kinds_at (table_value texts t) places ≡ kinds_of t places
@@ -177,10 +157,9 @@ kinds_seen texts t places = λ i. map (λ place. (column_seen texts t.columns pl
 
 -- the kinds at a place
 kinds_agree : (as' bs : List Kind) (k : ℕ) (d e : Kind) → are_same_kinds as' bs ≡ true → k < length as' → slice_index_or as' k d ≡ slice_index_or bs k e
-kinds_agree [] _ k d e same lt = grind arith
-kinds_agree (a ∷ as') [] k d e same lt = cc
 kinds_agree (a ∷ as') (b ∷ bs) zero d e same _ = kind_is a b (and_parts _ _ same).0
 kinds_agree (a ∷ as') (b ∷ bs) (suc k) d e same lt = kinds_agree as' bs k d e (and_parts _ _ same).1 (omega (arith, lt))
+kinds_agree as' bs k d e same lt = grind arith
 
 -- a key of the left side, and the one of the right that stands for it
 kind_at : (t : NumberedTable) (places : List ℕ) (k place : ℕ) → slice_get places k ≡ Some place → slice_index_or (kinds_of t places) k (column_at t.columns 0).kind ≡ (column_at t.columns place).kind
@@ -217,3 +196,97 @@ module _ (l r : NumberedTable) (keys : NumberedKeys) (same : length keys.right �
 pub checked_by : (texts : List Text) (l r : NumberedTable) (keys : NumberedKeys) (told : Option (List LabelValue)) (a b : Bool) → keys_told (table_value texts l) (table_value texts r) told ≡ Ok (keys_value keys) → are_same_kinds (kinds_of l keys.left) (kinds_of r keys.right) ≡ a → nat_lt 4 (length keys.left) ≡ b
     → keys_checked (table_value texts l) (table_value texts r) told ≡ (if a then (if b then Err limit else Ok (keys_value keys)) else Err (bad_value key_kinds))
 checked_by texts l r keys _ a b is kinds count = cc (kinds_seen texts l keys.left, kinds_seen texts r keys.right)
+
+-- Calls of `merge` and their arguments; no Series has it.
+merge_of_frame : (shape : Shape) → fits_shape (Other Merge) shape ≡ true → shape ≡ Frame
+unfolding method_names
+merge_of_frame = search of_frame
+
+merge_is_of_frame : (shape : Shape) (name : Text) → is_merge (method_named shape name) ≡ true → shape ≡ Frame
+merge_is_of_frame shape name is = by _ refl is
+  where
+    by : (o : Option Method) → method_named shape name ≡ o → is_merge o ≡ true → shape ≡ Frame
+    by (Some (Other Merge)) named _ = merge_of_frame _ (named_fits _ _ _ named)
+    by o named is = cc
+
+pub is_call : (w : World) (ps : List Parameter) (args : List Named) (b : BoundArguments) → ps ≡ parameters_of (Other Merge) → AreKnownArguments w args → IsBound w ps args (Ok b) → IsMergeCall w b
+is_call = grind (arith, filled, slice_get)
+
+frame_taken : (g : Given) (t : Table) → takes (needed name.Right form.Frame) g ≡ true → Some t ≡ object_in g → t.shape ≡ Frame
+frame_taken = grind arith
+
+-- a label at least is named, if any
+scalars_count : (parts : GivenList) → each is_scalar parts ≡ true → length (cells_of parts) ≡ count_of parts
+scalars_count no_given _ = refl
+scalars_count (more_given (one (cell c)) rest) all = ap suc (scalars_count rest all) ∙ omega arith
+scalars_count _ all = cc
+
+labels_taken : (g : Given) → takes (optional name.On form.SomeLabels omitted.None) g ≡ true → IfSome (labels_on g) (λ labels. 1 ≤ length labels)
+labels_taken = grind (arith, nat_tests, and_parts, scalars_count, length-map)
+
+pub labels_some : (w : World) (b : BoundArguments) → IsMergeCall w b → IfSome (labels_on (stands_at w.tables w.texts b 2)) (λ labels. 1 ≤ length labels)
+labels_some = grind (arith, ⊎_elim, labels_taken)
+
+-- cells whose labels are told
+cells_back : (cs : List CellValue) → map label_cell (map cell_label cs) ≡ cs
+cells_back [] = refl
+cells_back (c ∷ cs) = grind (arith, cells_back cs)
+
+abbrev pub AreTold : BoundArguments → Option (List Cell) → Type 0
+AreTold b told = (live : Tables) (texts : List Text) → option_map (cell_labels texts) told ≡ labels_on (stands_at live texts b 2)
+
+pub told_given : (w : World) (b : BoundArguments) (told : Option (List Cell)) → IsMergeCall w b → AreTold b told → IfSome told (IsSettled cells_value w.texts)
+told_given w b None h _ = tt
+told_given w b (Some cells) h tells = λ more.
+    let same : cell_labels (w.texts ++ more) cells ≡ cell_labels w.texts cells =
+    same_Some _ _ (cc (tells w.tables (w.texts ++ more), h.given more, tells w.tables w.texts)) in
+    sym (cells_back _) ∙ ap (map _) same ∙ cells_back _
+
+pub told_some : (w : World) (b : BoundArguments) (told : Option (List Cell)) → IsMergeCall w b → AreTold b told → IfSome told (λ cells. 1 ≤ length cells)
+told_some w b None h _ = tt
+told_some w b (Some cells) h tells =
+    let some = rw (← tells w.tables w.texts) at (labels_some w b h) in
+    omega (arith, some, length-map (cells_value w.texts cells) cell_label, length-map cells (datum w.texts))
+
+-- what is meant, by the tables that are read
+abbrev refused : {X : Type 0} → OpFault → Result X OpFault
+refused fault = Err fault
+
+module _ (w : World) (b : BoundArguments) (h : IsMergeCall w b) (on other : ObjId) (l r : NumberedTable) (left_at : w.tables on.0 ≡ Some l) (right_at : w.tables other.0 ≡ Some r) (right_is : (live : Tables) (texts : List Text) → Some (object_value live texts other) ≡ object_in (stands_at live texts b 0))
+    (t : Text) (text_is : (live : Tables) → Some t ≡ text_in (stands_at live w.texts b 1)) (how : How) (how_is : how ≡ how_named t) (told : Option (List Cell)) (told_is : AreTold b told) where
+  abbrev left_frame : Table
+  left_frame = table_value w.texts l
+
+  abbrev right_frame : Table
+  right_frame = table_value w.texts r
+
+  abbrev checked : Result MergeKeys FaultValue
+  checked = keys_checked left_frame right_frame (option_map (cell_labels w.texts) told)
+
+  abbrev meant : Result Entry FaultValue
+  meant = merge_result (object_value w.tables w.texts on) (given_in w b)
+
+  read_is : (once : Validate) → once ≡ validate_in (text_in (stands_at w.tables w.texts b 3)) → meant ≡ then_value checked (merged_rows left_frame right_frame how once)
+  read_is = grind (arith, right_is w.tables w.texts, text_is w.tables, told_is w.tables w.texts)
+
+  pub keys_refused : (fault : OpFault) → MakesBy keys_seen w.texts (refused {X = NumberedKeys} fault) checked → Makes w.texts (Err fault) meant
+  keys_refused = grind (arith, read_is _ refl)
+
+  pub rows_answered : (once : Validate) → once ≡ validate_in (text_in (stands_at w.tables w.texts b 3)) → (keys : MergeKeys) → checked ≡ Ok keys → (new : List Text) (made : Result NumberedTable OpFault) → Makes new made (merged_rows left_frame right_frame how once keys) → Makes new made meant
+  rows_answered once is _ found _ _ made = rw (read_is once is, found) made
+
+pub right_shape : (w : World) (b : BoundArguments) → IsMergeCall w b → (other : ObjId) (r : NumberedTable) → w.tables other.0 ≡ Some r → Some (object_value w.tables w.texts other) ≡ object_in (stands_at w.tables w.texts b 0) → r.shape ≡ Frame
+right_shape w b h other r at right = grind (arith, ⊎_elim, frame_taken)
+
+other_if : (b : Bool) (x : ObjId) → (if b then Some x else None) ≡ None → b ≡ false
+other_if = grind arith
+
+pub frame_called : (tables : Tables) (on : Value) (chain : Chain) (id : ObjId) → merge_of tables on chain ≡ Some id → (on ≡ Object id) × (shape_at tables id ≡ Frame)
+frame_called _ (Object x) (Plain name) _ is = grind (arith, merge_is_of_frame)
+frame_called _ on _ _ is = cc
+
+pub merge_called : (w : World) (on : Value) (chain : Chain) (gs : List NamedGiven) (id : ObjId) → merge_of w.tables on chain ≡ Some id → call_result (entry_in w on) (chain_in w chain) gs ≡ merge_call (object_value w.tables w.texts id) gs
+merge_called w on = grind arith
+
+pub other_called : (w : World) (on : Value) (chain : Chain) (gs : List NamedGiven) → is_plain chain ≡ true → merge_of w.tables on chain ≡ None → chain_result (entry_in w on) (chain_in w chain) gs ≡ call_result (entry_in w on) (chain_in w chain) gs
+other_called w on = grind (arith, other_if)

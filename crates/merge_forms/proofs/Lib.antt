@@ -1,5 +1,4 @@
 pub mod KeyLaws
 pub mod RowLaws
 pub mod TableLaws
-pub mod CallLaws
 pub mod Hints

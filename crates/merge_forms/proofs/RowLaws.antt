@@ -1,6 +1,6 @@
 -- The rows of two frames that have equal keys, with texts by number and with texts.
 use Rattle.{
-  std.{proofs.{Common.{arith, ◌≡◌, ◌∙◌, ◌+◌, ap, refl, sym, ℕ, Bool, true, false, not, cond, List, [], ◌∷◌, ◌++◌, map, All, Option, Some, None, rules, ◌≤◌, ◌^◌, length, Result, Ok, Err, option_map}, lemmas.{List.{map-append, length-map, Elements.{All-head, All-tail, All-map}, FromFn.{length-range_with_len}}, Bool.Decides.{nat_tests}}}, specs.{Prelude.{IfSome, option_map, IfOk}, List.{flat_map}}},
+  std.{proofs.{Common.{arith, ◌≡◌, ◌∙◌, ◌+◌, ap, refl, sym, ℕ, Bool, true, false, cond, List, [], ◌∷◌, ◌++◌, map, All, Option, Some, None, ◌≤◌, ◌^◌, length, Result, Ok, Err, option_map}, lemmas.{List.{map-append, length-map, Elements.{All-head, All-tail, All-map}, FromFn.{length-range_with_len}}, Bool.Decides.{nat_tests}}}, specs.{Prelude.{IfSome, option_map, IfOk}, List.{flat_map}}},
   meaning.specs.{Reduce.{distinct}, Fault.{Side as MeantSide}, Text.{Text}, FaultOf.{side_of}},
   sorting.specs.Sorting.{in_order},
   pick_meaning.{specs.Rows.{rows_where}, proofs.RowLaws.{rows_where-map}},
@@ -96,14 +96,6 @@ module _ {X : Type 0} (P : X → Type 0) (same : X → X → Bool) where
   again_keeps : (once : Validate) (left right : List X) → All P left → All P right → IfSome (repeated_key same once left right) (λ k. P k.key)
   again_keeps = grind (arith, on_keeps)
 
--- a label for each level
-alike : (levels : ℕ) (keys : List (List Label)) → HaveLevels levels keys → HaveLevels (levels_of keys) keys
-alike = grind arith
-
-few_levels : (levels : ℕ) (keys : List (List Label)) → HaveLevels levels keys → levels ≤ 4 → levels_of keys ≤ 4
-few_levels _ [] = omega arith
-few_levels _ (key ∷ keys) = search rules
-
 module _ (of_left of_right : List CellColumn) (m n : ℕ) where
   abbrev both : List (List Label)
   both = column_keys of_left m ++ column_keys of_right n
@@ -111,7 +103,7 @@ module _ (of_left of_right : List CellColumn) (m n : ℕ) where
   pub both_fit : (levels : ℕ) → length of_left ≡ levels → length of_right ≡ levels → levels ≤ 4 → HaveLevels (levels_of both) both × (levels_of both ≤ 4)
   both_fit levels lefts rights few =
       let have : HaveLevels levels both = search (all_append, columns_alike) in
-      search (alike, few_levels)
+      grind arith
 
 module _ {K : Type 0} where
   abbrev unless : Option (RepeatedKey K) → Result (List Pair) (JoinRefusal K) → Result (List Pair) (JoinRefusal K)
@@ -137,11 +129,14 @@ module _ (texts : List Text) (distinct : AreDistinct texts) (l r : NumberedTable
   abbrev kr : List (List Label)
   kr = numbered_keys r keys.right
 
+  keys_settled : (t : NumberedTable) (places : List ℕ) → IsSettled table_value texts t → All (IsSettled tuple_value texts) (numbered_keys t places)
+  keys_settled t places given = tuples_settled _ _ (settled_by table_value labels_value (λ v. row_keys v places) _ t _ (λ ts. sym (tuples_seen _ t _)) given)
+
   kl_settled : All (IsSettled tuple_value texts) kl
-  kl_settled = tuples_settled _ _ (settled_by table_value labels_value (λ v. row_keys v keys.left) _ l kl (λ ts. sym (tuples_seen _ l _)) of_left)
+  kl_settled = keys_settled l _ of_left
 
   kr_settled : All (IsSettled tuple_value texts) kr
-  kr_settled = tuples_settled _ _ (settled_by table_value labels_value (λ v. row_keys v keys.right) _ r kr (λ ts. sym (tuples_seen _ r _)) of_right)
+  kr_settled = keys_settled r _ of_right
 
   equal : (x y : List Label) → IsSettled tuple_value texts x → IsSettled tuple_value texts y → same_tuple (tuple_value texts x) (tuple_value texts y) ≡ same_numbers x y
   equal = search tuple_by_number
@@ -183,7 +178,7 @@ module _ (texts : List Text) (distinct : AreDistinct texts) (l r : NumberedTable
     joins_meet (Err (fault.NotOneToOne side key)) is = twice _ _ (joined_twice _ _ _ (sym by_rows ∙ is))
     joins_meet (Err (fault.DuplicateLabels key)) is = absurd is
     joins_meet (Err fault.MixedKinds) is = absurd is
-    joins_meet (Err fault.TooLarge) is = grind (arith, nat_tests, by_rows, none_again, pairs_are)
+    joins_meet (Err fault.TooLarge) is = grind (arith, nat_tests, by_rows, again_is, pairs_are)
     joins_meet (Err fault.NoMemory) is = tt
 
 -- the rows that are joined are those of their sides

@@ -1,11 +1,11 @@
 -- The columns of joined rows, and the frame of them.
 use Rattle.{
+  std.{proofs.{lemmas.{List.{drop_more, length-map, map-append, take_more, length-append, FromFn.{map-range_with_len_more, length-map-range_with_len}, Elements.{All-map, All-append, All-filter}}, Option.{slice_get_within, get_or_from_slice_get}, Bool.Decides.{nat_tests}}, Common.{◌≡◌, ◌∙◌, ◌+◌, ap, refl, sym, arith, ℕ, suc, false, List, [], ◌∷◌, ◌++◌, map, take, drop, length, slice_get, All, Option, Some, None, append_assoc, nat_eq, Result, filter, ◌^◌, ◌<◌, subst, true, slice_index_or, Ok, Err}, Math.ListN.{get_or-map}}, specs.{List.{range_with_len, position_or_len}, Prelude.{IfSome, IsSome}}},
   selections.{proofs.{AnswerLaws.{column_seen}, HeadingLaws.{repeated_seen}, RefusalLaws.{repeated_settled}}, specs.Headings.{NamesRepeated, repeated_heading}},
   form_parts.proofs.{GapLaws.{on_rows_seen}, LabelLaws.{default_seen}},
   group_meaning.proofs.ListLaws.{map_map},
-  std.{proofs.{lemmas.{List.{drop_more, length-map, map-append, take_more, length-append, Elements.{All-map, All-append, All-filter}, FromFn.{map-range_with_len_more, length-map-range_with_len}}, Option.{slice_get_within, get_or_from_slice_get}, Bool.Decides.{nat_tests}}, Common.{◌≡◌, ◌∙◌, ◌+◌, ap, refl, sym, arith, ℕ, suc, false, List, [], ◌∷◌, ◌++◌, map, take, drop, length, slice_get, All, Option, Some, None, append_assoc, nat_eq, Result, filter, ◌^◌, ◌<◌, subst, Bool, true, slice_index_or, Ok, Err, if◌then◌else◌}, Math.ListN.{get_or-map}}, specs.{List.{range_with_len, position_or_len}, Prelude.{IfSome, IsSome}}},
   cell_core.specs.{declared.{cell.{Cell.{Cell, TheVariants.{Na}}, Label.{Label}}, code.Code.TheVariants.{Limit}, grid.Shape.TheVariants.{Frame}}, Texts.{AreDistinct, IsLonger}},
-  meaning.specs.{Text.{Text}, Cell.{CellValue, na_cell, datum, LabelValue}, Column.{gap_cell}, Fault.{FaultValue}, FaultOf.{fault_of}},
+  meaning.specs.{Text.{Text}, Cell.{CellValue, na_cell, datum, LabelValue}, Fault.{FaultValue}, FaultOf.{fault_of}},
   join_meaning.specs.{Pairs.{Pair}, declared.{How.{How}, Validate.{Validate}}},
   table_meaning.specs.{Settled.{IsSettled}, Table.{ColumnOf, Table, column_at, column_value, NumberedTable, table_value, heading_value}, Value.{Entry}, Valid.{IsWhole}},
   frame_store.{specs.{Shown.{columns_value, headings_value, Makes}, World.{IsKnownTable}, declared.fault.OpFault.{OpFault, TheVariants.{Refused, NoMemory}}, Parts.{HeadingList, columns_of, table_of}}, proofs.Settling.{table_settled, settled_later, seen_later, columns_part}},
@@ -57,19 +57,14 @@ module _ {C : Type 0} (na : C) (l r : List (ColumnOf C)) (keys : MergeKeys) (lef
 
 -- a column that is no key has none that stands for it
 pub no_right : (lefts rights : List ℕ) (place : ℕ) → length rights ≡ length lefts → is_key lefts place ≡ false → slice_get rights (position_or_len (nat_eq place) lefts) ≡ None
-no_right [] [] _ _ _ = refl
-no_right [] (r ∷ rights) _ same other = search
-no_right (l ∷ lefts) [] _ same other = search
 no_right (l ∷ lefts) (r ∷ rights) place same other = grind (arith, nat_eq, slice_get, no_right lefts rights place (omega (arith, same)))
+no_right [] [] _ _ _ = refl
+no_right lefts rights _ same other = search
 
 -- as they are seen
 module _ (texts : List Text) where
-  cell_on : (cells : List Cell) (gap : Option ℕ) → datum texts (gap_cell Na cells gap) ≡ gap_cell na_cell (map (datum texts) cells) gap
-  cell_on _ None = refl
-  cell_on cells (Some place) = sym (get_or-map (datum texts) cells _ _)
-
   key_seen : (left right : List Cell) (l r : Option ℕ) → datum texts (key_cell_at Na left right l r) ≡ key_cell_at na_cell (map (datum texts) left) (map (datum texts) right) l r
-  key_seen = grind (arith, cell_on)
+  key_seen left right l r = grind (arith, get_or-map (datum texts) left, get_or-map (datum texts) right)
 
   keys_seen : (left right : List Cell) (ls rs : List (Option ℕ)) → map (datum texts) (key_cells Na left right ls rs) ≡ key_cells na_cell (map (datum texts) left) (map (datum texts) right) ls rs
   keys_seen _ _ [] _ = refl
@@ -121,9 +116,6 @@ rights_inside texts r keys _ is = rw is (subst (λ n. All (λ place. place < n) 
 some_suffixed : (suffix : Text) (others : List (Option LabelValue)) (h : Option LabelValue) → IsSome h → IsSome (suffixed_heading suffix others h)
 some_suffixed = grind arith
 
-some_if : (b : Bool) (x y : Option LabelValue) → IsSome x → IsSome y → IsSome (if b then x else y)
-some_if = grind arith
-
 module _ (l r : Table) (keys : MergeKeys) (of_left : All IsSome l.headings) (of_right : All IsSome r.headings) (left_counted : length l.headings ≡ length l.columns) (right_counted : length r.headings ≡ length r.columns) where
   some_at : (t : Table) → All IsSome t.headings → length t.headings ≡ length t.columns → (place : ℕ) → place < length t.columns → IsSome (heading_at t place)
   some_at = grind arith
@@ -134,26 +126,16 @@ module _ (l r : Table) (keys : MergeKeys) (of_left : All IsSome l.headings) (of_
       (All-map IsSome _ _ (λ k d lt.
       let place = slice_index_or (all_places l) k d in
       let some = some_at l of_left left_counted _ (below_range (length l.columns) k d lt) in
-      some_if (is_key keys.left place) _ _ some (search some_suffixed)))
+      grind (arith, some_suffixed)))
       (All-map IsSome _ _ (λ k d lt. some_suffixed _ _ _ (some_at r of_right right_counted _ (rights_below r keys k d lt))))
 
 -- the same by numbers
 module _ (texts : List Text) where
-  some_seen : (h : Option Label) → IsSome (heading_value texts h) → IsSome h
-  some_seen = grind arith
-
-  seen_some : (h : Option Label) → IsSome h → IsSome (heading_value texts h)
-  seen_some = grind arith
-
   headings_some : (hs : List (Option Label)) → All IsSome hs → All IsSome (headings_value texts hs)
-  headings_some _ all = All-map IsSome _ _ (λ k d lt. seen_some _ (all k d lt))
+  headings_some _ all = All-map IsSome _ _ (λ k d lt. grind (arith, all k d lt))
 
   some_headings : (hs : List (Option Label)) → All IsSome (headings_value texts hs) → All IsSome hs
-  some_headings hs all = λ k d lt. some_seen _ (subst IsSome (get_or-map (heading_value texts) hs k d) (all k _ (omega (arith, length-map hs (heading_value texts), lt))))
-
--- more rows than the limit
-too_many : (rows columns : ℕ) → 2 ^ 26 < rows → within_limits rows columns ≡ false
-too_many = grind (arith, nat_tests)
+  some_headings hs all = λ k d lt. grind (arith, subst IsSome (get_or-map (heading_value texts) hs k d) (all k _ (omega (arith, length-map hs (heading_value texts), lt))))
 
 -- the frame that is frame_meant, of rows that are met and labels that are made
 module _ (old new : List Text) (l r : NumberedTable) (numbers : NumberedKeys) (known : record { left : IsKnownTable old l; right : IsKnownTable old r; frames : (l.shape ≡ Frame) × (r.shape ≡ Frame); keys : AreMergeKeys l r numbers }) (how : How) (once : Validate) (met : Option Pairs)
@@ -194,7 +176,7 @@ module _ (old new : List Text) (l r : NumberedTable) (numbers : NumberedKeys) (k
 
   module _ (none : repeated_heading slice ≡ None) where
     pub many_so : met ≡ None → Makes new (Err (Refused Limit)) answer
-    many_so is = let many : 2 ^ 26 < length ps = rw is at found.rows.1 in grind (arith, finished_by _ none, too_many, rows_meant)
+    many_so is = let many : 2 ^ 26 < length ps = rw is at found.rows.1 in grind (arith, finished_by _ none, nat_tests, rows_meant)
 
     module _ (made : Pairs) (some : met ≡ Some made) (count : ℕ) (counted : count ≡ length made.left) where
       are : ArePairs made ps

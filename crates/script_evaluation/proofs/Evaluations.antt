@@ -5,7 +5,7 @@ use Rattle.{
   table_meaning.specs.Value.{Entry, Given},
   frame_store.specs.{declared.{arguments.{Value.{Value}, Argument.{Argument}}, fault.OpFault.{OpFault}}, Objects.{Tables}, World.{World, Keeps, IsKnown, IsKnownValue, IsKnownArgument, argument_in, entry_in, Forms}},
   script_meaning.specs.{Reading.{Files, Reads, at_once, gives, then_read}, State.{State}, Expression.{value_of_name, where_named}},
-  script_work.{specs.{Reads.{both_of}, Bindings.{value_at, IsOf}, Faults.{IsNoAttribute, IsNoName, evaluated}, Work.{names_in, world_of, state_in}, declared.{file_names.FileName.{FileName}, fault.EvalFault.{EvalFault, TheVariants.{NoMemory}}, work.Work.{Work}}}, proofs.{Naming.{form_unnamed}, Rides.{serves_self, serves_both, both_then, then_after, then_gives, goes_spends, goes_same, goes_to, goes_value, halts_first, reaches_by, reaches_both, form_reads, evaluated_if, unknown_fault, name_reads, made_reads}, States.{state_kept}, Worlds.{OfObjects, of_argument, seen_kept, known_kept, keeps_both, keeps_same, form_keeps, form_known}}},
+  script_work.{specs.{Reads.{both_of}, Bindings.{value_at, IsOf}, Faults.{IsNoAttribute, IsNoName, evaluated}, Work.{names_in, world_of, state_in}, declared.{file_names.FileName.{FileName}, fault.EvalFault.{EvalFault, TheVariants.{NoMemory}}, work.Work.{Work}}}, proofs.{States.{form_unnamed, state_kept}, Rides.{serves_self, serves_both, both_then, then_after, then_gives, goes_spends, goes_same, goes_to, goes_value, halts_first, reaches_by, reaches_both, form_reads, evaluated_if, unknown_fault, name_reads, made_reads}, Worlds.{OfObjects, of_argument, seen_kept, known_kept, keeps_both, keeps_same, form_keeps, form_known}}},
   script_evaluation.specs.Evaluates.{Moment, IsValue, Evaluates},
   fault_laws.specs.FormFault.{HasFormFault},
   outside_io.specs.Files.{FilesValue},

@@ -8,7 +8,7 @@ use Rattle.{
   script_evaluation.{specs.Evaluates.{Moment, Evaluates}, proofs.Evaluations.{moment_of}},
   settings.specs.Assigned.{without},
   script_session.specs.{declared.fault.{Outcome.{Outcome}, StepFault.{StepFault, TheVariants.{Refused, NoMemory}}}, Faults.{IsStepFault, Performs, PerformsOnce, step_fault, marked_fault}},
-  script_work.{specs.{declared.{file_names.FileName.{FileName}, fault.EvalFault.{EvalFault}, work.Work.{Work}}, Reads.{Goes, Halts, files_in}, Work.{names_in, world_of, state_in, SetsFrom}, Bindings.{Bindings, bound, value_at, is_named, state_over, IsOf, KeepNamed, AreGiven, AreNamed}}, proofs.{Numbers.{nat_same, nat_eq_self, true_false, same_congr}, Bindings.{named_object}, States.{same_state, state_kept, bind_state}, Worlds.{entry_seen, some_shown, set_failed}, Spending.{spent_state}, Rides.{caused_later, goes_both, stuck_both, spends_both, goes_value, halts_first, goes_same, uncaused, fault_uncaused, spends_none}}},
+  script_work.{specs.{declared.{file_names.FileName.{FileName}, fault.EvalFault.{EvalFault}, work.Work.{Work}}, Reads.{Goes, Halts, files_in}, Work.{names_in, world_of, state_in, SetsFrom}, Bindings.{Bindings, bound, value_at, is_named, state_over, IsOf, KeepNamed, AreGiven, AreNamed}}, proofs.{Bindings.{nat_same, nat_eq_self, true_false, same_congr, named_object}, States.{same_state, state_kept, bind_state}, Worlds.{entry_seen, some_shown, set_failed}, Validity.{spent_state}, Rides.{caused_later, goes_both, stuck_both, spends_both, goes_value, halts_first, goes_same, uncaused, fault_uncaused, spends_none}}},
   fault_laws.specs.FormFault.{HasFormFault},
   outside_io.specs.Files.{FilesValue, Serves},
 }

@@ -1,16 +1,9 @@
-pub mod Numbers
 pub mod Bindings
-pub mod LiveObjects
-pub mod Views
 pub mod Worlds
-pub mod Naming
 pub mod States
-pub mod Binding
+pub mod UseLaws
 pub mod Rides
 pub mod Fetching
-pub mod Lengths
 pub mod Printed
 pub mod Validity
-pub mod Spending
-pub mod UseLaws
 pub mod Hints

@@ -1,16 +1,27 @@
--- The printed text of an object is that of its table.
+-- The printed text and the length of an object are those of its table.
+use native.Mathlib.Nat.{mod-eq_of_lt}
 use Rattle.{
-  std.proofs.Common.{arith, ◌≡◌, List, length, Some},
+  std.{proofs.{Common.{arith, ◌≡◌, List, length, Some, ℕ, ℤ, pos, Ok, ◌<◌, w64, to_z, of_z}, lemmas.{Int.{of_z-to_z}, List.{length-map}}}, specs.Int.{int_wrap, cast_signed}},
   cell_core.specs.declared.grid.Shape.{Shape},
-  meaning.specs.Text.{Text},
-  table_meaning.specs.{Table.{NumberedTable}, Valid.{IsWhole}},
+  meaning.specs.{Text.{Text}, Cell.{int_cell}},
+  table_meaning.specs.{Table.{NumberedTable}, Valid.{IsWhole}, Value.{cell}},
   multi_index.specs.Axes.{HaveLevels},
   format_meaning.specs.{Told.{told}, Print.{text_of_shape}},
   frame_format.proofs.{ToldLaws.{shape_told}, WholeLaws.{told_whole}},
-  frame_store.specs.{Objects.{Tables}, Grids.{grid_of}, Arguments.{entry_of}, declared.{object.ObjId.{ObjId}, arguments.Value.{Value, TheVariants.{Object}}}},
+  frame_store.specs.{Objects.{Tables}, Grids.{grid_of}, Arguments.{entry_of}, declared.{object.ObjId.{ObjId}, arguments.Value.{Value, TheVariants.{Object}}}, World.{World, entry_in}},
   script_meaning.specs.Statement.{entry_text},
+  form_meaning.specs.Select.{length_result},
 }
 
 pub object_text : (texts : List Text) (tables : Tables) (v : Value) (id : ObjId) (t : NumberedTable) (shape : Shape) → v ≡ Object id → tables id.0 ≡ Some t → IsWhole t → HaveLevels (length t.level_names) t.labels → shape ≡ t.shape
     → text_of_shape shape (told texts (grid_of t)) ≡ entry_text (entry_of tables texts v)
 object_text = grind (arith, told_whole, shape_told)
+
+-- The number of rows as a whole number of 64 bits.
+wrapped : (n : ℕ) → n < 18446744073709551616 → int_wrap w64 (pos n) ≡ cast_signed w64 n
+unfolding int_wrap
+wrapped = search mod-eq_of_lt
+
+pub length_answer : (w : World) (on : Value) (id : ObjId) (t : NumberedTable) (n : ℕ) (z : ℤ) → on ≡ Object id → w.tables id.0 ≡ Some t → n ≡ length t.labels → n < 18446744073709551616 → z ≡ cast_signed w64 n
+    → length_result (entry_in w on) ≡ Ok (cell (int_cell (to_z w64 (of_z w64 z))))
+length_answer = grind (arith, length-map, wrapped, of_z-to_z)

@@ -11,10 +11,6 @@ use Rattle.{
   fault_laws.specs.FormFault.{HasFormFault},
 }
 
--- counts of fetches
-none_more : (n : ℕ) → 0 + n ≡ n
-none_more = omega (arith)
-
 -- readings after fetches
 pub after_both : {X : Type 0} (m n : ℕ) (r : Reading X) → after m (after n r) ≡ after (m + n) r
 after_both = grind arith
@@ -22,12 +18,9 @@ after_both = grind arith
 abbrev found_after : {X : Type 0} → X → ℕ → Reading X
 found_after x n = record { fetches = n; answer = x }
 
-ended : {X : Type 0} (m n : ℕ) (x : X) → m ≡ n → found_after x m ≡ found_after x n
-ended m n x is = cc
-
 module _ {A X : Type 0} (stop : FaultValue → X) where
   pub then_gives : (a : A) (go : A → Reading X) → then_or stop (gives a) go ≡ go a
-  then_gives = search none_more
+  then_gives = grind arith
 
   pub then_after : (n : ℕ) (r : Reads A) (go : A → Reading X) → then_or stop (after n r) go ≡ after n (then_or stop r go)
   then_after = search after_both
@@ -35,19 +28,8 @@ module _ {A X : Type 0} (stop : FaultValue → X) where
 -- two parts that are read together
 module _ {X : Type 0} (stop : FaultValue → X) where
   module _ {A B : Type 0} where
-    both_at : (a : A) (go : A → B → Reading X) (n : ℕ) (r : Result B FaultValue)
-        → then_or stop (record { fetches = n; answer = r }) (go a) ≡ then_or stop (then_read (record { fetches = n; answer = r }) (λ w. let p : A × B = (a, w) in gives p)) (λ p. go p.0 p.1)
-    both_at = grind (arith, then_after, then_gives, ended)
-
     pub both_then : (x : Reads A) (y : Reads B) (go : A → B → Reading X) → then_or stop x (λ a. then_or stop y (go a)) ≡ then_or stop (both_of x y) (λ p. go p.0 p.1)
-    both_then = grind (arith, both_at, then_after, ended)
-
--- the contents that hold for all fetches hold for the first and for the last of them
-none_of_both : (m n : ℕ) → m + n ≡ 0 → m ≡ 0
-none_of_both m n is = omega (arith, is)
-
-none_of_last : (m n : ℕ) → m + n ≡ 0 → n ≡ 0
-none_of_last m n is = omega (arith, is)
+    both_then = grind (arith, then_after, then_gives)
 
 pub serves_self : (s : FilesValue) → Serves s s
 serves_self = grind arith
@@ -70,7 +52,7 @@ fault_uncaused = grind arith
 module _ {X : Type 0} {held : Contents} where
   -- nothing was fetched
   pub goes_same : {s : FilesValue} {whole rest : Reading X} → whole ≡ rest → Goes held s s whole rest
-  goes_same {s} {whole} {rest} = grind (arith, none_more)
+  goes_same = grind (arith)
 
   pub goes_by : {old new : FilesValue} {whole other rest : Reading X} → whole ≡ other → Goes held old new other rest → Goes held old new whole rest
   goes_by {old} {new} {whole} {other} {rest} is g = rw is g
@@ -81,30 +63,30 @@ module _ {X : Type 0} {held : Contents} where
   module _ {first second : FilesValue} {a b : Reading X} (serves : Serves first second) (p : Goes held first second a b) where
     -- what holds for the whole holds for both parts of it
     halves : (n : ℕ) → Holds first.contents (p.fetched + n) a.fetches held → (a ≡ after p.fetched b) × Holds second.contents n b.fetches held
-    halves = grind (arith, none_of_both, none_of_last)
+    halves = grind (arith)
 
     counted_both : (third : FilesValue) (n : ℕ) → third.fetches ≡ count_after second.fetches n → third.fetches ≡ count_after first.fetches (p.fetched + n)
-    counted_both = grind (arith, none_more)
+    counted_both = grind (arith)
 
     within_both : (n : ℕ) → (Holds second.contents n b.fetches held → n ≤ b.fetches) → Holds first.contents (p.fetched + n) a.fetches held → p.fetched + n ≤ a.fetches
     within_both = grind (arith, halves)
 
     pub goes_both : {third : FilesValue} {c : Reading X} → Goes held second third b c → Goes held first third a c
-    goes_both {third} {c} = grind (arith, counted_both, halves, after_both)
+    goes_both = grind (arith, counted_both, halves, after_both)
 
     -- a read failed later
     pub stuck_both : {third : FilesValue} → Stuck held second third b → Stuck held first third a
-    stuck_both {third} = grind (arith, counted_both, within_both)
+    stuck_both = grind (arith, counted_both, within_both)
 
     -- memory was refused later
     pub spends_both : {third : FilesValue} → Spends held second third b → Spends held first third a
     spends_both {third} q = search (counted_both, within_both)
 
   pub goes_spends : {old new : FilesValue} {whole rest : Reading X} → Goes held old new whole rest → Spends held old new whole
-  goes_spends {old} {new} {whole} {rest} = grind arith
+  goes_spends = grind arith
 
   pub spends_none : {s : FilesValue} {whole : Reading X} → Spends held s s whole
-  spends_none {s} {whole} = grind arith
+  spends_none = grind arith
 
 module _ {X : Type 0} (stop : FaultValue → X) (texts : List Text) where
   pub halts_by : (files : Files) (old new : FilesValue) {whole other : Reading X} (f : EvalFault) → whole ≡ other → Halts stop texts files old new other f → Halts stop texts files old new whole f
@@ -117,24 +99,24 @@ module _ {X : Type 0} (stop : FaultValue → X) (texts : List Text) where
 
 within_then : {A X : Type 0} (stop : FaultValue → X) (go : A → Reading X) (held : Contents) (contents : Option Contents) (whole : Reads A) (n : ℕ)
     → (Holds contents n whole.fetches held → n ≤ whole.fetches) → Holds contents n (then_or stop whole go).fetches held → n ≤ (then_or stop whole go).fetches
-within_then = grind (arith, none_of_both)
+within_then = grind (arith)
 
 module _ {A X : Type 0} {held : Contents} (stop : FaultValue → X) (go : A → Reading X) where
   -- what follows a reading
   pub goes_then : {old new : FilesValue} {whole rest : Reads A} → Goes held old new whole rest → Goes held old new (then_or stop whole go) (then_or stop rest go)
-  goes_then {old} {new} {whole} {rest} = grind (arith, none_of_both, then_after)
+  goes_then = grind (arith, then_after)
 
   -- the value goes on
   pub goes_value : {old new : FilesValue} {whole : Reads A} (a : A) (rest : Reading X) → Goes held old new whole (gives a) → go a ≡ rest → Goes held old new (then_or stop whole go) rest
   goes_value a _ g is = goes_to (goes_then g) (then_gives stop a go ∙ is)
 
   pub spends_then : {old new : FilesValue} {whole : Reads A} → Spends held old new whole → Spends held old new (then_or stop whole go)
-  spends_then {old} {new} {whole} = grind (arith, within_then)
+  spends_then = grind (arith, within_then)
 
 -- the fault of the first stops the whole
 pub halts_first : {A X : Type 0} (texts : List Text) (files : Files) (old new : FilesValue) (whole : Reads A) (stop : FaultValue → X) (go : A → Reading X) (f : EvalFault)
     → Halts Err texts files old new whole f → Halts stop texts files old new (then_or stop whole go) f
-halts_first = grind (arith, goes_to, goes_then, ended, none_more, within_then, spends_then)
+halts_first = grind (arith, goes_to, goes_then, within_then, spends_then)
 
 -- what an evaluation reaches
 module _ {V A : Type 0} (view : V → A) (texts : List Text) (files : Files) where
@@ -190,10 +172,10 @@ module _ {G L : Type 0} (cons : G → L → L) (join : L → L → L) where
     pub loop_next : (g : G) (so_far' : L) → Goes held mid new first (gives g) → ((l : L) → join so_far (cons g l) ≡ join so_far' l) → Goes held old new whole (joined join so_far' rest)
     loop_next g _ is law =
         goes_both serves seen
-        (grind (arith, goes_to, goes_then, goes_value, then_after, then_gives, ended))
+        (grind (arith, goes_to, goes_then, goes_value, then_after, then_gives))
 
   pub loop_end : {held : Contents} {whole : Reads L} {old new : FilesValue} (rest : Reads L) (end so_far : L) → Goes held old new whole (joined join so_far rest) → rest ≡ gives end → join so_far end ≡ so_far → Goes held old new whole (gives so_far)
-  loop_end _ _ _ seen is law = goes_to seen (search then_gives)
+  loop_end _ _ _ seen is law = goes_to seen search
 
 pub loop_fault : {G L : Type 0} (texts : List Text) (files : Files) (new : FilesValue) (cons : G → L → L) (join : L → L → L) {whole : Reads L} {old mid : FilesValue} (serves : Serves old mid) (first : Reads G) (rest : Reads L) (so_far : L)
     → Goes files.held old mid whole (joined join so_far (ahead cons first rest)) → (f : EvalFault) → Halts Err texts files mid new first f → Halts Err texts files old new whole f

@@ -1,10 +1,11 @@
--- What changes of names, objects and texts do to the state.
+-- What changes of names, objects and texts do to the state, and the names of objects.
 use Rattle.{
-  std.proofs.Common.{rules, arith, ◌≡◌, nat_eq, Option, Some},
-  meaning.specs.Text.{Text},
-  frame_store.specs.{declared.arguments.Value.{Value, TheVariants.{Object, Scalar}}, World.{World, entry_in, IsSettledWorld, Keeps, IsKnownValue}},
+  std.{proofs.{Common.{arith, ◌≡◌, nat_eq, Option, Some, ◌↔◌, ℕ, zero, suc, Bool, true, false, List, [], ◌∷◌, None, IsSome, refl, sym, ◌∙◌, subst, string_bytes}, lemmas.Map.Entries.{lookup_from_place}}, specs.{Prelude.{slice_get, if◌then◌else◌, Result, Ok, IfOk}, declared.string.String.{String}, String.{string_eq, string_eq_equiv}, List.{IsDistinct}, Map.{keys_of}}},
+  meaning.specs.{Text.{Text}, Fault.{FaultValue}},
+  frame_store.specs.{declared.{arguments.Value.{Value, TheVariants.{Object, Scalar}}, object.ObjId.{ObjId}, fault.OpFault.{OpFault}}, World.{World, entry_in, IsSettledWorld, Keeps, IsKnownValue, objects_of, Forms}, Objects.{Tables}},
   script_meaning.specs.{State.{State}, Statement.{with_value}},
-  script_work.{specs.{Bindings.{Bindings, bound, value_at, state_over, AreLive, AreGiven, KeepNamed, IsOf}, Work.{names_in, world_of, state_in}, declared.work.Work.{Work}}, proofs.{Numbers.{nat_same, nat_eq_self, true_false}, Bindings.{names-bound, value_at-bound, named_object}, Worlds.{object_known}}},
+  script_work.{specs.{Bindings.{Bindings, bound, value_at, state_over, AreLive, AreGiven, KeepNamed, IsOf, bindings_of, is_named, is_object, AreNamed}, Work.{names_in, world_of, state_in}, declared.work.Work.{Work}}, proofs.{Bindings.{nat_same, nat_eq_self, names-bound, value_at-bound, named_object, some_none, value_at-bindings_of}, Worlds.{object_known, some_shown, none_shown}}},
+  table_meaning.specs.Value.{Entry},
 }
 
 -- two states that answer alike are one
@@ -26,4 +27,43 @@ state_swept = grind (arith, same_state, named_object)
 
 -- a name that gets the value of an expression
 pub bind_state : (bs : Bindings) (x : Text) (o : Option Text) (v : Value) (w : World) → IsOf bs o v → state_over (bound bs x v) w ≡ with_value (state_over bs w) x o (entry_in w v)
-bind_state = search (rules, value_at-bound, nat_eq_self, same_state, names-bound, nat_eq, true_false, named_object, nat_same)
+bind_state = grind (arith, value_at-bound, nat_eq_self, same_state, names-bound, nat_eq, named_object, nat_same)
+
+-- A name stands for each object that is named.
+-- an entry of an object that is named
+place_of_named : {Y : Type 0} (es : List (String Y × Value)) (id : ObjId) → is_named (bindings_of es) id.0 ≡ true → (i : ℕ) × (k : String Y) × (slice_get es i ≡ Some (k, Object id))
+place_of_named [] _ e = Prim.cc
+place_of_named {Y} (e ∷ es) id named = go (place_of_named es id) _ refl named
+  where
+    go : (is_named (bindings_of es) id.0 ≡ true → (i : ℕ) × (k : String Y) × (slice_get es i ≡ Some (k, Object id))) → (c : Bool) → is_object e.1 id.0 ≡ c → (if c then true else is_named (bindings_of es) id.0) ≡ true
+        → (i : ℕ) × (k : String Y) × (slice_get (e ∷ es) i ≡ Some (k, Object id))
+    go among true is named = (zero, e.0, grind (arith, nat_same))
+    go among false _ named = let p = among named in (suc p.0, p.1, p.2)
+
+module _ {Y : Type 0} (es : List (String Y × Value)) (unique : IsDistinct string_eq (keys_of es)) where
+  pub name_of_named : (id : ObjId) → is_named (bindings_of es) id.0 ≡ true → (n : Text) × (value_at (bindings_of es) n ≡ Some (Object id))
+  name_of_named id named =
+      let p = place_of_named es id named in
+      (string_bytes p.1, value_at-bindings_of es _ ∙ lookup_from_place string_eq_equiv es p.0 p.1 _ unique p.2)
+
+  pub live_are_named : (w : World) → AreLive (bindings_of es) w.tables → AreNamed (bindings_of es) w.tables → (id : ObjId) → IsSome (objects_of w id.0) ↔ ((n : Text) × (value_at (bindings_of es) n ≡ Some (Object id)))
+  live_are_named = grind (arith, name_of_named, some_shown)
+
+  pub named_live : (tables : Tables) → AreLive (bindings_of es) tables → (id : ℕ) → is_named (bindings_of es) id ≡ true → IsSome (tables id)
+  named_live _ live id named = let p = name_of_named _ named in live p.0 (record { 0 = id }) p.1
+
+  -- no name stands for an object that isn't live
+  unnamed : (tables : Tables) → AreLive (bindings_of es) tables → (id : ObjId) → tables id.0 ≡ None → is_named (bindings_of es) id.0 ≡ false
+  unnamed _ live id none = go _ refl
+    where
+      go : (b : Bool) → is_named (bindings_of es) id.0 ≡ b → b ≡ false
+      go true named = let p = name_of_named id named in some_none _ (live p.0 id p.1) none
+      go false _ = refl
+
+  -- and so for none that a form makes
+  pub form_unnamed : (bs : Bindings) (r : Result Value OpFault) (meant : Result Entry FaultValue) (old new : World) → bs ≡ bindings_of es → AreLive (bindings_of es) old.tables → Forms r meant old new → IfOk r (λ v. IsOf bs None v)
+  form_unnamed _ r meant old new same live answers = subst (λ b. IfOk r (λ v. IsOf b None v)) (sym same) (go r answers)
+    where
+      go : (r : Result Value OpFault) → Forms r meant old new → IfOk r (λ v. IsOf (bindings_of es) None v)
+      go (Ok (Object id)) answers = search (unnamed, none_shown)
+      go _ _ = tt

@@ -1,12 +1,13 @@
--- The tables of live objects stay valid.
+-- The tables of live objects stay valid, also where an object ends that no name stands for.
 use Rattle.{
   std.{proofs.{Common.{arith, ◌≡◌, ℕ, Bool, true, false, nat_eq, List, Option, Some, None, refl, sym, subst, IsSome}, lemmas.List.Elements.{All-nil}}, specs.Prelude.{if◌then◌else◌, option_map, ⊤, Result, Ok, Err, IfOk, IfSome, List, [], ◌∷◌, All}},
   meaning.specs.{Cell.{IsLonger}, Text.{Text}, Fault.{FaultValue}},
   table_meaning.specs.{Settled.{IsSettled}, Table.{NumberedTable, Table, table_value}, Valid.{IsValid}, Value.{Entry, scalar_in}},
   table_laws.{specs.Validity.{IsHeldCell, IsValidObject, IsValidEntry, IsValidGiven, AreValid, IsValidArgument, AreValidArguments}, proofs.ArgumentLaws.{more_valid}},
-  frame_store.{specs.{Objects.{Tables, table_or, with_object}, Arguments.{argument_of, IsLive, IsLiveArgument, item_of, items_of, IsLiveItem, AreLiveItems, AreLive as AreLiveArguments}, declared.{object.ObjId.{ObjId}, arguments.{Argument.{Argument, One, Many}, Value.{Value, TheVariants.{Object, Scalar}}, Item.{Item, One as OneItem, Row' as RowItem'}, Named.{Named}}, fault.OpFault.{OpFault, TheVariants.{Refused, NoMemory}}}, Shown.{Shown, shown, with_shown, table_in, FormAnswers, Changes}, World.{World, IsSettledWorld, objects_of, entry_in, Forms, Sets, arguments_in, AreKnownArguments}}, proofs.Settling.{seen_later}},
-  script_work.{specs.{Bindings.{Bindings, released, noted, AreNamed, KeepNamed, AreLive, AreGiven, AreNoted}, Work.{names_in, world_of}, declared.work.Work.{Work}}, proofs.Worlds.{made_noted, form_keeps, live_after, given_after, noted_after}},
+  frame_store.{specs.{Objects.{Tables, with_object}, Arguments.{argument_of, IsLive, IsLiveArgument, item_of, items_of, IsLiveItem, AreLiveItems, AreLive as AreLiveArguments}, declared.{object.ObjId.{ObjId}, arguments.{Argument.{Argument, One, Many}, Value.{Value, TheVariants.{Object, Scalar}}, Item.{Item, One as OneItem, Row' as RowItem'}, Named.{Named}}, fault.OpFault.{OpFault, TheVariants.{Refused, NoMemory}}}, Shown.{Shown, shown, with_shown, table_in, spent}, World.{World, IsSettledWorld, objects_of, entry_in, Forms, Sets, arguments_in, AreKnownArguments}}, proofs.Settling.{seen_later}},
+  script_work.{specs.{Bindings.{Bindings, released, noted, AreNamed, KeepNamed, AreLive, AreGiven, AreNoted, is_named, state_over}, Work.{names_in, world_of, IsUnnamedValue}, declared.work.Work.{Work}}, proofs.{Worlds.{made_noted, form_keeps, live_after, given_after, noted_after}, Bindings.{nat_same, kept_ended}, States.{state_swept}}},
   method_meaning.specs.Concat.{tables_of},
+  settings.specs.Assigned.{without, IsOther},
 }
 
 -- what holds in the midst of a statement
@@ -23,12 +24,8 @@ each = grind arith
 are_valid : (objects : Shown) → Each objects → AreValid objects
 are_valid = grind arith
 
--- a live object's table is valid
-table_valid : (f : NumberedTable → Table) (o : Option NumberedTable) → IsSome o → IfSome (option_map f o) IsValid → IsValid (f (table_or o))
-table_valid = grind arith
-
 pub object_valid : (w : World) (v : Value) → AreValid (objects_of w) → IsLive w.tables v → IsValidObject (entry_in w v)
-object_valid w (Object id) valid live = table_valid _ _ live (each _ valid id.0)
+object_valid w (Object id) valid live = grind (arith, each _ valid id.0)
 object_valid w (Scalar c) _ _ = tt
 
 -- a live argument whose scalar a column can hold
@@ -58,26 +55,19 @@ live_valid w (g ∷ rest) valid live = grind (arith, tables_valid, live_valid w 
 pub arguments_valid : (w : World) (args : List Named) → AreValid (objects_of w) → AreKnownArguments w args → AreValidArguments (arguments_in w args)
 arguments_valid w _ valid known = search live_valid
 
-some_valid : (o : Option Table) → IsValid (table_in o) → IfSome o IsValid
-some_valid = grind arith
-
 put_valid : (id : ℕ) (old new : Shown) → IsValid (table_in (new id)) → new ≡ with_shown old id (new id) → AreValid old → AreValid new
 put_valid id old new h put valid = are_valid _ (λ k. grind (arith, by, nat_eq))
   where
     by : (k : ℕ) (b : Bool) → IfSome (if b then new id else old k) IsValid
-    by k true = some_valid _ h
+    by k true = grind arith
     by k false = each _ valid k
 
 -- what a form makes is valid, and the others are as they were
-answered_valid : (texts : List Text) (r : Result Value OpFault) (meant : Result Entry FaultValue) (old new : Shown) → FormAnswers texts r meant old new → IfOk meant IsValidEntry → AreValid old → AreValid new
-answered_valid _ (Ok (Object id)) _ _ _ h made valid =
-    put_valid _ _ _ (subst (λ m. IfOk m IsValidEntry) h.0 made) h.1.2 valid
-answered_valid _ (Ok (Scalar c)) _ _ _ h _ valid = rw h.1.0 valid
-answered_valid _ (Err (Refused code)) _ _ _ h _ valid = rw h.1 valid
-answered_valid _ (Err NoMemory) _ _ _ h _ valid = rw h valid
-
 pub form_valid : (r : Result Value OpFault) (meant : Result Entry FaultValue) (old new : World) → Forms r meant old new → IfOk meant IsValidEntry → AreValid (objects_of old) → AreValid (objects_of new)
-form_valid r _ _ _ h made valid = answered_valid _ r _ _ _ h.0 made valid
+form_valid (Ok (Object id)) _ _ _ h made valid = put_valid _ _ _ (subst (λ m. IfOk m IsValidEntry) h.0.0 made) h.0.1.2 valid
+form_valid (Ok (Scalar c)) _ _ _ h _ valid = subst AreValid (sym h.0.1.0) valid
+form_valid (Err (Refused code)) _ _ _ h _ valid = subst AreValid (sym h.0.1) valid
+form_valid (Err NoMemory) _ _ _ h _ valid = subst AreValid (sym h.0) valid
 
 -- a form leaves the work of a statement as it has to be, and what it makes is noted
 module _ (s : Work) (new : World) (r : Result Value OpFault) (meant : Result Entry FaultValue) (answers : Forms r meant (world_of s) new) (valid : IfOk meant IsValidEntry) where
@@ -97,14 +87,11 @@ module _ (s : Work) (new : World) (r : Result Value OpFault) (meant : Result Ent
   pub stands_refused : {ts : List ObjId} {f : OpFault} → r ≡ Err f → ts ≡ s.temps.items → Stands (names_in s) ts new
   stands_refused is same = stands (cc (is, same))
 
-changed_valid : (texts : List Text) (r : Result ⊤ OpFault) (on : Value) (meant : Result Table FaultValue) (old new : Shown) → Changes texts r on meant old new → IfOk meant IsValid → AreValid old → AreValid new
-changed_valid _ (Ok done) (Object id) _ _ _ h made valid = put_valid _ _ _ (subst (λ m. IfOk m IsValid) h.0 made) h.2 valid
-changed_valid _ (Ok done) (Scalar c) _ _ _ h _ _ = absurd h
-changed_valid _ (Err (Refused code)) _ _ _ _ h _ valid = rw h.1 valid
-changed_valid _ (Err NoMemory) _ _ _ _ h _ valid = rw h valid
-
 pub set_valid : (r : Result ⊤ OpFault) (on : Value) (meant : Result Table FaultValue) (old new : World) → Sets r on meant old new → IfOk meant IsValid → AreValid (objects_of old) → AreValid (objects_of new)
-set_valid r on _ _ _ h made valid = changed_valid _ r on _ _ _ h.0 made valid
+set_valid (Ok done) (Object id) _ _ _ h made valid = put_valid _ _ _ (subst (λ m. IfOk m IsValid) h.0.0 made) h.0.2 valid
+set_valid (Ok done) (Scalar c) _ _ _ h _ _ = absurd h.0
+set_valid (Err (Refused code)) _ _ _ _ h _ valid = subst AreValid (sym h.0.1) valid
+set_valid (Err NoMemory) _ _ _ _ h _ valid = subst AreValid (sym h.0) valid
 
 -- further texts change no table
 pub longer_valid : (tables : Tables) (old new : List Text) → IsLonger old new → IsSettled shown old tables → AreValid (shown old tables) → AreValid (shown new tables)
@@ -132,3 +119,26 @@ swept_valid texts _ _ new kept named valid = are_valid _ (λ id. at id (new id) 
     at : (id : ℕ) (o : Option NumberedTable) → new id ≡ o → IfSome (option_map (table_value texts) (new id)) IsValid
     at _ None is = rw is tt
     at id (Some t) is = rw (kept id (named id (subst IsSome (sym is) refl))) (each _ valid id)
+
+-- Settings that may end an object that no name stands for.
+pub unnamed_spare : (bs : Bindings) (value : Argument) (spare : Option ObjId) → IfSome spare (IsUnnamedValue bs value) → IfSome spare (λ id. is_named bs id.0 ≡ false)
+unnamed_spare = grind arith
+
+-- what holds without it
+pub spent_valid : (texts : List Text) (r : Result ⊤ OpFault) (spare : Option ObjId) (tables : Tables) → AreValid (shown texts tables) → AreValid (shown texts (spent r spare tables))
+spent_valid _ (Ok _) (Some id) _ valid = search without_valid
+spent_valid _ _ _ _ valid = valid
+
+pub spent_keeps : (bs : Bindings) (r : Result ⊤ OpFault) (spare : Option ObjId) (tables : Tables) → IfSome spare (λ id. is_named bs id.0 ≡ false) → KeepNamed bs tables (spent r spare tables)
+spent_keeps = grind (arith, kept_ended)
+
+pub spent_noted : (bs : Bindings) (ts : List ObjId) (r : Result ⊤ OpFault) (spare : Option ObjId) (tables : Tables) → AreNoted bs ts tables → AreNoted bs ts (spent r spare tables)
+spent_noted = grind (arith, nat_eq)
+
+-- the value that is set stays
+pub spent_on : (tables : Tables) (on : Value) (spare : Option ObjId) (r : Result ⊤ OpFault) → IfSome spare (IsOther on) → IsLive tables on → IsLive (spent r spare tables) on
+spent_on = grind (arith, nat_eq, nat_same)
+
+-- the state is the same without it
+pub spent_state : (bs : Bindings) (value : Argument) (r : Result ⊤ OpFault) (spare : Option ObjId) (w : World) → IfSome spare (IsUnnamedValue bs value) → state_over bs w ≡ state_over bs (without r spare w)
+spent_state _ _ r _ w is = sym (search (state_swept, spent_keeps, unnamed_spare))

@@ -1,31 +1,67 @@
--- What forms do to the objects and the texts.
+-- What forms do to the objects and the texts, and how values are seen then.
+use mathlib.Core.Former.{Count}
 use Rattle.{
-  std.{proofs.Common.{rules, arith, ◌≡◌, ◌↔◌, ℕ, Bool, true, false, nat_eq, List, [], ◌∷◌, ◌++◌, Option, None, refl, sym, ◌∙◌, ap, subst, IsSome}, specs.Prelude.{if◌then◌else◌, option_map, ⊤, Result, Ok, Err, IfOk, IfSome}},
-  meaning.specs.{Cell.{IsLonger}, Text.{Text}, Fault.{FaultValue}},
+  std.{proofs.Common.{arith, ◌≡◌, ℕ, List, [], ◌∷◌, refl, ap, IsSome, rules, ◌↔◌, Bool, true, false, nat_eq, ◌++◌, Option, None, sym, ◌∙◌, subst}, specs.Prelude.{if◌then◌else◌, option_map, ⊤, Result, Ok, Err, IfOk, IfSome}},
+  cell_core.specs.declared.cell.Label.{Label},
+  meaning.specs.{Text.{Text}, Cell.{IsLonger}, Fault.{FaultValue}},
+  frame_store.{specs.{Objects.{Tables, table_or}, Arguments.{object_value, entry_of, item_of, items_row, items_of, argument_of, entries_row, entries_of, arguments_of, subscript_of, IsLive, IsLiveItem, IsLiveRow, AreLiveItems, IsLiveArgument, AreLiveEntries, AreLivePairs, AreLive as AreLiveArguments, IsLiveSubscript}, declared.{object.ObjId.{ObjId}, arguments.{Value.{Value, TheVariants.{Object, Scalar}}, Argument.{Argument, Nothing, One, Row, Many, Table', Row_of-Entries-pairs-2, end_of-Entries-pairs-2, more_of-Entries-pairs-2}, Item.{Item, One as OneItem, Row' as RowItem', Row_of-Item, end_of-Item, more_of-Item}, Named.{Named}, Subscript.{Subscript, TheVariants.{Key, Span}}}, fault.OpFault.{OpFault, TheVariants.{Refused, NoMemory}}}, Shown.{Shown, shown, with_shown, table_in, seen, FormAnswers}, World.{World, objects_of, entry_in, argument_in, IsSettledWorld, Keeps, IsKnown, IsKnownValue, IsKnownArgument, Forms, Sets}}, proofs.Settling.{settled_later, seen_later, longer_self, longer_twice}},
   table_meaning.specs.{Settled.{IsSettled}, Table.{NumberedTable, Table, table_value}, Value.{Entry}},
-  frame_store.{specs.{Objects.{Tables, table_or}, Arguments.{object_value, entry_of, items_of, argument_of, entries_of, arguments_of, subscript_of, IsLive, AreLiveItems, IsLiveArgument, AreLivePairs, AreLive as AreLiveArguments, IsLiveSubscript}, Shown.{Shown, shown, with_shown, table_in, seen, FormAnswers}, declared.{object.ObjId.{ObjId}, arguments.{Value.{Value, TheVariants.{Object, Scalar}}, Argument.{Argument}}, fault.OpFault.{OpFault, TheVariants.{Refused, NoMemory}}}, World.{World, objects_of, entry_in, argument_in, IsSettledWorld, Keeps, IsKnown, IsKnownValue, IsKnownArgument, Forms, Sets}}, proofs.Settling.{settled_later, seen_later, longer_self, longer_twice}},
-  script_work.{specs.Bindings.{Bindings, is_named, contains, noted, AreLive, AreGiven, AreNoted}, proofs.{Numbers.{nat_same, some_none}, LiveObjects.{or_right, or_map, contains_last, contains_more}, Views.{value_same, items_same, argument_same, pairs_same, arguments_same, subscript_same}}},
+  script_work.{specs.Bindings.{Bindings, is_named, contains, noted, AreLive, AreGiven, AreNoted}, proofs.Bindings.{nat_same, contains_last, contains_more}},
 }
 use Rattle.table_meaning.specs.Value as value
+use Rattle.table_meaning.specs.Value as value
 
+module _ (texts : List Text) (tables tables' : Tables) (same : (id : ObjId) → IsSome (tables id.0) → object_value tables' texts id ≡ object_value tables texts id) (later : (id : ℕ) → IsSome (tables id) → IsSome (tables' id)) where
+  pub value_same : (v : Value) → IsLive tables v → (entry_of tables' texts v ≡ entry_of tables texts v) × IsLive tables' v
+  value_same = grind arith
+
+  mutual
+    item_same : (item : Item) → IsLiveItem tables item → (item_of tables' texts item ≡ item_of tables texts item) × IsLiveItem tables' item
+    item_same (OneItem v) live = grind (arith, value_same v live)
+    item_same (RowItem' shape row) live = grind (arith, row_same _ row live)
+
+    row_same : (n : Count) (row : Row_of-Item n) → IsLiveRow tables row → (items_row tables' texts row ≡ items_row tables texts row) × IsLiveRow tables' row
+    row_same _ end_of-Item _ = (refl, tt)
+    row_same _ (more_of-Item {n} a rest) live = grind (arith, item_same a live.0, row_same n rest live.1)
+
+  pub items_same : (items : List Item) → AreLiveItems tables items → (items_of tables' texts items ≡ items_of tables texts items) × AreLiveItems tables' items
+  items_same [] _ = (refl, tt)
+  items_same (item ∷ items) live = grind (arith, item_same item live.0, items_same items live.1)
+
+  mutual
+    pub argument_same : (a : Argument) → IsLiveArgument tables a → (argument_of tables' texts a ≡ argument_of tables texts a) × IsLiveArgument tables' a
+    argument_same Nothing _ = (refl, tt)
+    argument_same (One v) live = grind (arith, value_same v live)
+    argument_same (Row l) live = grind (arith, items_same l.items.items live)
+    argument_same (Many l) live = grind (arith, items_same l.items.items live)
+    argument_same (Table' shape row) live = grind (arith, entries_same _ row live)
+
+    entries_same : (n : Count) (row : Row_of-Entries-pairs-2 n) → AreLiveEntries tables row → (entries_row tables' texts row ≡ entries_row tables texts row) × AreLiveEntries tables' row
+    entries_same _ end_of-Entries-pairs-2 _ = (refl, tt)
+    entries_same _ (more_of-Entries-pairs-2 {n} label a rest) live = grind (arith, argument_same a live.0, entries_same n rest live.1)
+
+  pub pairs_same : (pairs : List (Label × Argument)) → AreLivePairs tables pairs → (entries_of tables' texts pairs ≡ entries_of tables texts pairs) × AreLivePairs tables' pairs
+  pairs_same [] _ = (refl, tt)
+  pairs_same (pair ∷ pairs) live = grind (arith, argument_same pair.1 live.0, pairs_same pairs live.1)
+
+  pub arguments_same : (args : List Named) → AreLiveArguments tables args → (arguments_of tables' texts args ≡ arguments_of tables texts args) × AreLiveArguments tables' args
+  arguments_same [] _ = (refl, tt)
+  arguments_same (g ∷ args) live = grind (arith, argument_same g.value live.0, arguments_same args live.1)
+
+  pub subscript_same : (s : Subscript) → IsLiveSubscript tables s → (subscript_of tables' texts s ≡ subscript_of tables texts s) × IsLiveSubscript tables' s
+  subscript_same (Key a) live = grind (arith, argument_same a live)
+  subscript_same (Span from to by) live = grind (arith, argument_same from live.0, argument_same to live.1, argument_same by live.2)
+
+-- What forms do to the objects and the texts.
 -- an object and its table with texts
-some_of_map : {A B : Type 0} (f : A → B) (o : Option A) → IsSome (option_map f o) → IsSome o
-some_of_map = grind arith
-
-map_of_some : {A B : Type 0} (f : A → B) (o : Option A) → IsSome o → IsSome (option_map f o)
-map_of_some = grind arith
-
-none_of_map : {A B : Type 0} (f : A → B) (o : Option A) → option_map f o ≡ None → o ≡ None
-none_of_map = grind arith
-
 pub some_shown : (w : World) (id : ℕ) → IsSome (objects_of w id) → IsSome (w.tables id)
-some_shown = search some_of_map
+some_shown = grind arith
 
 pub shown_some : (w : World) (id : ℕ) → IsSome (w.tables id) → IsSome (objects_of w id)
-shown_some = search map_of_some
+shown_some = grind arith
 
 pub none_shown : (w : World) (id : ℕ) → objects_of w id ≡ None → w.tables id ≡ None
-none_shown = search none_of_map
+none_shown = grind arith
 
 pub table_shown : (texts : List Text) (o : Option NumberedTable) → table_in (option_map (table_value texts) o) ≡ table_value texts (table_or o)
 table_shown = grind arith
@@ -103,7 +139,7 @@ module _ (old new : World) (settled : IsSettledWorld old) (settled' : IsSettledW
 
 -- a form leaves all objects that were live as they were
 grew_keeps : (id : ObjId) (old new : Shown) → old id.0 ≡ None → new ≡ with_shown old id.0 (new id.0) → (k : ℕ) → IsSome (old k) → new k ≡ old k
-grew_keeps = grind (arith, nat_eq, some_none, nat_same)
+grew_keeps = grind (arith, nat_eq, nat_same)
 
 pub form_keeps : (r : Result Value OpFault) (meant : Result Entry FaultValue) (old new : World) → Forms r meant old new → Keeps old new
 form_keeps r meant old new answers = record { objects = go r answers.0; texts = answers.1 }
@@ -150,10 +186,10 @@ noted_after bs ts r meant old new answers have = go r answers.0
     go (Ok (Object o)) a id live = at (nat_eq o.0 id) refl
       where
         at : (b : Bool) → nat_eq o.0 id ≡ b → (if is_named bs id then true else contains (ts ++ o ∷ []) id) ≡ true
-        at true is = search (or_right, contains_last)
+        at true is = grind (arith, contains_last)
         at false is =
             let was = ap (λ f. f id) a.1.2 ∙ ap (λ b. if b then objects_of new o.0 else objects_of old id) is in
-            grind (arith, or_map, contains_more, some_shown, shown_some)
+            grind (arith, contains_more, some_shown, shown_some)
 
 pub given_after : (bs : Bindings) (old new : List Text) → IsLonger old new → AreGiven bs old → AreGiven bs new
 given_after = search settled_later

@@ -1,15 +1,14 @@
 -- What a plan answers, and a selection with it.
 use Rattle.{
-  std.proofs.{lemmas.List.{length-map, FromFn.{length-range_with_len}}, Common.{◌≡◌, ◌∙◌, refl, ap, sym, subst, arith, ℕ, ◌<◌, List, [], ◌∷◌, length, slice_index_or, All, Option, Some, None, Result, Ok}, Math.ListN.{get_or-map}},
+  std.proofs.{lemmas.List.{length-map, FromFn.{length-range_with_len}}, Common.{◌≡◌, refl, subst, arith, ℕ, ◌<◌, List, [], ◌∷◌, length, slice_index_or, All, Option, Some, None, Result, Ok}, Math.ListN.{get_or-map}},
   column_core.proofs.MoveLaws.{get_or-tabulate},
   cell_core.specs.declared.cell.{Cell.{Cell, TheVariants.{Na}}, Label.{Label}},
   meaning.specs.{Text.{Text}, Cell.{CellValue, datum}, Fault.{FaultValue, then_value}},
   table_meaning.specs.{Table.{NumberedTable, Table, table_value, column_at}, Value.{Entry, GivenSub}},
-  select_meaning.specs.Select.{cut, without_leading, first_cell, shown_as, picked_result, Way, way_reach, select_result},
+  select_meaning.specs.Select.{cut, first_cell, shown_as, picked_result, Way, way_reach, select_result},
   frame_store.{specs.{Objects.{Tables, tables}, Arguments.{object_value}, Parts.{HeadingList}, World.{World, world, entry_in, IsSettledWorld, Forms}, declared.{arguments.Value.{Value, TheVariants.{Object, Scalar}}, fault.OpFault.{OpFault}, object.ObjId.{ObjId}, store.Store.{Store}}}, proofs.Settling.{longer_self, settled_by, object_settled}},
   selections.{specs.{Selected.{headings_at}, Plans.{rows_in, levels_lost, AreTakenFrom, has_single_row, has_single_column, reach_of_plan, PlansBy}, declared.planning.{Taken.{Taken, TheVariants.{Slice, Listed, Under}}, Form.{Form}, Plan.{Plan}}}, proofs.{AnswerLaws.{column_seen}, CutLaws.{headings_with}, PickedLaws.{read_is}, PlanLaws.{without_none}}},
 }
-use Rattle.table_meaning.specs.Value as value
 use Rattle.selections.specs.declared.planning.Form.TheVariants as answer
 
 -- the only row is one of the table's
@@ -21,7 +20,7 @@ row_inside (Under places count) t row below is = (rw is at below.0) 0 row (omega
 -- the name of a single column
 pub single_heading : (s t : NumberedTable) (columns : List ℕ) (place : ℕ) (heading : Option Label) (headings : HeadingList) → s ≡ t → columns ≡ place ∷ [] → heading ≡ slice_index_or s.headings place None
     → headings ≡ record { columns_name = None; labels = heading ∷ [] } → headings ≡ headings_with None t columns
-single_heading s t _ _ _ _ at one is made = search headings_with
+single_heading s t _ _ _ _ at one is made = search
 
 -- the headings that were gathered from the table that was read
 pub gathered : (s t : NumberedTable) (columns : List ℕ) (labels items : List (Option Label)) → s ≡ t → labels ≡ items → items ≡ headings_at s columns → labels ≡ headings_at t columns
@@ -34,9 +33,7 @@ gathered_with = grind arith
 -- what is picked by a plan, by its form
 pub plan_meant : (texts : List Text) (live : Tables) (on : ObjId) (source : NumberedTable) (plan : Plan) (form : Form) (rows columns : List ℕ) → live on.0 ≡ Some source → plan.form ≡ form → rows_in plan.rows ≡ rows → levels_lost plan.rows ≡ 0
     → plan.columns ≡ columns → shown_as (has_single_row form) (has_single_column form) (cut (table_value texts source) rows columns) ≡ picked_result (object_value live texts on) (reach_of_plan plan)
-plan_meant texts _ _ _ _ form _ _ live_is form_is rows_are whole columns_are =
-    ap (shown_as (has_single_row form) (has_single_column form)) (sym (without_none _))
-    ∙ (λ j. shown_as (has_single_row (sym form_is j)) (has_single_column (sym form_is j)) (without_leading (sym whole j) (cut (table_value texts (read_is _ _ live_is j)) (sym rows_are j) (sym columns_are j))))
+plan_meant texts _ _ source _ form rows columns live_is form_is rows_are whole columns_are = cc (read_is _ _ live_is, without_none (cut (table_value texts source) rows columns))
 
 -- a cell
 abbrev taken_cell : ℕ → ℕ → Table → CellValue
@@ -48,8 +45,14 @@ cell_seen texts t row place c is = cc (column_seen texts t.columns place, get_or
 pub cell_made : (texts : List Text) (store : Store) (on : ObjId) (source : NumberedTable) (plan : Plan) (row place : ℕ) (c : Cell) → tables store on.0 ≡ Some source → IsSettledWorld (world store texts) → plan.form ≡ answer.Cell
     → rows_in plan.rows ≡ row ∷ [] → levels_lost plan.rows ≡ 0 → plan.columns ≡ place ∷ [] → c ≡ slice_index_or (column_at source.columns place).cells row Na
     → Forms (Ok (Scalar c)) (picked_result (object_value (tables store) texts on) (reach_of_plan plan)) (world store texts) (world store texts)
-cell_made _ store on source plan row place c live_is settled form rows whole columns is =
-    (((sym (plan_meant _ (tables store) on _ plan _ _ _ live_is form rows whole columns) ∙ ap (λ v. Ok (value.cell v)) (cell_seen _ source row _ c is)), (refl, (settled_by table_value datum (taken_cell row place) _ _ c (λ ts. cell_seen ts source row _ c is) (object_settled _ _ _ _ live_is settled)))), longer_self _, settled)
+cell_made texts store on source plan row place c live_is settled form rows whole columns is = (
+  (
+    cc (plan_meant texts (tables store) on source plan answer.Cell (row ∷ []) (place ∷ []) live_is form rows whole columns, cell_seen texts source row place c is),
+    (refl, settled_by table_value datum (taken_cell row place) _ _ c (λ ts. cell_seen ts source row _ c is) (object_settled _ _ _ _ live_is settled)),
+  ),
+  longer_self _,
+  settled,
+)
 
 -- what is selected from an object
 module _ (texts : List Text) (store : Store) (on : Value) (id : ObjId) (source : NumberedTable) (way : Way) (first : GivenSub) (second : Option GivenSub) (is : on ≡ Object id) (live_is : tables store id.0 ≡ Some source) where

@@ -1,6 +1,6 @@
 -- Headings that are told apart by the numbers of their texts.
 use Rattle.{
-  std.{proofs.{Common.{◌≡◌, ◌<◌, ◌+◌, refl, ℕ, zero, suc, Bool, false, ◌||◌, cond, List, [], ◌∷◌, map, length, drop, slice_index_or, Option, Some, None, All, if◌then◌else◌, arith, rules}, Math.Seq.{drop-cons}, lemmas.List.Folds.{list_any-append}}, specs.{Prelude.{◌≢◌, IsSome, AllPairs}, Bool.{Decides}, List.{list_any, position_from}, Map.{lookup}}},
+  std.{proofs.{Common.{◌≡◌, ◌<◌, ◌+◌, refl, ℕ, zero, suc, Bool, false, ◌||◌, cond, List, [], ◌∷◌, map, length, drop, slice_index_or, Option, Some, None, All, if◌then◌else◌, arith, rules}, lemmas.List.{drop_more, Folds.{list_any-append, list_any_at}}}, specs.{Prelude.{◌≢◌, IsSome, AllPairs}, Bool.{Decides}, List.{list_any, position_from}, Map.{lookup}}},
   indexmap.specs.IndexSet.{insert_key},
   cell_core.specs.{declared.cell.Label.{Label}, Texts.{AreDistinct}},
   meaning.specs.Text.{Text},
@@ -14,9 +14,6 @@ use Rattle.form_meaning.specs.Finish as finish
 
 pub label_decides : (a b : Label) → Decides (same_number a b) (a ≡ b)
 label_decides = search rules
-
-pub some_same : {A : Type 0} (a b : A) → Some a ≡ Some b → a ≡ b
-some_same a b e = cc
 
 pub heading_decides : (a b : Option Label) → Decides (same_heading a b) (a ≡ b)
 heading_decides = grind arith
@@ -45,13 +42,8 @@ repeated_seen _ [] _ _ = refl
 repeated_seen texts (h ∷ hs) distinct settled = grind (arith, repeated_seen texts hs distinct (grind arith), any_seen texts h hs distinct (search head_settled) (grind arith))
 
 -- headings of which none stands again are different
-or_second : (a b : Bool) → (a || b) ≡ false → b ≡ false
-or_second = grind arith
-
 not_among : (h : Option Label) (hs : List (Option Label)) → list_any (same_heading h) hs ≡ false → (j : ℕ) (d : Option Label) → j < length hs → h ≢ slice_index_or hs j d
-not_among h [] none j d lt = absurd (omega arith)
-not_among h (g ∷ gs) none zero d lt = grind arith
-not_among h (g ∷ gs) none (suc j) d lt = not_among h gs (search or_second) j d (omega arith)
+not_among h hs none j d lt = grind (arith, list_any_at (same_heading h) hs j d lt, heading_decides)
 
 not_again : (b : Bool) (h rest : Option Label) → IsSome h → (if b then h else rest) ≡ None → (b ≡ false) × (rest ≡ None)
 not_again = grind arith
@@ -68,17 +60,14 @@ different (h ∷ hs) all none (suc i) (suc j) d before lt =
 key_more : (q h : Option Label) (keys : List (Option Label)) → list_any (same_heading q) (insert_key same_heading keys h) ≡ (same_heading q h || list_any (same_heading q) keys)
 key_more = search (rules, list_any-append)
 
-pub drop_at : (hs : List (Option Label)) (p : ℕ) (d : Option Label) → p < length hs → drop p hs ≡ slice_index_or hs p d ∷ drop (p + 1) hs
-drop_at = grind (arith, drop-cons)
-
 pub later_step : (hs keys keys' : List (Option Label)) (p : ℕ) (d q : Option Label) → p < length hs → ((q : Option Label) → list_any (same_heading q) keys ≡ list_any (same_heading q) (drop (p + 1) hs))
     → keys' ≡ insert_key same_heading keys (slice_index_or hs p d) → list_any (same_heading q) keys' ≡ list_any (same_heading q) (drop p hs)
-later_step = grind (arith, key_more, drop_at)
+later_step = grind (arith, key_more, drop_more)
 
 -- the first place of each heading, with one heading more before the others
 pub first_places_more : (hs : List (Option Label)) (p : ℕ) (d h : Option Label) (es es' : List (Option Label × ℕ)) → p < length hs → h ≡ slice_index_or hs p d
     → ((q : Option Label) → lookup (same_heading q) es' ≡ cond (same_heading h q) (Some p) (lookup (same_heading q) es)) → HaveFirstPlaces es (p + 1) (drop (p + 1) hs) → HaveFirstPlaces es' p (drop p hs)
-first_places_more = grind (arith, drop_at)
+first_places_more = grind (arith, drop_more)
 
 -- a place at which a test passes is one of the list's
 pub position_inside : (test : Option Label → Bool) (from : ℕ) (hs : List (Option Label)) (k : ℕ) → position_from test from hs ≡ Some k → k < from + length hs

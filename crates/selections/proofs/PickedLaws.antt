@@ -1,6 +1,6 @@
 -- Rows and places of another table.
 use Rattle.{
-  std.{proofs.{Common.{take, ◌≡◌, ◌∙◌, ℕ, suc, zero, ◌+◌, ◌<◌, pos, List, [], ◌∷◌, length, map, refl, ap, sym, arith, All, Option, Some, ◌++◌}, lemmas.{Option.{get_or_from_slice_get}, List.{map-append, take_more, FromFn.{get_or-range_with_len, length-range_with_len}}}}, specs.{Prelude.{slice_index_or, slice_get}, List.{range_with_len}}},
+  std.{proofs.{Common.{take, ◌≡◌, ◌∙◌, ℕ, suc, zero, ◌+◌, ◌<◌, pos, List, [], ◌∷◌, length, map, refl, ap, arith, All, Option, Some, ◌++◌}, lemmas.{Option.{get_or_from_slice_get}, List.{map_more, FromFn.{get_or-range_with_len, length-range_with_len}}}}, specs.{Prelude.{slice_index_or, slice_get}, List.{range_with_len}}},
   cell_core.specs.declared.grid.Rows.{Rows},
   table_meaning.specs.Table.{NumberedTable},
   frame_store.specs.Objects.{table_or},
@@ -21,8 +21,7 @@ listed_is xs d = list_is _ xs 0 d (λ k lt. let e : 0 + k ≡ k = omega arith in
 -- one more place's
 pub mapped_more : {C : Type 0} (f : ℕ → C) (places : List ℕ) (k place : ℕ) (c : C) (before after : List C) → k < length places → slice_get places k ≡ Some place → c ≡ f place
     → before ≡ map f (take k places) → after ≡ before ++ c ∷ [] → after ≡ map f (take (k + 1) places)
-mapped_more f places k place _ _ _ lt at is was pushed =
-    pushed ∙ (λ j. was j ++ is j ∷ []) ∙ sym (cc (take_more places k 0 lt, get_or_from_slice_get places k place 0 at, map-append f (take k places) (slice_index_or places k 0 ∷ [])))
+mapped_more f places k place _ _ _ lt at is was pushed = cc (map_more f places k 0 lt, get_or_from_slice_get places k place 0 at)
 
 -- all rows of so many
 abbrev pub all_rows : ℕ → Rows
@@ -45,6 +44,3 @@ places_count _ count is = cc (length-range_with_len 0 count)
 -- the table of an object that is read
 pub read_is : (object : Option NumberedTable) (source : NumberedTable) → object ≡ Some source → source ≡ table_or object
 read_is _ _ is = cc
-
-pub all_columns : (object : Option NumberedTable) (source : NumberedTable) (count : ℕ) → object ≡ Some source → count ≡ length source.columns → count ≡ length (table_or object).columns
-all_columns _ _ _ is same = search

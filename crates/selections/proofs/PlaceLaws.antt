@@ -1,8 +1,8 @@
 -- Columns by their labels.
 use Rattle.{
-  std.{proofs.{Common.{◌≡◌, ◌∙◌, ℕ, suc, ◌+◌, ◌<◌, Bool, true, false, List, [], ◌∷◌, ◌++◌, length, drop, map, refl, ap, sym, arith, if◌then◌else◌, All, append_assoc, append-nil, Option, Some, None, Result, Ok, Err}, lemmas.{List.{length-map}, Option.{get_or_from_slice_get}}, Math.{ListN.{get_or-map}, Seq.{drop-cons, drop-length}}}, specs.{Prelude.{◌≢◌, slice_index_or, slice_get}, Option.{option_map}, List.{position_from}, Map.{lookup}}},
+  std.{proofs.{Common.{◌≡◌, ℕ, suc, ◌+◌, ◌<◌, Bool, true, false, List, [], ◌∷◌, ◌++◌, length, drop, map, refl, ap, arith, All, append_assoc, append-nil, Option, Some, None, Result, Ok, Err}, lemmas.{List.{length-map, drop_more}, Option.{get_or_from_slice_get}}, Math.{ListN.{get_or-map}, Seq.{drop-cons, drop-length}}}, specs.{Prelude.{◌≢◌, slice_index_or, slice_get}, Option.{option_map}, List.{position_from}, Map.{lookup}}},
   cell_core.specs.{declared.cell.{Cell.{Cell, TheVariants.{Na}}, Label.{Label}}, Texts.{AreDistinct}},
-  meaning.specs.{Text.{Text}, Cell.{na_cell, LabelValue, na, datum, label_datum}, Operator.{cell_label}, Fault.{FaultValue, then_value}},
+  meaning.specs.{Text.{Text}, Cell.{na_cell, LabelValue, datum, label_datum}, Operator.{cell_label}, Fault.{FaultValue, then_value}},
   table_meaning.specs.{Settled.{IsSettled}, Table.{NumberedTable, Table, table_value, heading_value}, Valid.{IsWhole}},
   form_meaning.specs.{Finish.{same_heading, try_all}, Select.{place_of_label, found, column_place}},
   form_parts.proofs.LabelLaws.{value_decides, label_given, label_one, heading_label},
@@ -16,23 +16,11 @@ pub heading_seen : (texts : List Text) (headings : List (Option Label)) (place :
 heading_seen texts headings place = get_or-map (heading_value texts) headings place None
 
 pub heading_settled : (texts : List Text) (headings : List (Option Label)) (place : ℕ) (heading : Option Label) → heading ≡ slice_index_or headings place None → IsSettled headings_value texts headings → IsSettled heading_value texts heading
-heading_settled _ _ place _ is settled = rw is (λ more. sym (search heading_seen) ∙ ap (λ l. slice_index_or l place None) (settled more) ∙ heading_seen _ _ place)
+heading_settled texts headings place _ is settled = λ more. grind (arith, heading_seen (texts ++ more) headings place, heading_seen texts headings place, settled more)
 
 -- a place after so many others
 abbrev pub moved : ℕ → Option ℕ → Option ℕ
 moved n o = option_map (λ k. n + k) o
-
-moved_suc : (n : ℕ) (o : Option ℕ) → moved n (option_map suc o) ≡ moved (n + 1) o
-moved_suc = grind arith
-
-abbrev place_if : List (Option LabelValue) → LabelValue → ℕ → Bool → Option ℕ
-place_if hs l n b = moved n (if b then Some 0 else option_map suc (place_of_label (drop (suc n) hs) l))
-
-from_place : (hs : List (Option LabelValue)) (l : LabelValue) (n : ℕ) (b : Bool) → n < length hs → same_heading (Some l) (slice_index_or hs n None) ≡ b → moved n (place_of_label (drop n hs) l) ≡ place_if hs l n b
-from_place = grind (arith, drop-cons)
-
-there : (texts : List Text) (headings : List (Option Label)) (place : ℕ) → place < length headings → place < length (headings_value texts headings)
-there texts headings = omega (arith, length-map headings (heading_value texts))
 
 abbrev pub place_from : List Text → List (Option Label) → Label → ℕ → Option ℕ
 place_from texts headings label place = moved place (place_of_label (drop place (headings_value texts headings)) (label_datum texts label))
@@ -40,21 +28,11 @@ place_from texts headings label place = moved place (place_of_label (drop place 
 -- the first column with the label is met, or passed
 module _ (texts : List Text) (headings : List (Option Label)) (label : Label) (place : ℕ) (heading : Option Label) (b : Bool) (whole : Option ℕ) (lt : place < length headings) (is : heading ≡ slice_index_or headings place None)
     (same : b ≡ same_heading (heading_value texts (Some label)) (heading_value texts heading)) where
-  seen_as : same_heading (Some (label_datum texts label)) (slice_index_or (headings_value texts headings) place None) ≡ b
-  seen_as = grind (arith, heading_seen)
-
   pub place_met : b ≡ true → place_from texts headings label place ≡ whole → Some place ≡ whole
-  place_met is_so before =
-      ap Some (let e : place ≡ place + 0 = omega arith in e)
-      ∙ sym (from_place _ _ _ true (there _ _ _ lt) (seen_as ∙ is_so))
-      ∙ before
+  place_met is_so before = grind (arith, heading_seen, drop_more (headings_value texts headings) place None (omega (arith, length-map headings (heading_value texts))))
 
   pub place_passed : b ≡ false → place_from texts headings label place ≡ whole → place_from texts headings label (place + 1) ≡ whole
-  place_passed other before =
-      let next : place + 1 ≡ suc place = omega arith in
-      let l = label_datum texts label in
-      let hs = headings_value texts headings in
-      cc (moved_suc place (place_of_label (drop (suc place) hs) l), from_place hs l place false (there texts headings place lt) (seen_as ∙ other))
+  place_passed other before = grind (arith, heading_seen, drop_more (headings_value texts headings) place None (omega (arith, length-map headings (heading_value texts))))
 
 pub no_place : (texts : List Text) (headings : List (Option Label)) (label : Label) (place : ℕ) (whole : Option ℕ) → place ≡ length headings → place_from texts headings label place ≡ whole → None ≡ whole
 no_place = grind (arith, length-map, drop-length)
@@ -68,20 +46,16 @@ label_settled = grind arith
 
 pub listed_settled : (texts : List Text) (cells : List Cell) (k : ℕ) (cell : Cell) (label : Label) → slice_get cells k ≡ Some cell → ((texts : List Text) → label_datum texts label ≡ cell_label (datum texts cell))
     → IsSettled cells_value texts cells → IsSettled label_datum texts label
-listed_settled _ _ k _ _ at seen settled =
-    label_settled _ _ _ seen (λ more. sym (search cell_seen) ∙ ap (λ l. slice_index_or l k na_cell) (settled more) ∙ cell_seen _ _ k _ at)
+listed_settled texts cells k cell _ at seen settled = λ more. cc (cell_seen (texts ++ more) cells k cell at, cell_seen texts cells k cell at, settled more, seen (texts ++ more), seen texts)
 
 -- what f makes of each, after what was made so far
 abbrev pub made_after : {A B : Type 0} → (A → Result B FaultValue) → List B → List A → Result (List B) FaultValue
 made_after f made xs = then_value (try_all f xs) (λ ys. Ok (made ++ ys))
 
-more_made : {B : Type 0} (made : List B) (y : B) (r : Result (List B) FaultValue) → then_value (then_value r (λ ys. Ok (y ∷ ys))) (λ ys. Ok (made ++ ys)) ≡ then_value r (λ ys. Ok ((made ++ y ∷ []) ++ ys))
-more_made = grind (arith, append_assoc)
-
 module _ {A B : Type 0} where
   pub one_more : (f : A → Result B FaultValue) (xs : List A) (k : ℕ) (x : A) (y : B) (made made' : List B) (whole : Result (List B) FaultValue) → drop k xs ≡ x ∷ drop (suc k) xs → f x ≡ Ok y → made' ≡ made ++ y ∷ []
       → made_after f made (drop k xs) ≡ whole → made_after f made' (drop (k + 1) xs) ≡ whole
-  one_more = grind (arith, more_made)
+  one_more = grind (arith, append_assoc)
 
   pub one_refused : (f : A → Result B FaultValue) (made : List B) (x : A) (xs : List A) (fault : FaultValue) → f x ≡ Err fault → made_after f made (x ∷ xs) ≡ Err fault
   one_refused f _ x _ _ is = cc
@@ -93,15 +67,9 @@ module _ {A B : Type 0} where
 abbrev pub labels_seen : List Text → List Cell → List LabelValue
 labels_seen texts cells = map cell_label (cells_value texts cells)
 
-labels_count : (texts : List Text) (cells : List Cell) → length (labels_seen texts cells) ≡ length cells
-labels_count = search length-map
-
 module _ (texts : List Text) (cells : List Cell) (k : ℕ) (cell : Cell) (label : Label) (lt : k < length cells) (at : slice_get cells k ≡ Some cell) (seen : label_datum texts label ≡ cell_label (datum texts cell)) where
-  label_at : slice_index_or (labels_seen texts cells) k na ≡ label_datum texts label
-  label_at = cc (get_or-map cell_label (cells_value texts cells) k na_cell, cell_seen texts cells k cell at)
-
   from_label : drop k (labels_seen texts cells) ≡ label_datum texts label ∷ drop (suc k) (labels_seen texts cells)
-  from_label = cc (drop-cons (labels_seen texts cells) k na (omega (arith, labels_count texts cells)), label_at)
+  from_label = grind (arith, drop-cons, length-map, get_or-map cell_label (cells_value texts cells) k na_cell, cell_seen)
 
   -- one more label has a column
   pub places_more : (t : Table) (place : ℕ) (places places' : List ℕ) (whole : Result (List ℕ) FaultValue) → column_place t (label_datum texts label) ≡ Ok place → places' ≡ places ++ place ∷ []
@@ -120,22 +88,16 @@ met_is _ _ None b distinct settled there same is_so = search
 met_is texts label (Some x) b distinct settled there same is_so = grind (arith, value_decides, label_one texts label x distinct (label_given _ _ settled) (search (label_given, heading_label)))
 
 -- and no column has it where none is met
-abbrev some_place : Bool → Option ℕ → Option ℕ
-some_place b o = if b then Some 0 else option_map suc o
-
-none_later : (b : Bool) (o : Option ℕ) → some_place b o ≡ None → (b ≡ false) × (o ≡ None)
-none_later = grind arith
-
 pub absent_is : (texts : List Text) (headings : List (Option Label)) (label : Label) → place_of_label (headings_value texts headings) (label_datum texts label) ≡ None → All (λ heading. heading ≢ Some label) headings
 absent_is _ [] _ none = grind arith
 absent_is texts (h ∷ hs) label none =
-    grind (arith, value_decides, absent_is texts hs label (none_later _ _ none).1)
+    grind (arith, value_decides, absent_is texts hs label)
 
 -- the first place of a label by numbers is the one that is meant
 position_seen : (texts : List Text) (n : ℕ) (hs : List (Option Label)) (label : Label) → AreDistinct texts → IsSettled headings_value texts hs → IsSettled label_datum texts label
     → position_from (numbered.same_heading (Some label)) n hs ≡ moved n (place_of_label (headings_value texts hs) (label_datum texts label))
 position_seen _ n [] _ _ _ _ = refl
-position_seen texts n (h ∷ hs) label distinct settled here = grind (arith, moved_suc, position_seen texts (n + 1) hs label distinct (grind arith) here, same_seen texts (Some label) h distinct (λ more. ap Some (here more)) (search head_settled))
+position_seen texts n (h ∷ hs) label distinct settled here = grind (arith, position_seen texts (n + 1) hs label distinct (grind arith) here, same_seen texts (Some label) h distinct (λ more. ap Some (here more)) (search head_settled))
 
 -- what the entries have for a label
 pub looked_up : (texts : List Text) (es : List (Option Label × ℕ)) (t : NumberedTable) (label : Label) (place : Option ℕ) → AreDistinct texts → IsSettled headings_value texts t.headings → IsSettled label_datum texts label

@@ -1,6 +1,6 @@
 -- Plans of selections.
 use Rattle.{
-  std.{proofs.Common.{◌≡◌, ◌∙◌, refl, ap, arith, ℕ, pos, List, [], ◌∷◌, map, drop, length, Some, Result, Ok}, specs.{Prelude.{slice_get}, List.{range_with_len}}},
+  std.{proofs.{lemmas.List.{map-id}, Common.{◌≡◌, ◌∙◌, ap, arith, ℕ, pos, List, [], ◌∷◌, length, Some, Result, Ok}}, specs.{Prelude.{slice_get}, List.{range_with_len}}},
   cell_core.specs.declared.{cell.Label.{Label}, grid.Rows.{Rows}},
   indexers.proofs.SpanLaws.{all_listed},
   multi_index.specs.Axes.{AxisValue, taken_axis},
@@ -13,11 +13,7 @@ use Rattle.{
 
 -- a table that loses no level
 pub without_none : (t : Table) → without_leading 0 t ≡ t
-without_none t = ap (λ (l : List (List LabelValue)). record t { labels = l }) (each _)
-  where
-    each : (tuples : List (List LabelValue)) → map (drop 0) tuples ≡ tuples
-    each [] = refl
-    each (tuple ∷ tuples) = cc (each tuples)
+without_none t = ap (λ (l : List (List LabelValue)). record t { labels = l }) (map-id _)
 
 -- all rows of an axis are the axis
 pub whole_axis : (axis : AxisValue) (rows : Rows) → rows.start ≡ 0 → rows.step ≡ pos 1 → rows.count ≡ length axis.tuples → taken_axis axis (rows_of rows) ≡ axis

@@ -1,10 +1,10 @@
 -- The rows and columns that keys reach are those that are meant.
 use Rattle.{
-  std.{proofs.{Common.{◌≡◌, ◌∙◌, refl, ap, sym, arith, ℕ, suc, ◌+◌, ◌<◌, pos, Bool, true, false, not, List, [], ◌∷◌, ◌++◌, map, take, length, slice_index_or, All, Option, Some, None, Result, Ok, Err, unwrap_or}, lemmas.{List.{length-map, FromFn.{length-range_with_len}}, Simd.{map-map}}, Math.ListN.{get_or-map}}, specs.{Prelude.{slice_get, IsSome}, List.{range_with_len}, Option.{is_some}, Cmp.Lexicographic.{pointwise}}},
+  std.{proofs.{Common.{◌≡◌, ◌∙◌, refl, ap, sym, arith, ℕ, suc, ◌+◌, ◌<◌, pos, Bool, true, false, not, List, [], ◌∷◌, ◌++◌, map, take, length, slice_index_or, All, Option, Some, None, Result, Ok, Err, unwrap_or}, lemmas.{List.{length-map, Elements.{All-map}, FromFn.{length-range_with_len}}, Simd.{map-map}}, Math.ListN.{get_or-map}}, specs.{Prelude.{slice_get, IsSome}, List.{range_with_len}, Option.{is_some}, Cmp.Lexicographic.{pointwise}}},
   cell_core.specs.{declared.{grid.Shape.TheVariants.{Frame}, cell.{Cell.{Cell}, Kind.TheVariants.{Boolean}, Label.{Label}}}, Texts.{AreDistinct}},
-  meaning.specs.{Symbol.{Accessor}, Text.{Text}, Cell.{CellValue, na_cell, datum, LabelValue, int}, Fault.{FaultValue, bad_value, repeated, then_value}},
+  meaning.specs.{Symbol.{Accessor}, Text.{Text}, Cell.{na_cell, datum, LabelValue, int}, Fault.{FaultValue, bad_value, repeated, then_value}},
   column_core.specs.Columns.{CellColumn},
-  table_meaning.specs.{Settled.{IsSettled}, Table.{ColumnOf, NumberedTable, Table, table_value, tuple_value, heading_value, column_at, no_column, row_of}, Value.{GivenSub}},
+  table_meaning.specs.{Settled.{IsSettled}, Table.{ColumnOf, NumberedTable, table_value, tuple_value, heading_value, column_at, row_of}, Value.{GivenSub}},
   form_meaning.specs.{Binding.{is_frame}, Finish.{column_labels}, Infix.{same_tuple}},
   form_parts.specs.Makes.{MakesBy},
   frame_store.{specs.{Objects.{tables}, Arguments.{object_value}, World.{world, IsSettledWorld}, Parts.{axis_of}, Shown.{headings_value, columns_value}, declared.{object.ObjId.{ObjId}, store.Store.{Store}, fault.OpFault.{OpFault}}}, proofs.Settling.{labels_part, object_settled}},
@@ -12,7 +12,7 @@ use Rattle.{
   indexers.specs.{Masks.{is_true}, Picks.{PicksBy, pick_of}, declared.keys.{LocKey.{LocKey}, Picked.{Picked}, KeyFault.{KeyFault}}},
   multi_index.specs.Axes.{AxisValue, HaveLevels},
   pick_meaning.{specs.{Keys.{one_key, Pick, listed_pick}, Masks.{is_kept, masked_rows}}, proofs.SeenLaws.{masked_rows-map}},
-  select_meaning.specs.Keys.{found_pick, found_labels, once, Reach},
+  select_meaning.specs.Keys.{found_pick, found_labels, once},
   selections.{specs.Reaches.{label_key_value, tuples_value, pick_value, found_result, object_key, heading_tuple, columns_axis, is_row, is_series}, proofs.{AnswerLaws.{column_seen}, PickedLaws.{list_is, listed_is, mapped_more}, SeenKeys.{IsGivenTuple, tuples_given, tuples_same, mask_in, found_seen}}},
 }
 use Rattle.cell_core.specs.declared.cell.Cell.TheVariants as code_cell
@@ -33,11 +33,6 @@ IsFound texts axis k out = IsSettled label_key_value texts k → MakesBy pick_va
 abbrev pub heading_tuples : List (Option Label) → List ℕ → List (List Label)
 heading_tuples headings places = map (λ place. heading_tuple (slice_index_or headings place None)) places
 
--- a key that is settled has settled labels
-abbrev ok_or : {A : Type 0} → A → Result A FaultValue → A
-ok_or d (Ok a) = a
-ok_or d (Err f) = d
-
 -- two keys that are settled are one that is
 pub joined_settled : (texts : List Text) (by : Accessor) (levels : ℕ) (first second key : List Text → GivenSub) → ((ts : List Text) → meant.joined_key by levels (first ts) (second ts) ≡ Ok (key ts)) → IsGiven texts first
     → IsGiven texts second → IsGiven texts key
@@ -47,7 +42,7 @@ joined_settled = grind arith
 module _ (texts : List Text) (t : NumberedTable) (axis : AxisValue) (levels : ℕ) (sub : List Text → GivenSub) (label copy : List Label) (count : levels ≡ length t.level_names) (same_axis : axis ≡ axis_of t)
     (is : (ts : List Text) → meant.whole_key levels (sub ts) ≡ Ok (tuple_value ts label)) (copied : copy ≡ label) (settled : IsGiven texts sub) where
   whole_settled : IsGivenTuple texts label
-  whole_settled = λ more. ap (ok_or (tuple_value texts label)) (sym (is (texts ++ more)) ∙ ap (meant.whole_key levels) (settled more) ∙ is texts)
+  whole_settled = λ more. cc (is (texts ++ more), settled more, is texts)
 
   at_is : meant.at_rows (table_value texts t) (sub texts) ≡ then_value (found_labels (length axis.names) (tuples_value texts axis.tuples) (label_key_value texts (key.One copy))) (once (tuple_value texts label))
   at_is = grind (arith, length-map)
@@ -66,12 +61,10 @@ module _ (texts : List Text) (t : NumberedTable) (axis : AxisValue) (levels : �
   at_repeated picked single found = (cc (at_is, found given_copy), λ more. ap (λ l. bad_value (repeated l)) (whole_settled more))
 
 -- masks
-kept_is : (texts : List Text) (c : Cell) → is_kept (datum texts c) ≡ is_true c
-kept_is = grind arith
-
 cell_seen : (texts : List Text) (columns : List (ColumnOf Cell)) (k : ℕ)
     → is_kept (slice_index_or (map (λ c. slice_index_or c.cells k na_cell) (columns_value texts columns)) 0 na_cell) ≡ slice_index_or (map is_true (column_at columns 0).cells) k false
-cell_seen texts columns k = cc (get_or-map (λ (c : ColumnOf CellValue). slice_index_or c.cells k na_cell) (columns_value texts columns) 0 no_column, column_seen texts columns 0, get_or-map (datum texts) (column_at columns 0).cells k code_cell.Na, kept_is texts (slice_index_or (column_at columns 0).cells k code_cell.Na), get_or-map is_true (column_at columns 0).cells k code_cell.Na)
+cell_seen texts [] k = refl
+cell_seen texts (c ∷ cs) k = grind (arith, get_or-map (datum texts) c.cells k code_cell.Na, get_or-map is_true c.cells k code_cell.Na)
 
 marks_seen : (texts : List Text) (m : NumberedTable) → length (column_at m.columns 0).cells ≡ length m.labels → meant.marks_of (table_value texts m) ≡ map is_true (column_at m.columns 0).cells
 marks_seen texts m filled =
@@ -103,8 +96,7 @@ module _ (texts : List Text) (store : Store) (t m : NumberedTable) (id : ObjId) 
 
 -- the labels of the columns as rows
 pub axis_levels : (headings : List (Option Label)) (places : List ℕ) → All IsSome headings → All (λ place. place < length headings) places → HaveLevels 1 (heading_tuples headings places)
-axis_levels _ [] some below = grind arith
-axis_levels headings (p ∷ ps) some below = grind (arith, axis_levels headings ps some (λ k d lt. below (suc k) d (omega arith)), some p None (below 0 p (omega arith)))
+axis_levels headings places some below = All-map (λ tuple. length tuple ≡ 1) (λ place. heading_tuple (slice_index_or headings place None)) places (λ k d lt. grind (arith, some (slice_index_or places k d) None (below k d lt)))
 
 pub heading_more : (headings : List (Option Label)) (places : List ℕ) (k place : ℕ) (made made' : List (List Label)) (label : Label) (tuple : List Label) → k < length places → slice_get places k ≡ Some place
     → slice_index_or headings place None ≡ Some label → tuple ≡ label ∷ [] → made ≡ heading_tuples headings (take k places) → made' ≡ made ++ tuple ∷ []
@@ -115,13 +107,10 @@ abbrev label_tuple : Option LabelValue → List LabelValue
 label_tuple None = []
 label_tuple (Some l) = l ∷ []
 
-tuple_seen : (texts : List Text) (h : Option Label) → tuple_value texts (heading_tuple h) ≡ label_tuple (heading_value texts h)
-tuple_seen = grind arith
-
 axis_seen : (texts : List Text) (headings : List (Option Label)) (places : List ℕ)
     → tuples_value texts (heading_tuples headings places) ≡ map (λ place. label_tuple (slice_index_or (headings_value texts headings) place None)) places
 axis_seen _ _ [] = refl
-axis_seen texts headings (p ∷ ps) = cc (axis_seen texts headings ps, tuple_seen texts (slice_index_or headings p None), get_or-map (heading_value texts) headings p None)
+axis_seen texts headings (p ∷ ps) = grind (arith, axis_seen texts headings ps, get_or-map (heading_value texts) headings p None)
 
 pub axis_given : (texts : List Text) (headings : List (Option Label)) (places : List ℕ) → IsSettled headings_value texts headings → IsSettled tuples_value texts (heading_tuples headings places)
 axis_given = grind (arith, axis_seen)
@@ -137,13 +126,9 @@ all_labels texts t _ some all =
     let count : length t.headings ≡ length seen = search length-map in
     axis_seen _ _ _
     ∙ ap (map (λ place. label_tuple (slice_index_or seen place None))) (all ∙ ap (range_with_len 0) count)
-    ∙ sym (search (map-map, seen))
+    ∙ sym (search map-map)
     ∙ ap (map _) (listed_is seen None)
     ∙ labels_are _ _ some
-
--- the columns of a key that isn't a tuple
-loc_columns_is : (t : Table) (sub : GivenSub) → is_row sub ≡ false → meant.loc_columns t sub ≡ meant.label_pick 1 (column_labels t) sub
-loc_columns_is = grind arith
 
 -- what a key of labels finds
 module _ (texts : List Text) (t : NumberedTable) (axis : AxisValue) (sub : List Text → GivenSub) (k : LocKey) (out : Result Picked OpFault) (settled : IsGiven texts sub) (found : IsFound texts axis k out) where
@@ -155,15 +140,12 @@ module _ (texts : List Text) (t : NumberedTable) (axis : AxisValue) (sub : List 
 
   pub columns_found : (places : List ℕ) → All IsSome t.headings → places ≡ range_with_len 0 (length t.headings) → axis ≡ columns_axis t places → is_row (sub texts) ≡ false → IsKeyOf 1 sub k
       → MakesBy pick_value texts out (meant.loc_columns (table_value texts t) (sub texts))
-  columns_found = grind (arith, all_labels, loc_columns_is, key_settled)
+  columns_found = grind (arith, all_labels, key_settled)
 
 -- what one key reaches
 module _ (texts : List Text) (t : NumberedTable) (rows_meant : Result Pick FaultValue) (rows columns : Picked) (reached : rows_meant ≡ Ok (pick_of rows))
     (places : columns.places ≡ range_with_len 0 (length t.columns)) (single : columns.single ≡ is_series t.shape) (sliced : (columns.dropped ≡ 0) × (is_some columns.span ≡ not columns.single)) where
-  abbrev reached_of : Pick → Pick → Reach
-  reached_of r c = record { rows = r; columns = c }
-
-  pub reach_frame : t.shape ≡ Frame → meant.reach_of rows_meant (Ok (meant.all_columns (table_value texts t))) ≡ Ok (reached_of (pick_of rows) (pick_of columns))
+  pub reach_frame : t.shape ≡ Frame → meant.reach_of rows_meant (Ok (meant.all_columns (table_value texts t))) ≡ Ok record { rows = pick_of rows; columns = pick_of columns }
   reach_frame = grind (arith, length-map)
 
 -- as many labels as places

@@ -1,13 +1,13 @@
 -- A row across columns.
 use Rattle.{
-  std.{proofs.{Common.{◌≡◌, ◌∙◌, refl, ap, arith, ℕ, zero, suc, ◌+◌, ◌<◌, Bool, true, false, ◌&&◌, List, [], ◌∷◌, ◌++◌, map, take, drop, length, Result, Ok, Err, Some, if◌then◌else◌}, lemmas.Option.{get_or_from_slice_get}, Math.Seq.{drop-cons, drop-length}}, specs.{Prelude.{slice_get, ◌≢◌}, List.{list_all}}},
+  std.{proofs.{Common.{◌≡◌, refl, arith, ℕ, zero, suc, ◌+◌, ◌<◌, Bool, true, false, ◌&&◌, List, [], ◌∷◌, ◌++◌, map, take, drop, length, Ok, Err, Some, if◌then◌else◌}, lemmas.{List.{map_more}, Option.{get_or_from_slice_get}}, Math.Seq.{drop-cons, drop-length}}, specs.{Prelude.{slice_get, ◌≢◌}, List.{list_all}}},
   cell_core.specs.declared.cell.{Kind.{Kind, TheVariants.{Int64}}, Cell.{Cell}},
-  meaning.specs.{Text.{Text}, Fault.{FaultValue, wrong_kind}},
+  meaning.specs.{Text.{Text}, Fault.{wrong_kind}},
   column_core.specs.Columns.{CellColumn},
   table_meaning.{specs.Table.{NumberedTable, table_value, column_at}, proofs.KindLaws.{kind_itself}},
   form_meaning.specs.Finish.{same_kind},
   select_meaning.specs.Select.{kind_across, one_kind},
-  selections.{specs.Across.{HaveKind, cell_across, cells_across}, proofs.{AnswerLaws.{column_seen}, PickedLaws.{mapped_more}}},
+  selections.{specs.Across.{cell_across, cells_across}, proofs.AnswerLaws.{column_seen}},
 }
 
 -- the kinds of columns
@@ -26,9 +26,6 @@ kind_after (suc k) t places = first_kind t places
 abbrev pub all_of : Kind → NumberedTable → List ℕ → Bool
 all_of kind t places = list_all (λ p. same_kind (kind_at t p) kind) places
 
-abbrev kind_if : Kind → Bool → Result Kind FaultValue
-kind_if kind b = if b then Ok kind else Err wrong_kind
-
 all_seen : (texts : List Text) (t : NumberedTable) (kind : Kind) (places : List ℕ) → list_all (λ c. same_kind c.kind kind) (map (column_at (table_value texts t).columns) places) ≡ all_of kind t places
 all_seen _ t _ [] = refl
 all_seen texts t kind (p ∷ ps) = search (column_seen, all_seen texts t kind ps)
@@ -37,7 +34,7 @@ first_seen : (texts : List Text) (t : NumberedTable) (places : List ℕ) → kin
 first_seen _ t [] = refl
 first_seen _ t (p ∷ ps) = search column_seen
 
-pub one_kind_is : (texts : List Text) (t : NumberedTable) (places : List ℕ) → one_kind (map (column_at (table_value texts t).columns) places) ≡ kind_if (first_kind t places) (all_of (first_kind t places) t places)
+pub one_kind_is : (texts : List Text) (t : NumberedTable) (places : List ℕ) → one_kind (map (column_at (table_value texts t).columns) places) ≡ (if all_of (first_kind t places) t places then Ok (first_kind t places) else Err wrong_kind)
 one_kind_is texts t places = grind (arith, first_seen texts t places, all_seen texts t (first_kind t places) places)
 
 -- the kinds from one on
@@ -47,16 +44,11 @@ module _ (t : NumberedTable) (places : List ℕ) (k place : ℕ) (lt : k < lengt
 
   pub kinds_refused : (texts : List Text) (next : Kind) → next ≡ kind_at t place → same_kind next (first_kind t places) ≡ false → all_of (first_kind t places) t (drop k places) ≡ all_of (first_kind t places) t places
       → one_kind (map (column_at (table_value texts t).columns) places) ≡ Err wrong_kind
-  kinds_refused texts _ is other before =
-      let kind = first_kind t places in
-      let none : all_of kind t places ≡ false = cc (from_kind kind) in
-      cc (one_kind_is texts t places)
+  kinds_refused texts _ is other before = grind (arith, from_kind (first_kind t places), one_kind_is texts t places)
 
   pub kinds_more : (next : Kind) → next ≡ kind_at t place → same_kind next (first_kind t places) ≡ true → all_of (first_kind t places) t (drop k places) ≡ all_of (first_kind t places) t places
       → all_of (first_kind t places) t (drop (k + 1) places) ≡ all_of (first_kind t places) t places
-  kinds_more _ is same before =
-      let step : k + 1 ≡ suc k = omega arith in
-      cc (from_kind (first_kind t places))
+  kinds_more _ is same before = grind (arith, from_kind (first_kind t places))
 
   pub first_is : k ≡ 0 → first_kind t places ≡ kind_at t place
   first_is = grind arith
@@ -65,23 +57,11 @@ pub kinds_done : (texts : List Text) (t : NumberedTable) (places : List ℕ) (k 
     → one_kind (map (column_at (table_value texts t).columns) places) ≡ Ok kind
 kinds_done texts t places = grind (arith, one_kind_is texts t places, drop-length)
 
-both : (a b : Bool) → (a && b) ≡ true → (a ≡ true) × (b ≡ true)
-both = grind arith
-
-each_kind : (kind : Kind) (t : NumberedTable) (places : List ℕ) → all_of kind t places ≡ true → HaveKind kind t places
-each_kind _ t [] e = grind arith
-each_kind kind t (p ∷ ps) e =
-    let here = both _ _ e in
-    grind (arith, each_kind kind t ps here.1)
-
 -- one more cell of a row
 pub cell_more : (kind : Kind) (row : ℕ) (t : NumberedTable) (places : List ℕ) (k place : ℕ) (cell : Cell) (column made made' : CellColumn) → k < length places → slice_get places k ≡ Some place
     → column_at t.columns place ≡ record { kind = column.kind; cells = column.cells } → slice_get column.cells row ≡ Some cell → made ≡ cells_across kind row t (take k places)
     → made' ≡ record { kind = made.kind; cells = made.cells ++ cell ∷ [] } → made' ≡ cells_across kind row t (take (k + 1) places)
-cell_more kind row t _ _ place cell _ _ _ lt at is here before pushed =
-    let this : cell ≡ cell_across t row place = grind (arith, get_or_from_slice_get) in
-    let cells = mapped_more (cell_across t row) _ _ _ _ _ _ lt at this (ap (λ (c : CellColumn). c.cells) before) refl in
-    pushed ∙ (λ j. record { kind = (before j).kind; cells = cells j })
+cell_more kind row t places k place cell _ _ _ lt at is here before pushed = grind (arith, get_or_from_slice_get, map_more (cell_across t row) places k 0 lt)
 
 -- the kind of the columns so far
 pub kind_later : (t : NumberedTable) (places : List ℕ) (k : ℕ) (kind : Kind) → 0 < k → kind ≡ kind_after k t places → kind ≡ first_kind t places

@@ -10,7 +10,7 @@ use Rattle.{
   form_parts.{specs.Makes.{MakesBy}, proofs.LabelLaws.{same_by_number}},
   index_core.specs.Labels.{same_number, order_in},
   frame_store.specs.declared.fault.OpFault.{OpFault},
-  pick_meaning.{specs.{Faults.{PickFault, not_there, bound_not_unique, out_of_range, no_mask_label, step_zero, then_pick, pick_seen}, Positions.{row_or_fault, rows_at}, Leading.{leads, leading_cmp}, Labels.{unless_none, rows_of_key, rows_of_keys}, Slices.{slice_on}, Masks.{cell_or_fault, kept_by_label, masked_rows}, Keys.{LabelKey, one_key, each_key, Pick, listed_pick, sliced_pick, key_pick, picked_by_label, PlaceKey, one_place, each_place, place_slice, picked_by_place}}, proofs.SeenLaws.{then_seen, rows_of_key-map, rows_of_keys-map, slice_on-map}},
+  pick_meaning.{specs.{Faults.{PickFault, not_there, bound_not_unique, out_of_range, no_mask_label, step_zero, then_pick, pick_seen}, Positions.{row_or_fault, rows_at}, Leading.{leads, leading_cmp}, Labels.{unless_none, rows_of_key, rows_of_keys}, Slices.{slice_on}, Masks.{cell_or_fault, kept_by_label, masked_rows}, Keys.{listed_pick, sliced_pick, key_pick, picked_by_label, PlaceKey, one_place, each_place, place_slice, picked_by_place}}, proofs.SeenLaws.{then_seen, rows_of_key-map, rows_of_keys-map, slice_on-map}},
   select_meaning.specs.Keys.{found_pick, found_labels},
 }
 use Rattle.indexers.specs.declared.keys.LocKey.TheVariants as key
@@ -61,27 +61,15 @@ tuples_given _ [] settled = grind arith
 tuples_given texts (t ∷ ts) settled = All-cons (IsGivenTuple texts) t ts (search head_settled) (tuples_given _ ts (grind arith))
 
 -- the parts of a key
-abbrev one_of : LabelKey (List LabelValue) → List LabelValue
-one_of (one_key k) = k
-one_of k = []
-
-abbrev each_of : LabelKey (List LabelValue) → List (List LabelValue)
-each_of (each_key ks) = ks
-each_of k = []
-
-abbrev tuple_or : Option (List LabelValue) → List LabelValue
-tuple_or None = []
-tuple_or (Some t) = t
-
 bound_given : (texts : List Text) (bound : Option (List Label)) → ((more : List Text) → option_map (tuple_value (texts ++ more)) bound ≡ option_map (tuple_value texts) bound) → IfSome bound (IsGivenTuple texts)
 bound_given _ None _ = tt
-bound_given _ (Some t) settled = λ more. ap tuple_or (settled more)
+bound_given _ (Some t) settled = λ more. cc (settled more)
 
 key_given : (texts : List Text) (k : List Label) → IsSettled label_key_value texts (key.One k) → IsGivenTuple texts k
-key_given _ k settled = λ more. ap one_of (settled more)
+key_given _ k settled = λ more. cc (settled more)
 
 keys_given : (texts : List Text) (ks : List (List Label)) → IsSettled label_key_value texts (key.Many ks) → All (IsGivenTuple texts) ks
-keys_given _ ks settled = tuples_given _ ks (λ more. ap each_of (settled more))
+keys_given _ ks settled = tuples_given _ ks (λ more. cc (settled more))
 
 -- the fault of a key names a label of the key
 pub key_in : (texts : List Text) (levels : ℕ) (tuples : List (List Label)) (k : LocKey) → IsSettled label_key_value texts k → FaultIn (IsGivenTuple texts) (picked_by_label same_number (order_in texts) levels tuples (label_key k))
@@ -112,16 +100,13 @@ module _ (texts : List Text) (distinct : AreDistinct texts) where
   order_is [] (b ∷ bs) = refl
   order_is (l ∷ ls) (b ∷ bs) = cc (order_is ls bs)
 
-  -- a key's pick
-  key_pick_seen : (levels : ℕ) (key : List Label) (rows : List ℕ) → key_pick levels (tuple_value texts key) rows ≡ key_pick levels key rows
-  key_pick_seen = search length-map
-
   pub picked_is : (levels : ℕ) (tuples : List (List Label)) (k : LocKey) → All (IsGivenTuple texts) tuples → IsSettled label_key_value texts k
       → picked_by_label same_label label_cmp levels (map (tuple_value texts) tuples) (label_key_value texts k) ≡ pick_seen (tuple_value texts) (picked_by_label same_number (order_in texts) levels tuples (label_key k))
   picked_is _ _ key.All all settled = search length-map
   picked_is levels tuples (key.One k) all settled =
       let given : IsGivenTuple texts k = key_given _ k settled in
-      cc (rows_of_key-map (IsGivenTuple texts) (leads same_label) (leads same_number) (tuple_value texts) (tuple_value texts) k (λ x there. leads_is k x given there) tuples all, then_seen (tuple_value texts) (rows_of_key (leads same_number) tuples k) (λ rows. Ok (key_pick levels k rows)) (λ rows. Ok (key_pick levels (tuple_value texts k) rows)) (λ rows. ap (λ (p : Pick). Ok p) (key_pick_seen levels k rows)))
+      ap (λ r. then_pick r (λ rows. Ok (key_pick levels (tuple_value texts k) rows))) (rows_of_key-map _ (leads same_label) (leads same_number) (tuple_value texts) (tuple_value texts) k (λ x there. leads_is k x given there) tuples all)
+      ∙ then_seen _ (rows_of_key (leads same_number) tuples k) _ _ (λ rows. search length-map)
   picked_is _ tuples (key.Many ks) all settled =
       let given : All (IsGivenTuple texts) ks = keys_given _ ks settled in
       ap (λ r. then_pick r (λ rows. Ok (listed_pick rows))) (search (rows_of_keys-map, leads_is))

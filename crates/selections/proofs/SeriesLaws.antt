@@ -1,8 +1,8 @@
 -- A row across columns as a Series.
 use Rattle.{
-  std.{proofs.{Common.{◌≡◌, ◌∙◌, refl, ap, sym, arith, ℕ, suc, ◌<◌, pos, Bool, true, false, List, [], ◌∷◌, map, length, slice_index_or, All, Option, Some, None, Ok, Err, if◌then◌else◌, unwrap_or}, lemmas.{List.{length-map}, Option.{get_or_from_slice_get}}, Math.ListN.{get_or-map}}, specs.{Prelude.{◌≢◌, IsSome, slice_get, option_and_then}, List.{list_all}}},
+  std.{proofs.{Common.{◌≡◌, ◌∙◌, refl, ap, sym, arith, ℕ, suc, ◌<◌, pos, true, false, List, [], ◌∷◌, map, length, slice_index_or, All, Option, Some, None, Ok, Err, unwrap_or}, lemmas.{List.{length-map, Folds.{list_all-map}}, Option.{get_or_from_slice_get}}, Math.ListN.{get_or-map}}, specs.Prelude.{◌≢◌, IsSome, slice_get, option_and_then}},
   cell_core.specs.declared.{cell.{Kind.{Kind}, Cell.TheVariants.{Na}, Label.{Label}}, grid.Shape.TheVariants.{Series}},
-  meaning.specs.{Text.{Text}, Cell.{CellValue, datum, label_datum, int}, Fault.{limit, then_value}},
+  meaning.specs.{Text.{Text}, Cell.{CellValue, datum, label_datum, int}, Fault.{limit}},
   table_meaning.specs.{Settled.{IsSettled}, Table.{ColumnOf, NumberedTable, table_value, tuple_value, heading_value, column_at}},
   form_meaning.specs.{Finish.{same_kind, limited, within_limits}, Select.{heading_at}},
   select_meaning.specs.Select.{kind_across, one_kind, column_rows, cut, first_cell, row_name, row_series, row_result},
@@ -13,12 +13,8 @@ use Rattle.{
 use Rattle.table_meaning.specs.Value as value
 
 -- rows have the kinds of their columns
-kinds_all : (rows : List ℕ) (kind : Kind) (cs : List (ColumnOf CellValue)) → list_all (λ c. same_kind c.kind kind) (map (column_rows rows) cs) ≡ list_all (λ c. same_kind c.kind kind) cs
-kinds_all _ _ [] = refl
-kinds_all rows kind (c ∷ cs) = cc (kinds_all rows kind cs)
-
 one_kind_rows : (rows : List ℕ) (cs : List (ColumnOf CellValue)) → one_kind (map (column_rows rows) cs) ≡ one_kind cs
-one_kind_rows rows cs = grind (arith, kinds_all rows (kind_across cs) cs)
+one_kind_rows rows cs = grind (arith, list_all-map (λ c. same_kind c.kind (kind_across cs)) (column_rows rows) cs)
 
 -- the parts of the Series
 labels_seen : (texts : List Text) (t : NumberedTable) (places : List ℕ) → All IsSome t.headings → All (λ place. place < length t.headings) places
@@ -57,21 +53,18 @@ module _ (t : NumberedTable) (row : ℕ) (label_name : Option Label) (kind : Kin
   series_seen : (texts : List Text) → row_series (cut (table_value texts t) (row ∷ []) places) kind ≡ table_value texts (row_table t row label_name kind places)
   series_seen texts = grind (arith, labels_seen texts t places some below, get_or-map (tuple_value texts) t.labels row [], named texts, cells_seen texts t row places)
 
-  row_limited : (texts : List Text) (b : Bool) → within_limits (length places) 1 ≡ b → limited (table_value texts (row_table t row label_name kind places)) ≡ then_value (if b then Ok (table_value texts (row_table t row label_name kind places)) else Err limit) (λ t. Ok (value.table t))
-  row_limited = grind (arith, length-map)
-
   row_is : (texts : List Text) → one_kind (map (column_at (table_value texts t).columns) places) ≡ Ok kind → row_result (cut (table_value texts t) (row ∷ []) places) ≡ limited (table_value texts (row_table t row label_name kind places))
   row_is texts one = grind (arith, one_kind_rows (row ∷ []) (map (column_at (table_value texts t).columns) places), series_seen texts)
 
   pub row_made : (texts : List Text) (made : NumberedTable) → one_kind (map (column_at (table_value texts t).columns) places) ≡ Ok kind → within_limits (length places) 1 ≡ true → made ≡ row_table t row label_name kind places → IsSettled table_value texts t
       → (row_result (cut (table_value texts t) (row ∷ []) places) ≡ Ok (value.table (table_value texts made))) × IsSettled table_value texts made
   row_made texts _ one within is settled = (
-    cc (row_is texts one, row_limited texts true within),
+    grind (arith, row_is texts one, length-map),
     settled_by table_value table_value (λ T. row_series (cut T (row ∷ []) places) kind) _ t _ (λ ts. series_seen ts ∙ ap (table_value ts) (sym is)) settled,
   )
 
   pub row_beyond : (texts : List Text) → one_kind (map (column_at (table_value texts t).columns) places) ≡ Ok kind → within_limits (length places) 1 ≡ false → row_result (cut (table_value texts t) (row ∷ []) places) ≡ Err limit
-  row_beyond _ one beyond = row_is _ one ∙ row_limited _ _ beyond
+  row_beyond texts one beyond = grind (arith, row_is texts one, length-map)
 
 pub row_refused : (texts : List Text) (t : NumberedTable) (row : ℕ) (places : List ℕ) (why : OpFault) → MakesBy as_it_is texts (Err why) (one_kind (map (column_at (table_value texts t).columns) places))
     → Makes texts (Err why) (row_result (cut (table_value texts t) (row ∷ []) places))

@@ -1,6 +1,6 @@
 -- Rows that are taken from a column.
 use Rattle.{
-  std.{proofs.{Common.{◌≡◌, ◌∙◌, ℕ, ◌+◌, ◌<◌, ap, refl, sym, arith, List, [], ◌∷◌, ◌++◌, length, map, take, slice_index_or, Option, Some, All}, lemmas.{List.{get_or-map, length-map, map-append, Elements.{All-push}, FromFn.{fill_by_all}}, Option.{get_or_from_slice_get}}}, specs.Prelude.{slice_index, slice_get}},
+  std.{proofs.{Common.{◌≡◌, ◌∙◌, ℕ, ◌+◌, ◌<◌, ap, refl, sym, arith, List, [], ◌∷◌, ◌++◌, length, map, take, slice_index_or, Option, Some, All}, lemmas.{List.{get_or-map, length-map, map-append, Elements.{All-map, All-push}, FromFn.{fill_by_all}}, Option.{get_or_from_slice_get}}}, specs.Prelude.{slice_index, slice_get}},
   cell_core.specs.declared.{cell.{Kind.{Kind}, Cell.{Cell, TheVariants.{Na}}}, grid.Shape.{Shape}},
   meaning.specs.Column.{tabulate},
   column_core.{specs.{Columns.{CellColumn, column_with}, Blocks.{CellBlock}}, proofs.{CellRows.{range-same}, MoveLaws.{get_or-tabulate}}},
@@ -37,14 +37,8 @@ one_more_single _ _ blocks _ boxed pushed before = rw pushed (All-push IsSingle 
 -- a heading for each column, and a cell for each row
 pub chosen_whole : (shape : Shape) (headings : HeadingList) (rows columns : List ℕ) (t : NumberedTable) → length headings.labels ≡ length columns → AreHeadings shape headings.columns_name headings.labels → IsWhole (chosen shape headings rows columns t)
 chosen_whole _ headings rows columns t headed fit =
-    let count : length (map (λ place. slice_index_or t.labels place []) rows) ≡ length rows = search length-map in
     record {
       headed = search length-map;
-      filled = filled _ count;
+      filled = All-map (λ (c : ColumnOf Cell). length c.cells ≡ length (map (λ place. slice_index_or t.labels place []) rows)) (λ p. cells_at rows (column_at t.columns p)) columns (λ k d lt. grind (arith, length-map));
       headings = fit;
     }
-  where
-    filled : (columns : List ℕ) → length (map (λ place. slice_index_or t.labels place []) rows) ≡ length rows
-        → All (λ (c : ColumnOf Cell). length c.cells ≡ length (map (λ place. slice_index_or t.labels place []) rows)) (columns_at rows columns t)
-    filled [] count = grind arith
-    filled (p ∷ ps) count = grind (arith, length-map, filled ps count)

@@ -1,9 +1,9 @@
 -- Rows that are taken from a table.
 use Rattle.{
-  std.{proofs.{Common.{◌≡◌, ◌∙◌, refl, ap, sym, arith, ℕ, true, List, [], ◌∷◌, length, map, drop, slice_index_or, Some, None, Ok}, Math.ListN.{get_or-map}, lemmas.{List.{length-map, drop-map}, Simd.{map-map}}}, specs.{Prelude.{IsSome}, List.{range_with_len}}},
-  cell_core.specs.declared.{cell.{Label.{Label}, Cell.{Cell, TheVariants.{Na}}}, grid.{Rows.{Rows}, Shape.{Shape}}},
-  meaning.specs.{Text.{Text}, Cell.{CellValue, na_cell, datum}},
-  table_meaning.specs.{Settled.{IsSettled}, Table.{ColumnOf, NumberedTable, column_at, table_value, tuple_value, column_value}, Change.{cut_columns}},
+  std.{proofs.{Common.{◌++◌, ◌≡◌, ◌∙◌, refl, ap, sym, arith, ℕ, true, List, [], ◌∷◌, length, map, drop, slice_index_or, Some, None, Ok}, Math.ListN.{get_or-map}, lemmas.{List.{length-map, drop-map}, Simd.{map-map}}}, specs.{Prelude.{IsSome}, List.{range_with_len}}},
+  cell_core.specs.declared.{cell.{Label.{Label}, Cell.TheVariants.{Na}}, grid.{Rows.{Rows}, Shape.{Shape}}},
+  meaning.specs.{Text.{Text}, Cell.{datum}},
+  table_meaning.specs.{Settled.{IsSettled}, Table.{NumberedTable, column_at, no_column, table_value, tuple_value, column_value}, Change.{cut_columns}},
   form_meaning.specs.Finish.{limited, within_limits},
   select_meaning.specs.Select.{column_rows, rows_taken, without_leading},
   frame_store.{specs.{Objects.{tables, table_at, with_object}, World.{world, IsSettledWorld, Forms}, declared.{arguments.Value.TheVariants.{Object}, object.ObjId.{ObjId}, store.Store.{Store}}, Parts.{HeadingList, table_with, axis_of}}, proofs.Settling.{longer_self, settled_with, table_settled, level_names_part, labels_part, columns_part}},
@@ -18,25 +18,20 @@ pub cut_is_chosen : (shape : Shape) (axis : AxisValue) (headings : HeadingList) 
 cut_is_chosen = grind (arith, map-map)
 
 -- what is chosen, as it is seen
-cells_seen : (texts : List Text) (rows : List ℕ) (cells : List Cell) → map (datum texts) (map (λ row. slice_index_or cells row Na) rows) ≡ map (λ row. slice_index_or (map (datum texts) cells) row na_cell) rows
-cells_seen _ [] _ = refl
-cells_seen texts (r ∷ rs) cells = cc (get_or-map (datum texts) cells r Na, cells_seen texts rs cells)
+taken_map : {X Y : Type 0} (f : X → Y) (xs : List X) (d : X) (rows : List ℕ) → map f (map (λ row. slice_index_or xs row d) rows) ≡ map (λ row. slice_index_or (map f xs) row (f d)) rows
+taken_map f xs d rows = map-map f _ rows ∙ (λ j. map (λ row. sym (get_or-map f xs row d) j) rows)
 
 pub labels_seen : (texts : List Text) (rows : List ℕ) (labels : List (List Label)) → map (tuple_value texts) (map (λ row. slice_index_or labels row []) rows) ≡ map (λ row. slice_index_or (map (tuple_value texts) labels) row []) rows
-labels_seen _ [] _ = refl
-labels_seen texts (r ∷ rs) labels = cc (get_or-map (tuple_value texts) labels r [], labels_seen texts rs labels)
+labels_seen texts rows labels = taken_map (tuple_value texts) labels [] rows
 
 pub columns_seen : (texts : List Text) (rows columns : List ℕ) (t : NumberedTable) → map (column_value texts) (columns_at rows columns t) ≡ map (column_rows rows) (map (column_at (table_value texts t).columns) columns)
 columns_seen _ _ [] t = refl
-columns_seen texts rows (p ∷ ps) t = cc (cells_seen texts rows (column_at t.columns p).cells, column_seen texts t.columns p, columns_seen texts rows ps t)
+columns_seen texts rows (p ∷ ps) t = cc (taken_map (datum texts) (column_at t.columns p).cells Na rows, column_seen texts t.columns p, columns_seen texts rows ps t)
 
 -- all columns of some rows
-all_columns : (columns : List (ColumnOf CellValue)) → map (column_at columns) (range_with_len 0 (length columns)) ≡ columns
-all_columns columns = listed_is columns _
-
 pub chosen_rows : (texts : List Text) (headings : HeadingList) (rows columns : List ℕ) (t : NumberedTable) → headings ≡ record { columns_name = t.columns_name; labels = t.headings } → columns ≡ range_with_len 0 (length t.columns)
     → table_value texts (chosen t.shape headings rows columns t) ≡ rows_taken (table_value texts t) rows
-chosen_rows = grind (arith, length-map, all_columns, labels_seen, columns_seen)
+chosen_rows texts headings rows columns t named all = grind (arith, length-map, listed_is (table_value texts t).columns no_column, labels_seen, columns_seen)
 
 pub chosen_settled : (texts : List Text) (shape : Shape) (headings : HeadingList) (rows columns : List ℕ) (t : NumberedTable) → IsSettled table_value texts t → AreSettledHeadings texts headings → IsSettled table_value texts (chosen shape headings rows columns t)
 chosen_settled _ _ _ rows columns t settled given =
@@ -63,10 +58,8 @@ taken_seen _ _ _ (Under places count) = search under_seen
 
 taken_settled : (texts : List Text) (shape : Shape) (headings : HeadingList) (taken : Taken) (columns : List ℕ) (t : NumberedTable) → IsSettled table_value texts t → AreSettledHeadings texts headings
     → IsSettled table_value texts (taken_table shape headings taken columns t)
-taken_settled _ _ _ taken _ t settled given =
-    λ more. taken_seen _ _ _ _ _ t
-    ∙ ap (without_leading (levels_lost taken)) (search chosen_settled)
-    ∙ sym (taken_seen _ _ _ taken _ t)
+taken_settled texts shape headings taken columns t settled given = λ more.
+    cc (taken_seen (texts ++ more) shape headings taken columns t, taken_seen texts shape headings taken columns t, chosen_settled texts shape headings (rows_in taken) columns t settled given more)
 
 pub taken_answers : (texts : List Text) (store store' : Store) (on : ℕ) (id : ObjId) (shape : Shape) (headings : HeadingList) (taken : Taken) (columns : List ℕ) → IsSome (tables store on) → tables store id.0 ≡ None
     → tables store' ≡ with_object (tables store) id.0 (Some (taken_table shape headings taken columns (table_at (tables store) on))) → within_limits (length (rows_in taken)) (length columns) ≡ true

@@ -1,5 +1,5 @@
 use Rattle.{
-  concat_forms.proofs.AxisLaws.{lent, items_in, numbered_given, axis_given, axis_rows},
+  concat_forms.proofs.PartLaws.{lent, items_in, numbered_given, axis_given, axis_rows},
   std.proofs.Common.{arith, ap},
 }
 use Rattle.concat_forms.proofs.below.axis_of_all.Goals as goal

@@ -1,17 +1,12 @@
-use Rattle.{
-  std.proofs.Common.{◌∙◌, ◌≤◌, sym, length, false, arith},
-  concat_forms.{specs.Axes.{levels_for}, proofs.BelowLaws.{table_is, table_whole}},
-}
+use Rattle.{std.proofs.Common.{◌∙◌, sym, arith}, concat_forms.proofs.BelowLaws.{table_is, table_whole}}
 use Rattle.concat_forms.proofs.below.table_below.Goals as goal
 
 pub new-requires-clause-whole : goal.new-requires-clause-whole
 new-requires-clause-whole c =
-    table_whole _ _ _ _ _ _ _ _ c.requires.known c.in_ok-headings.ensures c.in_ok-blocks.ensures.columns c.requires.shape c.requires.headings c.name_of_all-columns_name.ensures.name (c.in_ok-axis.ensures.count ∙ c.in-Some.ensures.0)
+    rw c.in_ok-headings.ensures (table_whole _ _ _ _ _ _ _ c.requires.known c.in_ok-blocks.ensures.columns c.requires.shape c.requires.headings c.name_of_all-columns_name.ensures.name (c.in_ok-axis.ensures.count ∙ c.in-Some.ensures.0))
 
 pub returns : goal.returns
 returns c =
-    let some : 1 ≤ levels_for (length c.index-parts-0.result.level_names) c.args.asked.now = grind arith in
-    let few : levels_for (length c.index-parts-0.result.level_names) c.args.asked.now ≤ 4 = grind arith in
     table_is _ c.len.ensures.distinct _ c.args.asked.now _ c.requires.headings.single c.requires.given _ c.requires.some c.requires.shape c.requires.known c.requires.fit
-    (sym c.all_kinds_meet.ensures ∙ c.if-not-all_kinds_meet.false) _ c.index-parts-0.is _ _ _ _ _ (cc c.in-Some.ensures.0) some few c.name_of_all-columns_name.ensures.name c.name_of_all-columns_name.ensures.given
-    c.in_ok-axis.ensures.axis c.in_ok-axis.ensures.given c.in_ok-headings.ensures c.in_ok-blocks.ensures.columns c.new.ensures
+    (sym c.all_kinds_meet.ensures ∙ c.if-not-all_kinds_meet.false) _ c.index-parts-0.is _ _ _ _ (cc c.in-Some.ensures.0) (grind arith) (grind arith) c.name_of_all-columns_name.ensures.name c.name_of_all-columns_name.ensures.given
+    c.in_ok-axis.ensures.axis c.in_ok-axis.ensures.given c.in_ok-blocks.ensures.columns (rw c.in_ok-headings.ensures at c.new.ensures)

@@ -1,11 +1,11 @@
 use Rattle.{
-  frame_store.{proofs.Settling.{labels_part}, specs.Parts.{axis_of}},
-  std.proofs.Common.{arith, ◌∙◌, ap, sym, map},
+  frame_store.proofs.Settling.{labels_part},
+  std.proofs.Common.{arith, ◌∙◌, sym},
   concat_forms.proofs.BesideLaws.{equal_axis},
 }
 use Rattle.concat_forms.proofs.beside.beside.Goals as goal
 
 pub on_axis-requires-clause-axis : goal.on_axis-requires-clause-axis
 on_axis-requires-clause-axis c =
-    equal_axis _ _ _ _ _ c.requires.some c.index-parts-0.is (ap (map (λ axis. axis.now)) c.deref.ensures.value ∙ c.in_ok-axes.ensures.axes) (sym c.have_same_labels.ensures ∙ c.if-have_same_labels.true) (c.in_ok-axis.ensures ∙ c.axis.ensures ∙ ap axis_of c.table.ensures)
+    equal_axis _ c.deref.result.now _ _ _ c.requires.some c.index-parts-0.is (rw c.deref.ensures.value c.in_ok-axes.ensures.axes) (sym c.have_same_labels.ensures ∙ c.if-have_same_labels.true) (rw (c.in_ok-axis.ensures, c.axis.ensures, c.table.ensures))
     (grind (arith, labels_part))

@@ -1,7 +1,6 @@
 use Rattle.{
-  std.proofs.Common.{arith, ◌∙◌, ap, length},
-  frame_store.specs.Parts.{axis_of},
-  concat_forms.proofs.{AxisLaws.{first_count}, BesideLaws.{met_labels, met_once, met_given, met_twice, united_alike, met_axis}},
+  std.proofs.Common.{arith},
+  concat_forms.proofs.{PartLaws.{first_count}, BesideLaws.{met_labels, met_twice, united_alike, met_axis}},
 }
 use Rattle.concat_forms.proofs.beside.met.Goals as goal
 
@@ -12,9 +11,8 @@ from_tuples-requires-clause-alike c =
 
 pub on_axis-requires-clause-axis : goal.on_axis-requires-clause-axis
 on_axis-requires-clause-axis c =
-    met_axis _ _ _ _ _ c.in_ok-axis-in-Ok.ensures (c.levels-levels.ensures.count ∙ ap (λ x. length x.names) (c.axis.ensures ∙ ap axis_of c.table.ensures) ∙ first_count _ _ c.requires.some c.index-parts-0.is) c.requires.levels
-    (met_given _ c.len.ensures.distinct _ c.requires.known c.args.asked.now _ c.requires.axes c.requires.apart _ c.in-Ok.ensures)
-    (met_once _ c.len.ensures.distinct _ c.requires.known c.args.asked.now _ c.requires.axes c.requires.apart _ c.in-Ok.ensures)
+    met_axis _ c.len.ensures.distinct _ c.requires.known c.args.asked.now _ c.requires.axes c.requires.apart _ c.in-Ok.ensures _ _ c.in_ok-axis-in-Ok.ensures
+    (rw (c.levels-levels.ensures.count, c.axis.ensures, c.table.ensures) (first_count _ _ c.requires.some c.index-parts-0.is)) c.requires.levels
 
 pub returns-in-Err-DuplicateLabels : goal.returns-in-Err-DuplicateLabels
 returns-in-Err-DuplicateLabels c =

@@ -1,5 +1,5 @@
-use Rattle.concat_forms.proofs.CallingLaws.{keys_tell}
+use Rattle.std.proofs.Common.{arith}
 use Rattle.concat_forms.proofs.calling.asked_by.Goals as goal
 
 pub returns-clause-keys : goal.returns-clause-keys
-returns-clause-keys c = λ live texts. keys_tell _ _ _ _ _ (c.in_ok-keys_in.ensures live texts) (c.list_or_none.ensures.value live texts)
+returns-clause-keys c = λ live texts. grind (arith, c.in_ok-keys_in.ensures live texts, c.list_or_none.ensures.value live texts)

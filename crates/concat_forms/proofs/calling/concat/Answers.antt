@@ -1,14 +1,21 @@
 use Rattle.{
-  std.{proofs.Common.{arith, subst, Ok}, specs.Prelude.{IfSome}},
-  signatures.specs.Bound.{IsBound},
-  frame_store.specs.{Objects.{tables}, Readers.{AreLiveLentItems}, World.{world}},
-  concat_forms.proofs.CallingLaws.{asked_given},
+  std.{proofs.Common.{arith, subst, Ok, List, ◌≡◌}, specs.{Prelude.{IfSome}, Option.{option_map}}},
+  signatures.specs.{Bound.{IsBound, stands_at}, declared.bound.Bound.{Bound as BoundArguments}},
+  frame_store.specs.{Objects.{tables}, Readers.{AreLiveLentItems}, World.{World, world, AreKnownArguments}, declared.arguments.Named.{Named}},
+  meaning.specs.Text.{Text},
+  table_meaning.specs.{Settled.{IsSettled}, Value.{list_in}},
+  form_meaning.specs.{declared.Function.TheVariants.{Concat}, Signature.{function_parameters}, Select.{labels_of}},
+  concat_forms.specs.{declared.asked.Asked.{Asked}, Asked.{asked_value, keys_value}},
 }
 use Rattle.concat_forms.proofs.calling.concat.Goals as goal
 
 -- bound: b = c.in_ok-bound.bound; h : IsBound w (function_parameters Concat) args (Ok b) is c.in_ok-bound.ensures, with
 -- c.function_parameters.ensures : result.now ≡ function_parameters Concat in the place of the parameters:
 -- subst (λ (ps : List Parameter). IsBound w ps c.args.args.now (Ok b)) c.function_parameters.ensures c.in_ok-bound.ensures
+
+-- the labels of parts were given
+asked_given : (w : World) (args : List Named) (b : BoundArguments) → IsBound w (function_parameters Concat) args (Ok b) → (a : Asked) → AreKnownArguments w args → ((texts : List Text) → keys_value texts a.keys ≡ option_map labels_of (list_in (stands_at w.tables texts b 4))) → IsSettled asked_value w.texts a
+asked_given = grind arith
 
 pub parts_of-requires : goal.parts_of-requires
 parts_of-requires c =

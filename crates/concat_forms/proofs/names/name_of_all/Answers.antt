@@ -1,14 +1,14 @@
 use Rattle.{
   std.proofs.{lemmas.List.Elements.{All-take, All-drop}, Common.{arith}},
   frame_store.specs.World.{IsKnownTable},
-  concat_forms.proofs.PartLaws.{name_given, first_name, next_name, item_known},
+  concat_forms.proofs.{PartLaws.{name_given, name_seen, next_name, item_known}, PlaceLaws.{rest_of}},
 }
 use Rattle.concat_forms.proofs.names.name_of_all.Goals as goal
 
 pub loop-other-init : goal.loop-other-init
 loop-other-init c =
     record {
-      whole = search first_name;
+      whole = grind (arith, name_seen, rest_of);
       given = rw c.name-name.ensures (name_given _ _ _ (item_known _ c.args.parts.now 0 _ c.requires (omega arith) c.first-item.is));
     }
 

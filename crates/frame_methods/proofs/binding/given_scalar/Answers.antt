@@ -2,4 +2,4 @@ use Rattle.signatures.proofs.ToldLaws.{scalar_given}
 use Rattle.frame_methods.proofs.binding.given_scalar.Goals as goal
 
 pub returns-clause-given : goal.returns-clause-given
-returns-clause-given c = scalar_given c.args.bound.now _ _ _ _ c.scalar.ensures c.requires.given
+returns-clause-given c = search scalar_given

@@ -1,13 +1,13 @@
 use Rattle.{
+  frame_store.proofs.Settling.{object_settled, longer_self},
   std.proofs.Common.{arith},
-  frame_store.proofs.Settling.{longer_self},
-  label_methods.proofs.AnswerLaws.{known_table, forms_so},
+  label_methods.proofs.AnswerLaws.{forms_so},
 }
 use Rattle.frame_methods.proofs.calling.answer.Goals as goal
 
 -- one cell of each column
 pub summarize-made-requires : goal.summarize-made-requires
-summarize-made-requires c = known_table _ _ _ c.read.ensures.table c.read.ensures.whole c.requires.settled
+summarize-made-requires c = search object_settled
 
 pub returns-in-Summary : goal.returns-in-Summary
 returns-in-Summary c =

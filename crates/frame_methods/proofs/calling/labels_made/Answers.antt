@@ -1,7 +1,8 @@
 use Rattle.{
+  frame_store.proofs.Settling.{object_settled},
   table_meaning.specs.Value.{list_in},
   signatures.proofs.ToldLaws.{told_settled},
-  label_methods.proofs.{AnswerLaws.{known_table}, LevelMoveLaws.{option_given}},
+  label_methods.proofs.LevelMoveLaws.{option_given},
 }
 use Rattle.frame_methods.proofs.calling.labels_made.Goals as goal
 
@@ -21,7 +22,7 @@ reindex-requires-in-ReindexFrame-clause-columns c = λ more.
 
 -- a label of rows on one level
 pub xs-requires-clause-known : goal.xs-requires-clause-known
-xs-requires-clause-known c = known_table _ _ _ c.read.ensures.table c.read.ensures.whole c.requires.settled
+xs-requires-clause-known c = search object_settled
 
 pub xs-requires-clause-level : goal.xs-requires-clause-level
-xs-requires-clause-level c = option_given c.args.bound.now 1 _ _ _ c.scalar_or_none-level.ensures c.requires.call.given
+xs-requires-clause-level c = search option_given

@@ -6,7 +6,7 @@ use Rattle.{
   method_meaning.specs.Rows.{dropna_result, sort_values_result, sort_by_result, all_places, labels_in},
   frame_store.{specs.{Objects.{tables, table_at}, World.{world}}, proofs.Settling.{object_settled}},
   frame_methods.proofs.AnswerLaws.{makes_by},
-  label_methods.{specs.Named.{first_in}, proofs.{AnswerLaws.{known_table}, NamedLaws.{all_are}}},
+  label_methods.{specs.Named.{first_in}, proofs.NamedLaws.{all_are}},
 }
 use Rattle.form_meaning.specs.declared.Method.TheVariants as method
 use Rattle.frame_methods.proofs.calling.rows_made.Goals as goal
@@ -19,19 +19,19 @@ returns-in-Dropna c =
 
 -- the columns of a Series
 pub duplicated-requires-clause-known : goal.duplicated-requires-clause-known
-duplicated-requires-clause-known c = known_table _ _ _ c.read-source.ensures.table c.read-source.ensures.whole c.requires.settled
+duplicated-requires-clause-known c = search object_settled
 
 pub duplicated-requires-in-DuplicatedFrame-clause-known : goal.duplicated-requires-in-DuplicatedFrame-clause-known
-duplicated-requires-in-DuplicatedFrame-clause-known c = known_table _ _ _ c.read-source.ensures.table c.read-source.ensures.whole c.requires.settled
+duplicated-requires-in-DuplicatedFrame-clause-known c = search object_settled
 
 pub sort_values-requires-clause-known : goal.sort_values-requires-clause-known
-sort_values-requires-clause-known c = known_table _ _ _ c.read-source.ensures.table c.read-source.ensures.whole c.requires.settled
+sort_values-requires-clause-known c = search object_settled
 
 pub sort_values-requires-in-SortValuesFrame-clause-known : goal.sort_values-requires-in-SortValuesFrame-clause-known
-sort_values-requires-in-SortValuesFrame-clause-known c = known_table _ _ _ c.read-source.ensures.table c.read-source.ensures.whole c.requires.settled
+sort_values-requires-in-SortValuesFrame-clause-known c = search object_settled
 
 pub sort_index-requires-clause-known : goal.sort_index-requires-clause-known
-sort_index-requires-clause-known c = known_table _ _ _ c.read-source.ensures.table c.read-source.ensures.whole c.requires.settled
+sort_index-requires-clause-known c = search object_settled
 
 -- the columns that are named, or all
 -- in the order of their cells

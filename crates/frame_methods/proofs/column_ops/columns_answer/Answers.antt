@@ -13,7 +13,7 @@ use Rattle.frame_methods.proofs.column_ops.columns_answer.Goals as goal
 
 -- cells in a list
 pub listed_cells-requires : goal.listed_cells-requires
-listed_cells-requires c = items_settled c.args.bound.now 0 _ _ _ c.list.ensures.value c.requires.call.given
+listed_cells-requires c = search items_settled
 
 pub returns-in_ok-values-in-Isin : goal.returns-in_ok-values-in-Isin
 returns-in_ok-values-in-Isin c =

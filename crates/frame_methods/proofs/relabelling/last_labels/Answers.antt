@@ -8,4 +8,4 @@ pub loop-key-preserved : goal.loop-key-preserved
 loop-key-preserved c =
     let lt : c.loop-key.key-index < length c.args.pairs.now = omega arith in
     labels_step _ _ _ _ _ _ _ _ _
-    c.len.ensures.distinct c.requires lt c.loop-key-item.is c.scalar.ensures c.name_of.ensures c.in_ok-insert.ensures.entries c.loop-key.invariant
+    c.len.ensures.distinct lt c.loop-key-item.is c.scalar.ensures c.name_of.ensures c.in_ok-insert.ensures.entries c.loop-key.invariant

@@ -1,12 +1,12 @@
 use Rattle.{
+  frame_store.{proofs.Settling.{object_settled}, specs.Objects.{tables, table_at}},
   std.proofs.Common.{arith, ◌≡◌},
-  frame_store.specs.Objects.{tables, table_at},
-  label_methods.proofs.AnswerLaws.{known_table, forms_so},
+  label_methods.proofs.AnswerLaws.{forms_so},
 }
 use Rattle.frame_methods.proofs.tables.columns_placed.Goals as goal
 
 pub columns_table-table-requires-clause-known : goal.columns_table-table-requires-clause-known
-columns_table-table-requires-clause-known g c = known_table _ _ _ c.read.ensures.table c.read.ensures.whole c.requires.settled
+columns_table-table-requires-clause-known g c = search object_settled
 
 pub returns : goal.returns
 returns g c =

@@ -2,7 +2,7 @@ use Rattle.{
   std.proofs.Common.{◌≡◌, refl, subst, true, []},
   column_operators.specs.Tasks.{operator_of},
   table_meaning.specs.Table.{column_at},
-  frame_ops.{specs.{declared.other.Other.{Other}, Pairs.{pair_at, kinds_meet}}, proofs.AnswerLaws.{beside_scalar, across_scalar}},
+  frame_ops.{specs.{declared.other.Other.{Other}, Pairs.{pair_at, kinds_meet}}, proofs.MeetingLaws.{beside_scalar, across_scalar}},
 }
 use Rattle.frame_ops.proofs.columns.column_met.Goals as goal
 

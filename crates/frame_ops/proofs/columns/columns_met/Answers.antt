@@ -1,7 +1,7 @@
 use Rattle.{
   std.proofs.Common.{◌≡◌, ◌<◌, length, arith, rules, Err},
   frame_store.proofs.Settling.{longer_twice},
-  frame_ops.proofs.ColumnsMade.{kinds_here, columns_more, whole_more, whole_refused},
+  frame_ops.proofs.MeetingLaws.{kinds_here, columns_more, whole_more, whole_refused},
 }
 use Rattle.frame_ops.proofs.columns.columns_met.Goals as goal
 

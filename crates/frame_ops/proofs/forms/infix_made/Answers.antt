@@ -1,6 +1,6 @@
 use Rattle.{
   frame_store.{specs.Objects.{tables}, proofs.Settling.{object_settled}},
-  frame_ops.proofs.SignLaws.{scalar_given},
+  frame_ops.proofs.InfixLaws.{scalar_given},
 }
 use Rattle.frame_ops.proofs.forms.infix_made.Goals as goal
 

@@ -1,8 +1,9 @@
 use Rattle.{
+  selections.proofs.PlaceLaws.{heading_settled},
   std.proofs.Common.{◌≡◌, ◌<◌, length, arith},
   multi_index.specs.Axes.{HaveLevels},
   frame_store.proofs.Settling.{headings_part},
-  frame_ops.proofs.HeadingLaws.{heading_settled, other_levels, one_more_heading},
+  frame_ops.proofs.HeadingLaws.{other_levels, one_more_heading},
 }
 use Rattle.frame_ops.proofs.headings.are_headings.Goals as goal
 
@@ -13,9 +14,7 @@ returns-then-levels-ne1 c =
     search other_levels
 
 pub same_heading-requires-clause-b : goal.same_heading-requires-clause-b
-same_heading-requires-clause-b c =
-    let lt : c.loop-place.place < length c.args.frame.now.headings = omega arith in
-    search (heading_settled, headings_part)
+same_heading-requires-clause-b c = search (heading_settled, headings_part)
 
 pub loop-place-preserved : goal.loop-place-preserved
 loop-place-preserved c =

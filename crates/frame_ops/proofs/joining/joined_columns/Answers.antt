@@ -1,7 +1,6 @@
 use Rattle.{
-  std.proofs.Common.{◌∙◌},
-  frame_ops.proofs.JoinedTable.{columns_of, side_given},
-  column_operators.specs.Tasks.{operator_of},
+  std.proofs.{Common.{arith, ◌∙◌}, lemmas.List.{length-map}},
+  frame_ops.proofs.JoinLaws.{rows_numbered, side_given},
 }
 use Rattle.frame_ops.proofs.joining.joined_columns.Goals as goal
 
@@ -14,6 +13,4 @@ infix_columns-requires-clause-other c =
     side_given _ _ _ _ (c.read.ensures ∙ c.in_ok-right.ensures) c.requires.known_b.whole c.requires.known_b.given c.requires.inside.right.places
 
 pub returns-clause-columns : goal.returns-clause-columns
-returns-clause-columns c =
-    columns_of (operator_of c.args.op) c.args.dict.now c.args.a.now c.args.b.now c.args.rows.now c.requires.columns _ _
-    (c.read-on.ensures ∙ c.in_ok-left.ensures) (c.read.ensures ∙ c.in_ok-right.ensures) c.requires.inside.left.count_is c.infix_columns.new.dict _ c.infix_columns.ensures.columns
+returns-clause-columns c = grind (arith, length-map, rows_numbered)

@@ -3,7 +3,7 @@ use Rattle.{
   align_meaning.proofs.DifferLaws.{joined_apart},
   label_align.{specs.Joined.{lists_seen}, proofs.SameLaws.{tuple_decides}},
   form_parts.proofs.RowLaws.{tuples_given},
-  frame_ops.proofs.JoinLaws.{rows_inside, is_joined, joined_given},
+  frame_ops.proofs.JoinLaws.{rows_inside, joined_given},
 }
 use Rattle.frame_ops.proofs.joining.joined_rows.Goals as goal
 
@@ -21,10 +21,10 @@ returns-in-Ok-clause-given c =
 
 pub returns-in-Ok-clause-inside : goal.returns-in-Ok-clause-inside
 returns-in-Ok-clause-inside c =
-    let a = c.args.a.now in
-    is_joined _ a c.args.b.now _
-    (rows_inside _ _ _ c.len.ensures.distinct c.requires.given_a c.requires.given_b (length a.names)
-    (grind arith) (grind arith) c.in-Ok.rows c.in-Ok.ensures.rows)
+    let inside =
+    rows_inside _ _ _ c.len.ensures.distinct c.requires.given_a c.requires.given_b (length c.args.a.now.names)
+    (grind arith) (grind arith) c.in-Ok.rows c.in-Ok.ensures.rows in
+    grind arith
 
 pub returns-in-Ok-clause-apart : goal.returns-in-Ok-clause-apart
 returns-in-Ok-clause-apart c = λ left right. joined_apart _ _ tuple_decides _ _ left right (lists_seen c.in-Ok.rows) c.in-Ok.ensures.rows

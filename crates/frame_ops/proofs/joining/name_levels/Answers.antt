@@ -1,20 +1,17 @@
 use Rattle.{
+  selections.proofs.PlaceLaws.{heading_settled},
   std.proofs.{Common.{◌≡◌, ◌∙◌, ◌<◌, ap, sym, length, arith, slice_index_or, None}, lemmas.{List.{length-set}, Option.{get_or_from_slice_get}}},
   table_meaning.specs.{Settled.{IsSettled}, Table.{heading_value}},
   form_meaning.specs.Infix.{common_name},
-  frame_ops.proofs.{HeadingLaws.{heading_settled}, JoinLaws.{one_named, names_given}},
+  frame_ops.proofs.JoinLaws.{one_named, names_given},
 }
 use Rattle.frame_ops.proofs.joining.name_levels.Goals as goal
 
 pub common_name-requires-clause-a : goal.common_name-requires-clause-a
-common_name-requires-clause-a c =
-    let lt : c.loop-level.level < length c.args.a.now.names = omega arith in
-    heading_settled _ _ _ _ c.requires.given_a lt (sym (search get_or_from_slice_get))
+common_name-requires-clause-a c = heading_settled _ _ c.loop-level.level _ (grind (arith, get_or_from_slice_get)) c.requires.given_a
 
 pub common_name-requires-clause-b : goal.common_name-requires-clause-b
-common_name-requires-clause-b c =
-    let lt : c.loop-level.level < length c.args.b.now.names = omega (arith, c.requires.levels) in
-    heading_settled _ _ _ _ c.requires.given_b lt (sym (search get_or_from_slice_get))
+common_name-requires-clause-b c = heading_settled _ _ c.loop-level.level _ (grind (arith, get_or_from_slice_get)) c.requires.given_b
 
 pub loop-level-preserved : goal.loop-level-preserved
 loop-level-preserved c =

@@ -2,7 +2,7 @@ use Rattle.{
   std.proofs.Common.{arith, subst},
   table_meaning.specs.Valid.{IsWhole},
   frame_store.specs.World.{IsKnownTable},
-  frame_ops.proofs.SpreadLaws.{spread_known},
+  frame_ops.proofs.WideLaws.{spread_known},
 }
 use Rattle.frame_ops.proofs.spreading.spread_frame.Goals as goal
 

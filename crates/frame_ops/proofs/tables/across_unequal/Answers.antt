@@ -1,14 +1,14 @@
 use Rattle.{
   std.proofs.{Common.{arith, refl, sym, true, false}, lemmas.Bool.Decides.{nat_tests}},
-  frame_ops.proofs.{InfixLaws.{makes_as}, AcrossLaws.{by_tests, by_labels}},
+  frame_ops.proofs.{InfixLaws.{makes_as}, WideLaws.{by_tests, by_labels}},
 }
 use Rattle.frame_ops.proofs.tables.across_unequal.Goals as goal
 
 pub returns-then-not-takes_each-clause-makes : goal.returns-then-not-takes_each-clause-makes
-returns-then-not-takes_each-clause-makes c = (by_tests _ c.args.dict.now c.args.frame.now c.args.series.now c.args.left false _ (grind arith) refl, λ more. refl)
+returns-then-not-takes_each-clause-makes c = (by_tests c.args.dict.now c.args.frame.now c.args.series.now _ c.args.left false _ (grind arith) refl, λ more. refl)
 
 pub returns-then-levels-ne1-clause-makes : goal.returns-then-levels-ne1-clause-makes
-returns-then-levels-ne1-clause-makes c = (by_tests _ c.args.dict.now c.args.frame.now c.args.series.now c.args.left true false (grind arith) (grind (arith, nat_tests)), λ more. refl)
+returns-then-levels-ne1-clause-makes c = (by_tests c.args.dict.now c.args.frame.now c.args.series.now _ c.args.left true false (grind arith) (grind (arith, nat_tests)), λ more. refl)
 
 pub returns-then-not-branch-clause-makes : goal.returns-then-not-branch-clause-makes
 returns-then-not-branch-clause-makes c = (

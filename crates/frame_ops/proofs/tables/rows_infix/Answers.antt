@@ -1,13 +1,13 @@
 use Rattle.{
+  frame_store.{proofs.Settling.{columns_given, columns_part}, specs.Shown.{labels_value}},
   std.proofs.{Common.{arith, ◌≡◌, true, rules}, lemmas.List.{length-map}},
   form_meaning.specs.Infix.{same_tuples},
-  frame_store.specs.Shown.{labels_value},
-  frame_ops.proofs.InfixLaws.{makes_as, rows_are_meant, table_given},
+  frame_ops.proofs.InfixLaws.{makes_as, rows_are_meant},
 }
 use Rattle.frame_ops.proofs.tables.rows_infix.Goals as goal
 
 pub table_met-requires-clause-other : goal.table_met-requires-clause-other
-table_met-requires-clause-other c = search table_given
+table_met-requires-clause-other c = columns_given _ _ (columns_part _ _ c.requires.known_b.given)
 
 pub returns-clause-makes : goal.returns-clause-makes
 returns-clause-makes c =

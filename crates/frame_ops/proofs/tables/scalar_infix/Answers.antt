@@ -1,6 +1,6 @@
 use Rattle.{
   std.proofs.{Common.{arith}, lemmas.List.{length-map}},
-  frame_ops.proofs.{Meanings.{table_meant}, MeetingLaws.{scalar_meetings}, InfixLaws.{makes_as}},
+  frame_ops.proofs.{MeetingLaws.{table_meant, scalar_meetings}, InfixLaws.{makes_as}},
 }
 use Rattle.frame_ops.proofs.tables.scalar_infix.Goals as goal
 

@@ -1,8 +1,11 @@
-use Rattle.frame_ops.proofs.InfixLaws.{name_settled}
+use Rattle.{
+  selections.proofs.PlaceLaws.{heading_settled},
+  frame_store.proofs.Settling.{headings_part},
+}
 use Rattle.frame_ops.proofs.tables.series_infix.Goals as goal
 
 pub common_name-name-requires-clause-a : goal.common_name-name-requires-clause-a
-common_name-name-requires-clause-a c = search name_settled
+common_name-name-requires-clause-a c = search (heading_settled, headings_part)
 
 pub common_name-name-requires-clause-b : goal.common_name-name-requires-clause-b
-common_name-name-requires-clause-b c = search name_settled
+common_name-name-requires-clause-b c = search (heading_settled, headings_part)

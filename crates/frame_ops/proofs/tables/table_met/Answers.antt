@@ -1,6 +1,6 @@
 use Rattle.{
   frame_store.proofs.Settling.{columns_given, columns_part},
-  frame_ops.proofs.NamingLaws.{whole_named, named_is_settled, named_is_meant},
+  frame_ops.proofs.HeadingLaws.{whole_named, named_makes},
 }
 use Rattle.frame_ops.proofs.tables.table_met.Goals as goal
 
@@ -13,9 +13,4 @@ table_under-requires-clause-whole c =
 
 pub returns-clause-makes : goal.returns-clause-makes
 returns-clause-makes c =
-    let longer = c.infix_columns.ensures.longer in
-    let same = c.in_ok-headings.ensures in
-    let is = c.in_ok-table_under.ensures in (
-      named_is_meant _ _ _ _ _ _ _ longer c.requires.known.given c.requires.name same is _ c.in_ok-blocks.ensures.made,
-      named_is_settled _ _ _ _ _ _ _ longer c.requires.known.given c.requires.name same is c.in_ok-blocks.ensures.columns,
-    )
+    named_makes _ _ _ _ _ _ _ c.infix_columns.ensures.longer c.requires.known.given c.requires.name c.in_ok-headings.ensures c.in_ok-table_under.ensures _ c.in_ok-blocks.ensures.made c.in_ok-blocks.ensures.columns

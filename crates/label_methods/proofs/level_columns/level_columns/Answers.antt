@@ -1,6 +1,6 @@
 use Rattle.{
-  std.proofs.{Common.{◌∙◌, ◌++◌, ◌∷◌, [], ap, arith}, lemmas.{List.Elements.{All-append}, Result.{err_from_is_err_and}}},
-  frame_store.specs.Parts.{IsSingle, single_block, table_column},
+  std.proofs.{Common.{arith}, lemmas.{List.Elements.{All-push}, Result.{err_from_is_err_and}}},
+  frame_store.specs.Parts.{IsSingle},
   label_methods.proofs.LevelColumnLaws.{level_step, level_refused},
 }
 use Rattle.label_methods.proofs.level_columns.level_columns.Goals as goal
@@ -12,9 +12,7 @@ returns-in_err-column-clause-columns c = λ texts.
 
 pub loop-level-preserved : goal.loop-level-preserved
 loop-level-preserved c =
-    let more = c.in_ok-push.ensures.ok ∙ ap (λ b. c.loop-level.blocks ++ b ∷ []) c.into_block.ensures in
-    let new = c.in_ok-column.column in
     record {
-      single = rw more (All-append IsSingle c.loop-level.blocks (single_block (table_column new) ∷ []) c.loop-level.invariant.single (grind arith));
-      columns = λ texts. level_step _ c.args.axis.now _ _ _ new (omega arith) more (c.in_ok-column.ensures texts) (c.loop-level.invariant.columns texts);
+      single = rw c.in_ok-push.ensures.ok (All-push IsSingle _ _ c.loop-level.invariant.single (grind arith));
+      columns = λ texts. level_step _ c.args.axis.now _ _ _ c.in_ok-column.column (omega arith) (grind arith) (c.in_ok-column.ensures texts) (c.loop-level.invariant.columns texts);
     }

@@ -1,5 +1,5 @@
 use Rattle.{
-  std.proofs.{Common.{◌≡◌, ◌<◌, length, ap, true, arith, rules}, lemmas.Option.{get_or_from_slice_get}},
+  std.proofs.{Common.{length, ap, arith, rules}, lemmas.Option.{get_or_from_slice_get}},
   selections.proofs.PlaceLaws.{heading_settled, place_met},
 }
 use Rattle.label_methods.proofs.levels.place_of_name.Goals as goal
@@ -10,7 +10,4 @@ same_heading-requires-clause-b c =
 
 pub returns-then-same_heading-clause-place : goal.returns-then-same_heading-clause-place
 returns-then-same_heading-clause-place c =
-    let names = c.args.on.now.level_names in
-    let lt : c.loop-level.level < length names = omega (arith, (ap (λ a. length a.names) c.axis-axis.ensures)) in
-    let so : c.same_heading.result ≡ true = search rules in
-    place_met _ names c.args.name _ c.name.result _ _ lt (grind (arith, get_or_from_slice_get)) c.same_heading.ensures so c.loop-level.invariant
+    place_met _ c.args.on.now.level_names c.args.name _ c.name.result _ _ (omega (arith, ap (λ a. length a.names) c.axis-axis.ensures)) (grind (arith, get_or_from_slice_get)) c.same_heading.ensures (search rules) c.loop-level.invariant

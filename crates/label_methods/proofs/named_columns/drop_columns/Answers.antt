@@ -1,5 +1,5 @@
 use Rattle.{
-  std.proofs.Common.{arith, ◌≡◌, length},
+  std.proofs.Common.{arith},
   frame_store.specs.Objects.{tables, table_at},
   label_methods.proofs.{AnswerLaws.{forms_so}, NamedLaws.{others_inside, others_meant}},
 }
@@ -12,5 +12,4 @@ columns_of-requires-clause-columns c =
 pub returns : goal.returns
 returns c =
     let t = table_at (tables c.args.store.now) c.args.on.0 in
-    let count : c.columns.result ≡ length t.columns = grind arith in
-    forms_so _ _ _ _ _ (cc (others_meant c.args.dict.now t c.args.places.now c.in_ok-kept.kept c.columns.result c.in_ok-kept.ensures count)) c.columns_of.ensures
+    forms_so _ _ _ _ _ (cc (others_meant c.args.dict.now t c.args.places.now c.in_ok-kept.kept c.columns.result c.in_ok-kept.ensures (grind arith))) c.columns_of.ensures

@@ -1,6 +1,6 @@
 use Rattle.{
   std.proofs.{Common.{◌<◌, ap, length, arith, None}, lemmas.{List.{length-set}, Option.{get_or_from_slice_get}}},
-  label_methods.proofs.UnderLaws.{one_more_name},
+  label_methods.proofs.ReindexLaws.{one_more_name},
 }
 use Rattle.label_methods.proofs.reindexing.axis_like.Goals as goal
 
@@ -9,9 +9,8 @@ loop-level-preserved c =
     let names = c.args.like.now.names in
     let level = c.loop-level.level in
     let lt : level < length names = omega arith in
-    let inside : level < length c.loop-level.axis.names = omega (arith, c.loop-level.invariant.size, lt) in
     record {
       tuples = grind arith;
       size = grind (arith, length-set);
-      names = one_more_name _ _ _ _ _ None inside lt (grind (arith, get_or_from_slice_get)) c.loop-level.invariant.names (ap (λ a. a.names) c.set_name.ensures);
+      names = one_more_name _ _ _ _ _ None (omega (arith, c.loop-level.invariant.size, lt)) lt (grind (arith, get_or_from_slice_get)) c.loop-level.invariant.names (ap (λ a. a.names) c.set_name.ensures);
     }

@@ -1,10 +1,9 @@
 use Rattle.{
-  std.proofs.Common.{◌<◌, length, arith},
+  std.proofs.Common.{arith},
   label_methods.proofs.ResetLaws.{one_more_heading},
 }
 use Rattle.label_methods.proofs.resetting.push_headings.Goals as goal
 
 pub loop-place-preserved : goal.loop-place-preserved
 loop-place-preserved c =
-    let lt : c.loop-place.place < length c.args.on.now.headings = omega arith in
-    one_more_heading c.args.on.now _ _ _ _ _ _ lt c.heading.ensures.value c.column_label.ensures c.in_ok-push.ensures.items c.loop-place.invariant
+    one_more_heading c.args.on.now _ _ _ _ _ _ (omega arith) c.heading.ensures.value c.column_label.ensures c.in_ok-push.ensures.items c.loop-place.invariant

@@ -1,7 +1,7 @@
 use Rattle.{
   std.proofs.{lemmas.List.{length-map, FromFn.{length-range_with_len}}, Common.{length-append, arith}},
   frame_store.proofs.Settling.{settled_later},
-  label_methods.proofs.ResetTableLaws.{columns_are},
+  label_methods.proofs.ResetLaws.{columns_are},
 }
 use Rattle.label_methods.proofs.resetting.reset_levels.Goals as goal
 

@@ -1,4 +1,4 @@
-use Rattle.label_methods.proofs.UnderLaws.{table_under}
+use Rattle.label_methods.proofs.ReindexLaws.{table_under}
 use Rattle.label_methods.proofs.under.table_under_axis.Goals as goal
 
 pub returns : goal.returns

@@ -2,7 +2,7 @@ use Rattle.{
   label_methods.proofs.AnswerLaws.{forms_so},
   std.proofs.Common.{arith},
   frame_store.specs.World.{world},
-  merge_forms.proofs.CallLaws.{is_call},
+  merge_forms.proofs.KeyLaws.{is_call},
 }
 use Rattle.merge_forms.proofs.calling.merge_call.Goals as goal
 

@@ -3,7 +3,7 @@ use Rattle.{
   std.proofs.Common.{◌∙◌, sym},
   method_meaning.specs.Calls.{merge_call},
   frame_store.specs.{Objects.{tables}, World.{world, arguments_in}},
-  merge_forms.proofs.CallLaws.{frame_called, merge_called, other_called},
+  merge_forms.proofs.KeyLaws.{frame_called, merge_called, other_called},
 }
 use Rattle.merge_forms.proofs.calling.method.Goals as goal
 

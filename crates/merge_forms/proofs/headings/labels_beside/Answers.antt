@@ -1,7 +1,8 @@
 use Rattle.{
+  std.proofs.Common.{◌∷◌, []},
   table_meaning.specs.Table.{Table},
   frame_store.proofs.Settling.{longer_twice},
-  merge_forms.{specs.Headings.{label_beside}, proofs.KeyLaws.{one_more_given, one_more_label}},
+  merge_forms.{specs.Headings.{label_beside}, proofs.KeyLaws.{labels_given, one_more_label}},
 }
 use Rattle.merge_forms.proofs.headings.labels_beside.Goals as goal
 
@@ -12,7 +13,7 @@ loop-k-preserved c =
     let f : Table → _ = λ T. label_beside T c.args.on.now c.args.keys.now c.args.suffix.now c.args.others.now.keys in
     record {
       longer = search longer_twice;
-      given = one_more_given c.args.dict.now _ _ f c.args.on.now c.args.places.now c.loop-k.k c.at-column.result.now h _ _ made.longer c.loop-k.invariant.given c.in_ok-push.ensures.items made.given;
+      given = labels_given _ _ _ (h ∷ []) _ made.longer c.loop-k.invariant.given (λ more j. made.given more j ∷ []) c.in_ok-push.ensures.items;
       labels = one_more_label _ _ _ f _ _ _ _ h _ _ made.longer c.loop-k.invariant.given c.in_ok-push.ensures.items c.at-column.ensures c.loop-k.invariant.longer c.requires.known.given made.label
           c.loop-k.invariant.labels;
     }

@@ -18,13 +18,13 @@ loop-place-preserved c =
           let yes : c.contains.result ≡ true = search rules in
           record {
             given = cell_given _ _ _ _ (rw c.in-Some.is at given) (grind arith) c.loop-place.invariant.given;
-            labels = one_more_common _ _ _ _ h lt c.heading.ensures.value _ _ _ c.in-Some.is (sym there ∙ yes) (grind arith) c.loop-place.invariant.labels;
+            labels = one_more_common _ _ _ _ h lt c.heading.ensures.value _ _ _ _ c.in-Some.is (sym there ∙ yes) (grind arith) c.loop-place.invariant.labels;
           }
       | else-contains w ↦
           let no : c.contains.result ≡ false = search rules in
           let same : c.if-contains.cells ≡ c.loop-place.cells = search rules in
           record {
             given = rw same c.loop-place.invariant.given;
-            labels = cc (no_more_common _ _ _ _ h lt c.heading.ensures.value _ (sym there ∙ no) c.loop-place.invariant.labels);
+            labels = cc (no_more_common _ _ _ _ h lt c.heading.ensures.value _ _ (sym there ∙ no) c.loop-place.invariant.labels);
           }
     ]

@@ -1,6 +1,7 @@
 use Rattle.{
-  std.proofs.Common.{◌≡◌, map, filter, take, Some},
-  table_meaning.specs.Settled.{IsSettled},
+  std.{proofs.Common.{◌++◌, drop, ◌≡◌, filter}, specs.Prelude.{filter_map}},
+  method_meaning.specs.Merge.{common_labels},
+  table_meaning.specs.{Table.{table_value}, Settled.{IsSettled}},
   frame_store.specs.Shown.{cells_value, headings_value},
   merge_forms.{specs.Keys.{cell_labels}, proofs.KeyLaws.{is_common}},
 }
@@ -10,5 +11,5 @@ use Rattle.merge_forms.proofs.keys.common_labels.Given as goal
 abbrev pub invariant-loop-place : goal.invariant-loop-place
 invariant-loop-place l = record {
   given : IsSettled cells_value l.dict l.cells;
-  labels : map (λ label. Some label) (cell_labels l.dict l.cells) ≡ filter (is_common (headings_value l.dict l.r.headings)) (take l.place (headings_value l.dict l.l.headings));
+  labels : cell_labels l.dict l.cells ++ filter_map (λ h. h) (filter (is_common (headings_value l.dict l.r.headings)) (headings_value l.dict (drop l.place l.l.headings))) ≡ common_labels (table_value l.dict l.l) (table_value l.dict l.r);
 }

@@ -1,5 +1,5 @@
 use Rattle.{
-  merge_forms.proofs.CallLaws.{rows_answered, told_given, told_some, shape_read, right_shape, keys_refused},
+  merge_forms.proofs.KeyLaws.{rows_answered, told_given, told_some, right_shape, keys_refused},
   std.proofs.{Common.{arith, ◌∙◌, ap}, lemmas.Result.{err_from_is_err_and}},
   method_meaning.specs.Merge.{validate_in},
   frame_store.specs.{Objects.{tables}, World.{world}},
@@ -31,7 +31,7 @@ merged_rows-requires-clause-right c = known_table _ _ _ c.read-r.ensures.table c
 pub merged_rows-requires-clause-frames : goal.merged_rows-requires-clause-frames
 merged_rows-requires-clause-frames c =
     let w = world c.args.store.now c.args.dict.now in
-    (grind (arith, shape_read), right_shape w _ c.requires.call _ _ c.read-r.ensures.table (c.frame.ensures.table w.tables w.texts))
+    (grind arith, right_shape w _ c.requires.call _ _ c.read-r.ensures.table (c.frame.ensures.table w.tables w.texts))
 
 pub returns-in_err-keys-clause-answer : goal.returns-in_err-keys-clause-answer
 returns-in_err-keys-clause-answer c =

@@ -27,6 +27,6 @@ loop-k-preserved c =
     let is = ap option_copied (sym c.in-Some.is) ∙ c.get.ensures.value in
     let here = looked_up _ _ t _ _ c.len.ensures.distinct c.requires.settled settled c.in_ok-first.ensures is in
     record {
-      places = search (places_more, c.loop-k.k, c.push.new.self, c.at.ensures, c.label_of-label.ensures.seen, c.in_ok-push.ensures.ok);
+      places = search (places_more, c.at.ensures, c.label_of-label.ensures.seen, c.in_ok-push.ensures.ok);
       inside = rw c.in_ok-push.ensures.ok (All-push (λ place. place < length t.columns) c.loop-k.places _ c.loop-k.invariant.inside (looked_inside _ t _ _ c.requires.whole c.in_ok-first.ensures is));
     }

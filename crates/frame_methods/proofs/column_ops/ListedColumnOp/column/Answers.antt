@@ -1,9 +1,14 @@
-use Rattle.frame_methods.proofs.{HeldLaws.{are_given}, ListedLaws.{listed_given, listed_answer}}
+use Rattle.{
+  column_operators.specs.Marks.{listed_mark},
+  meaning.specs.Cell.{truth_cell},
+  std.proofs.Common.{ap},
+  frame_methods.proofs.{OpLaws.{marked_answer, mapped_given}, ListedLaws.{any_by_number}},
+}
 use Rattle.frame_methods.proofs.column_ops.ListedColumnOp.column.Goals as goal
 
 pub returns-clause-given : goal.returns-clause-given
-returns-clause-given c = listed_given _ _ c.args.a _ c.in_ok-isin.ensures
+returns-clause-given c = mapped_given _ _ _ c.args.a _ (λ v here. tt) c.requires.cells c.in_ok-isin.ensures
 
 pub returns-clause-answer : goal.returns-clause-answer
 returns-clause-answer c =
-    listed_answer _ _ c.args.a _ c.len.ensures.distinct (are_given _ _ c.requires.own) c.requires.cells c.in_ok-isin.ensures
+    marked_answer _ _ (listed_mark c.args.self.now.values.keys) _ c.args.a _ (λ v here. ap truth_cell (any_by_number _ v _ c.len.ensures.distinct here c.requires.own)) c.requires.cells c.in_ok-isin.ensures

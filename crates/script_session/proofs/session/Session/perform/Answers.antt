@@ -1,7 +1,7 @@
 use Rattle.{
   script_tree.specs.View.{form_of},
   std.proofs.Common.{arith, sym},
-  script_work.{specs.Work.{tables_in, world_of, state_in}, proofs.{States.{state_swept}, Naming.{live_are_named, named_live}}},
+  script_work.{specs.Work.{tables_in, world_of, state_in}, proofs.States.{state_swept, live_are_named, named_live}},
   script_session.proofs.{Answering.{performs_after, refused_kept, live_refused}, Settings.{apart_after}},
 }
 use Rattle.script_session.proofs.session.Session.perform.Goals as goal

@@ -1,6 +1,6 @@
 use Rattle.{
   std.proofs.Common.{arith, ◌∙◌, ap, nat_eq},
-  script_work.{specs.Uses.{or_none}, proofs.{Numbers.{nat_same}, UseLaws.{same_after}}},
+  script_work.{specs.Uses.{or_none}, proofs.{Bindings.{nat_same}, UseLaws.{same_after}}},
 }
 use Rattle.script_work.proofs.uses.Uses.make_room_for.Goals as goal
 

@@ -3,7 +3,7 @@ use Rattle.{
   table_laws.{specs.Validity.{IsHeldCell, IsValidGiven}, proofs.SetLaws.{assign_result_keeps}},
   frame_store.specs.{Objects.{tables}, World.{World}},
   settings.specs.Assigned.{moved_object, without},
-  script_work.{specs.Work.{names_in, world_of}, proofs.{Worlds.{live_set, noted_set, given_after}, Binding.{swept_live}, Validity.{object_valid, argument_valid, set_valid}, Spending.{unnamed_spare, spent_valid, spent_keeps, spent_noted, spent_on}}},
+  script_work.{specs.Work.{names_in, world_of}, proofs.{Worlds.{live_set, noted_set, given_after}, Bindings.{swept_live}, Validity.{object_valid, argument_valid, set_valid, unnamed_spare, spent_valid, spent_keeps, spent_noted, spent_on}}},
 }
 use Rattle.script_work.proofs.work.Work.assign.Goals as goal
 

@@ -4,7 +4,7 @@ use Rattle.{
   frame_store.specs.Arguments.{arguments_of},
   method_meaning.specs.Readers.{reads_file, read_result},
   script_meaning.specs.Reading.{at_once},
-  script_work.{specs.Work.{world_of}, proofs.{Worlds.{form_keeps, form_known}, Naming.{form_unnamed}, Rides.{goes_same, goes_to, form_reads, evaluated_if}}},
+  script_work.{specs.Work.{world_of}, proofs.{Worlds.{form_keeps, form_known}, States.{form_unnamed}, Rides.{goes_same, goes_to, form_reads, evaluated_if}}},
   fault_laws.proofs.CallFaults.{function_result_fault, reads_made},
 }
 use Rattle.script_work.proofs.work.Work.call.Goals as goal

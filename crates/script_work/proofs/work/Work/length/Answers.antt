@@ -1,6 +1,6 @@
 use Rattle.{
   frame_store.proofs.Settling.{longer_self},
-  script_work.proofs.Lengths.{length_answer},
+  script_work.proofs.Printed.{length_answer},
 }
 use Rattle.script_work.proofs.work.Work.length.Goals as goal
 

@@ -1,4 +1,4 @@
-use Rattle.script_work.proofs.Binding.{bound_is, given_is, bound_noted}
+use Rattle.script_work.proofs.Bindings.{bound_is, given_is, bound_noted}
 use Rattle.script_work.proofs.work.Work.set_name.Goals as goal
 
 pub invariant_of-self-2 : goal.invariant_of-self-2
