@@ -1,7 +1,6 @@
 -- Keys that differ on each side differ in an outer join.
 use Rattle.{
-  std.{proofs.{Common.{rules, ◌≡◌, ◌≢◌, ◌<◌, ◌≤◌, ◌+◌, refl, sym, ℕ, suc, Bool, true, false, not, cond, List, [], ◌∷◌, map, length, All, AllPairs, Result, Ok, Err, arith}, lemmas.{Bool.{false≢true}, List.{map-append, Elements.{All-head, All-tail, filter_passes}, Kept.{AllPairs-cons, AllPairs-filter}}}}, specs.{Bool.{Decides}, List.{flat_map}}},
-  meaning.specs.Reduce.{distinct},
+  meaning.proofs.Common.{rules, ◌≡◌, ◌≢◌, ◌<◌, ◌≤◌, ◌+◌, refl, sym, ℕ, suc, Bool, true, false, not, cond, List, [], ◌∷◌, map, length, All, AllPairs, Result, Ok, Err, arith, false≢true, map-append, All-head, All-tail, filter_passes, AllPairs-cons, AllPairs-filter, Decides, flat_map, distinct},
   sorting.specs.Sorting.{put_in, in_order},
   pick_meaning.{specs.Rows.{rows_where}, proofs.InsideLaws.{ok_same}},
   align_meaning.{proofs.OrderLaws.{all_put_in, all_in_order}, specs.{Faults.{AlignRefusal, too_large}, Joins.{Entry, Lists, entries_of, outer_entries, lists_of, outer}}},

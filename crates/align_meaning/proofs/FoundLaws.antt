@@ -1,6 +1,6 @@
 -- What is found for targets: a row or a gap for each, rows that are there, and a repeated key that is one of the keys.
 use Rattle.{
-  std.{proofs.{Common.{◌≡◌, ◌∙◌, refl, arith, ℕ, ◌<◌, Bool, true, false, if◌then◌else◌, List, [], ◌∷◌, map, length, All, Option, Some, None, Result, Ok, Err}, lemmas.List.{length-map, FromFn.{length-map-range_with_len, length-range_with_len, get_or-range_with_len}, Elements.{All-head, All-tail, All-map}}}, specs.{Prelude.{IfOk, IfSome}, List.{range_with_len}, Cmp.Lexicographic.{pointwise, as_long}}},
+  meaning.proofs.Common.{◌≡◌, ◌∙◌, refl, arith, ℕ, ◌<◌, Bool, true, false, if◌then◌else◌, List, [], ◌∷◌, map, length, All, Option, Some, None, Result, Ok, Err, length-map, length-map-range_with_len, length-range_with_len, get_or-range_with_len, All-head, All-tail, All-map, IfOk, IfSome, range_with_len, pointwise, as_long},
   pick_meaning.{specs.Rows.{rows_where, only_row}, proofs.InsideLaws.{rows_inside}},
   align_meaning.specs.{Faults.{AlignRefusal, duplicate_labels}, Targets.{first_where, first_repeated, unless_repeated, rows_of_targets, reindexed}},
 }

@@ -1,8 +1,8 @@
 -- The rows of an outer join lie within their sides, and its keys are those of either side.
 use Rattle.{
-  std.{proofs.{Common.{arith, ◌≡◌, ◌<◌, ◌≤◌, ℕ, Bool, cond, List, [], ◌∷◌, ◌++◌, map, length, All, Option, Some, Result, Ok, Err}, lemmas.{Bool.{ltb-false}, List.{length-map, Elements.{All-cons, All-head, All-tail, All-map}}}}, specs.Prelude.{IfSome}},
+  meaning.proofs.Common.{arith, ◌≡◌, ◌<◌, ◌≤◌, ℕ, Bool, cond, List, [], ◌∷◌, ◌++◌, map, length, All, Option, Some, Result, Ok, Err, ltb-false, length-map, All-cons, All-head, All-tail, All-map, IfSome, All-append as all_append},
   pick_meaning.{specs.Rows.{rows_where}, proofs.InsideLaws.{rows_inside, ok_same}},
-  align_meaning.{proofs.OrderLaws.{all_append, all_flat, all_distinct, all_in_order}, specs.{Faults.{AlignRefusal, too_large}, Joins.{Entry, Lists, or_gap, entry, entries_of, keys_in_order, outer_entries, most_rows, lists_of, outer}}},
+  align_meaning.{proofs.OrderLaws.{all_flat, all_distinct, all_in_order}, specs.{Faults.{AlignRefusal, too_large}, Joins.{Entry, Lists, or_gap, entry, entries_of, keys_in_order, outer_entries, most_rows, lists_of, outer}}},
 }
 
 -- a row of so many, or none

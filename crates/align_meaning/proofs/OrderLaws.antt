@@ -1,7 +1,6 @@
 -- Lists in order, and what is made of them.
 use Rattle.{
-  std.{proofs.{Common.{arith, ◌≡◌, ◌∙◌, refl, Bool, true, false, not, cond, List, [], ◌∷◌, map, filter, All}, lemmas.List.Elements.{All-nil, All-cons, All-head, All-tail, All-filter}}, specs.List.{flat_map}},
-  meaning.specs.Reduce.{distinct},
+  meaning.proofs.Common.{arith, ◌≡◌, ◌∙◌, refl, Bool, true, false, not, cond, List, [], ◌∷◌, map, filter, All, All-nil, All-cons, All-head, All-tail, All-filter, flat_map, distinct},
   sorting.specs.Sorting.{put_in, in_order},
 }
 pub use Rattle.std.proofs.lemmas.List.Elements.{All-append as all_append}

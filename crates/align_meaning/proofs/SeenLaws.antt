@@ -1,9 +1,9 @@
 -- The same rows meet where keys are seen otherwise, as tuples with their texts.
 use Rattle.{
-  std.{proofs.{Common.{arith, ◌≡◌, ◌∙◌, ap, refl, sym, ℕ, Bool, not, cond, List, [], ◌∷◌, ◌++◌, map, filter, All, Option, Some, Result, Ok, Err}, lemmas.List.{length-map, map-append, Elements.{All-head, All-tail}}}, specs.{List.{flat_map}, Option.{option_map}, Cmp.Lexicographic.{pointwise}}},
-  meaning.specs.Reduce.{distinct},
+  meaning.proofs.Common.{arith, ◌≡◌, ◌∙◌, ap, refl, sym, ℕ, Bool, not, cond, List, [], ◌∷◌, ◌++◌, map, filter, All, Option, Some, Result, Ok, Err, length-map, map-append, All-head, All-tail, flat_map, pointwise, distinct, All-append as all_append},
+  std.specs.Option.{option_map},
   pick_meaning.{specs.Rows.{rows_where, only_row}, proofs.{RowLaws.{rows_where-map}, SeenLaws.{pointwise-map}}},
-  align_meaning.{proofs.OrderLaws.{all_append, all_distinct, all_in_order, in_order_map}, specs.{Faults.{AlignRefusal, duplicate_labels, too_large}, Targets.{first_where, first_repeated, rows_of_targets, reindexed}, Joins.{Entry, Lists, entry, entries_with, entries_of, keys_in_order, outer_entries, within_limit, outer}}},
+  align_meaning.{proofs.OrderLaws.{all_distinct, all_in_order, in_order_map}, specs.{Faults.{AlignRefusal, duplicate_labels, too_large}, Targets.{first_where, first_repeated, rows_of_targets, reindexed}, Joins.{Entry, Lists, entry, entries_with, entries_of, keys_in_order, outer_entries, within_limit, outer}}},
 }
 
 map_map : {A B C D : Type 0} (f : B → C) (g : A → B) (h : D → C) (k : A → D) → ((x : A) → f (g x) ≡ h (k x)) → (xs : List A) → map f (map g xs) ≡ map h (map k xs)

@@ -1,7 +1,6 @@
 -- The number of so many cells, and of one more.
 use Rattle.{
-  std.{proofs.Common.{◌≡◌, ℕ, zero, suc, ◌+◌, ℤ, pos, List, fold, slice_get, ap, ◌∙◌, arith}, specs.{Prelude.{unwrap_or, Some}, List.{range_with_len}}},
-  cell_core.specs.declared.cell.Cell.{Cell, TheVariants.{Na}},
+  meaning.proofs.Common.{◌≡◌, ℕ, zero, suc, ◌+◌, ℤ, pos, List, fold, slice_get, ap, ◌∙◌, arith, unwrap_or, Some, range_with_len, Cell, Na},
   column_bench.specs.Checks.{check_more, check_below},
 }
 

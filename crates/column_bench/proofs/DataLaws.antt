@@ -1,8 +1,5 @@
 -- Laws of what the columns are made of.
-use Rattle.{
-  std.proofs.{Common.{◌≡◌, ℕ, ◌+◌, ◌∷◌, ◌++◌, [], arith}, lemmas.List.FromFn.{map-range_with_len_more}},
-  meaning.specs.Column.{tabulate},
-}
+use Rattle.meaning.proofs.Common.{◌≡◌, ℕ, ◌+◌, ◌∷◌, ◌++◌, [], arith, map-range_with_len_more, tabulate}
 
 -- one row more
 pub tabulate_more : {C : Type 0} (f : ℕ → C) (n : ℕ) → tabulate (n + 1) f ≡ tabulate n f ++ f n ∷ []

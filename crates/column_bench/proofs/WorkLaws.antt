@@ -1,8 +1,6 @@
 -- What the operations are made on is such that they take it.
 use Rattle.{
-  std.{proofs.{Common.{◌≡◌, ℕ, ◌-◌, ◌<◌, nat_lt, Bool, true, false, cond, List, length, sym, subst, ◌∙◌, arith, Option, Some, None, slice_index_or}, lemmas.List.{Elements.{All-map}, FromFn.{length-map-range_with_len, get_or-map-range_with_len}}}, specs.List.{range_with_len}},
-  cell_core.specs.declared.cell.Cell.TheVariants.{Na},
-  meaning.specs.{Cell.{IsGiven}, Column.{tabulate}},
+  meaning.proofs.Common.{◌≡◌, ℕ, ◌-◌, ◌<◌, nat_lt, Bool, true, false, cond, List, length, sym, subst, ◌∙◌, arith, Option, Some, None, slice_index_or, All-map, length-map-range_with_len, get_or-map-range_with_len, range_with_len, Na, IsGiven, tabulate},
   column_core.specs.Moves.{IsPlaceOf},
   column_bench.specs.{declared.{data.Data.{Data, TheVariants.{Numbers, Divisors, Truths, OtherTruths, Bits}}, operation.Operation.{Operation, TheVariants.{Add, FloorDiv, Lt, And, Sum, Cumsum, Shift, Take, Cast}}, work.Work.{Work}}, Data.{jump_of, other_jump_of, data_cell, data_column, place_at, number_cell, divisor_cell, truth_cell, bit_cell}, Operation.{work_of}, Work.{NeedNoTexts, ArePaired, IsReady}},
 }
@@ -41,8 +39,7 @@ all_placed : (source : Data) (count : ℕ) → (k : ℕ) (d : Option ℕ) → k 
 all_placed source count k d lt =
     let below : k < count = omega (arith, length-map-range_with_len place_at 0 count, lt) in
     let at : slice_index_or (tabulate count place_at) k d ≡ place_at k = get_or-map-range_with_len place_at 0 count k k d below (omega arith) in
-    subst (λ (p : Option ℕ). IsPlaceOf (length (data_column source count).cells) p) (sym at)
-    (subst (λ (n : ℕ). IsPlaceOf n (place_at k)) (sym (rows_of source count)) (placed count k below))
+    rw (at, rows_of source count) (placed count k below)
 
 ready : (operation : Operation) (count : ℕ) → IsReady (work_of operation count)
 ready Add count = paired Numbers Divisors count

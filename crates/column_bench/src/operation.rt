@@ -8,7 +8,7 @@ ghost use Rattle.column_bench.specs.Operation.{name_of, operation_named, work_of
 use crate::data::{Data, places};
 use crate::work::Work;
 use cell_core::NoMemory;
-use column_operators::Binary;
+use column_operators::Operator;
 use std::alloc::Global;
 
 /// An operation on columns.
@@ -88,9 +88,9 @@ impl Operation {
         ensures { IfOk result (λ w. w ≡ work_of self count) }
     {
         match self {
-            Operation::Add => on_numbers(alloc, Binary::Add, count),
-            Operation::FloorDiv => on_numbers(alloc, Binary::FloorDiv, count),
-            Operation::Lt => on_numbers(alloc, Binary::Lt, count),
+            Operation::Add => on_numbers(alloc, Operator::Add, count),
+            Operation::FloorDiv => on_numbers(alloc, Operator::FloorDiv, count),
+            Operation::Lt => on_numbers(alloc, Operator::Lt, count),
             Operation::And => on_truths(alloc, count),
             Operation::Sum => Ok(Work::Total(Data::Numbers.column(alloc, count)?)),
             Operation::Cumsum => Ok(Work::Running(Data::Numbers.column(alloc, count)?)),
@@ -102,7 +102,7 @@ impl Operation {
 }
 
 // An operator on two columns of whole numbers.
-fn on_numbers(alloc: Global, op: Binary, count: usize) -> Result<Work, NoMemory>
+fn on_numbers(alloc: Global, op: Operator, count: usize) -> Result<Work, NoMemory>
     ensures { IfOk result (λ w. w ≡ Work.Pair op (data_column Numbers count) (data_column Divisors count)) }
 {
     let left = Data::Numbers.column(alloc, count)?;
@@ -112,11 +112,11 @@ fn on_numbers(alloc: Global, op: Binary, count: usize) -> Result<Work, NoMemory>
 
 // `and` on two columns of truth values.
 fn on_truths(alloc: Global, count: usize) -> Result<Work, NoMemory>
-    ensures { IfOk result (λ w. w ≡ Work.Pair Binary.And (data_column Truths count) (data_column OtherTruths count)) }
+    ensures { IfOk result (λ w. w ≡ Work.Pair Operator.And (data_column Truths count) (data_column OtherTruths count)) }
 {
     let left = Data::Truths.column(alloc, count)?;
     let right = Data::OtherTruths.column(alloc, count)?;
-    Ok(Work::Pair(Binary::And, left, right))
+    Ok(Work::Pair(Operator::And, left, right))
 }
 
 // The cells at places.

@@ -8,7 +8,7 @@ ghost use Rattle.column_bench.specs.Work.{NeedNoTexts, ArePaired, IsReady, whole
 
 use cell_core::{Cell, Gaps, Kind, TextDict};
 use column_core::{Column, shift, take};
-use column_operators::{Binary, binary};
+use column_operators::{Operator, binary};
 use nullable_array::{ArrayFault, Cumulation, Reduction, cast, cumulate, reduce};
 use std::alloc::Global;
 
@@ -16,7 +16,7 @@ use std::alloc::Global;
 #[derive(Drop)]
 pub enum Work {
     /// An operator on two columns of one length.
-    Pair(Binary, Column, Column),
+    Pair(Operator, Column, Column),
     /// The sum of the cells.
     Total(Column),
     /// At each row the sum of the cells up to it.
@@ -58,7 +58,7 @@ impl Work {
 fn operated(
     alloc: Global,
     dict: &mut TextDict,
-    op: Binary,
+    op: Operator,
     a: &Column,
     b: &Column,
 ) -> Result<Answer, ArrayFault>

@@ -1,8 +1,6 @@
 -- Laws of the cells of a column, row by row.
 use Rattle.{
-  std.{proofs.{Common.{◌≡◌, ℕ, zero, suc, ◌+◌, ◌<◌, List, length, map, slice_get, arith, Option, Some}, lemmas.List.FromFn.{length-map-range_with_len, get_or-map-range_with_len}}, specs.List.{range_with_len}},
-  cell_core.specs.declared.cell.{Cell.{Cell}, Kind.{Kind}},
-  meaning.specs.{Column.{tabulate}, Cell.{IsGiven, AreGiven}},
+  meaning.proofs.Common.{◌≡◌, ℕ, zero, suc, ◌+◌, ◌<◌, List, length, map, slice_get, arith, Option, Some, length-map-range_with_len, get_or-map-range_with_len, range_with_len, Cell, Kind, tabulate, IsGiven, AreGiven},
   column_core.specs.Columns.{CellColumn, column_with},
 }
 
@@ -22,12 +20,6 @@ get-range f a (suc n) (suc row) h = grind (arith, get-range f (a + 1) n row (ome
 -- the value of a row
 pub get-tabulate : {C : Type 0} (n : ℕ) (f : ℕ → C) (row : ℕ) → row < n → slice_get (tabulate n f) row ≡ Some (f row)
 get-tabulate = grind (arith, get-range)
-
--- the cell of a row
-pub get-column : (kind : Kind) (n : ℕ) (f : ℕ → Cell) (whole : CellColumn) (row : ℕ) → record { kind = kind; cells = tabulate n f } ≡ whole → row < length whole.cells → slice_get whole.cells row ≡ Some (f row)
-get-column kind n f whole row e h =
-    let lt : row < n = omega (arith, length-column kind n f whole e) in
-    cc (get-tabulate n f row lt)
 
 -- cells whose texts are all given
 pub given-tabulate : (texts : List (List ℕ)) (n : ℕ) (f : ℕ → Cell) → ((k : ℕ) → k < n → IsGiven texts (f k)) → AreGiven texts (tabulate n f)

@@ -1,8 +1,6 @@
 -- Rows that are taken from others, as cells.
 use Rattle.{
-  std.proofs.{Common.{◌≡◌, ℕ, ◌-◌, ◌<◌, ℤ, Bool, cond, List, length, map, nat_lt, slice_index_or, sym, ◌∙◌, arith, Option, None, Result, IfOk, All}, lemmas.{Bool.{ltb-true, ltb-false}, List.{get_or_past, get_or-map, length-map, FromFn.{get_or-map-range_with_len, fill_by_all}}}},
-  cell_core.specs.declared.cell.Cell.{Cell, TheVariants.{Na}},
-  meaning.specs.Column.{tabulate, shifted_row, shifted, gap_cell, taken},
+  meaning.proofs.Common.{◌≡◌, ℕ, ◌-◌, ◌<◌, ℤ, Bool, cond, List, length, map, nat_lt, slice_index_or, sym, ◌∙◌, arith, Option, None, Result, IfOk, All, ltb-true, ltb-false, get_or_past, get_or-map, length-map, get_or-map-range_with_len, fill_by_all, Cell, Na, tabulate, shifted_row, shifted, gap_cell, taken},
   column_core.{specs.{Columns.{CellColumn}, Moves.{moved_row, is_ahead, distance_of, gap_at, picked_row, IsPlaceOf}}, proofs.{ColumnLaws.{length-tabulate}, CellRows.{range-same}}},
 }
 

@@ -1,7 +1,7 @@
 -- A step over rows that have a step.
 use Rattle.{
-  std.proofs.Common.{◌≡◌, ℕ, suc, ◌+◌, ◌-◌, ◌*◌, ◌<◌, ◌≤◌, ℤ, pos, negsuc, Bool, true, false, not, cond, arith},
-  cell_core.specs.{declared.grid.Rows.{Rows}, Grids.{place_from, IsPlace, AreRowsBelow}},
+  meaning.proofs.Common.{◌≡◌, ℕ, suc, ◌+◌, ◌-◌, ◌*◌, ◌<◌, ◌≤◌, ℤ, pos, negsuc, Bool, true, false, not, cond, arith, Rows, place_from, AreRowsBelow},
+  cell_core.specs.Grids.{IsPlace},
   column_core.specs.{Lanes.{LaneFits, lane_place}, Moves.{is_ahead, distance_of}},
 }
 

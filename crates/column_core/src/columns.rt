@@ -72,7 +72,7 @@ impl Model for Column {
 }
 
 /// A value of a kind, of which columns are made.
-pub trait Value: Copy + Drop {
+pub trait Element: Copy + Drop {
     ghost kind: { CellKind };
 
     ghost cell: { Option Self → OneCell };
@@ -88,7 +88,7 @@ pub trait Value: Copy + Drop {
 }
 
 /// A value that needs no dictionary.
-pub trait Plain: Value {
+pub trait Plain: Element {
     ghost plain: { (texts : List (List ℕ)) (x : Option Self) → IsGiven texts (Self.cell x) };
 }
 
@@ -100,7 +100,7 @@ impl Plain for bool {
     ghost plain = { truth_given };
 }
 
-impl Value for i64 {
+impl Element for i64 {
     ghost kind = { Int64 };
 
     ghost cell = { number_cell };
@@ -121,7 +121,7 @@ impl Value for i64 {
     ghost missing = { λ i. Na };
 }
 
-impl Value for bool {
+impl Element for bool {
     ghost kind = { Boolean };
 
     ghost cell = { truth_cell };
@@ -142,7 +142,7 @@ impl Value for bool {
     ghost missing = { λ i. Na };
 }
 
-impl Value for TextId {
+impl Element for TextId {
     ghost kind = { string };
 
     ghost cell = { text_cell };
@@ -206,7 +206,7 @@ impl Column {
 }
 
 // The value, or none, in so many rows.
-fn repeated_value<T: Value>(
+fn repeated_value<T: Element>(
     alloc: Global,
     value: Option<T>,
     count: usize,

@@ -24,7 +24,7 @@ mod strides;
 
 pub use blocks::Block;
 pub use columns::{
-    Borrowed, ColRef, Column, Kept, Plain, Value, cell_of_number, cell_of_text, cell_of_truth,
+    Borrowed, ColRef, Column, Element, Kept, Plain, cell_of_number, cell_of_text, cell_of_truth,
     number_in, text_in, truth_in,
 };
 pub use lanes::{Lane, Owned};

@@ -6,7 +6,7 @@ ghost use Rattle.column_core.specs.Columns.{column_with};
 ghost use Rattle.column_core.specs.Lanes.{lane_row, option_at};
 ghost use Rattle.column_core.specs.Moves.{moved_row, is_ahead, distance_of, gap_at, picked_row, IsPlaceOf};
 
-use crate::columns::{Borrowed, ColRef, Column, Value};
+use crate::columns::{Borrowed, ColRef, Column, Element};
 use crate::lanes::{Lane, Owned};
 use crate::rows::{RowOp, Source, by_rows};
 use crate::sources::{Dense, Nothing};
@@ -117,7 +117,7 @@ impl<T, A: Source<T>> RowOp<usize, (), T> for Pick<'_, A> {
 }
 
 /// The rows of a source, as a column.
-pub fn copied<T: Value, A: Source<T>>(alloc: Global, a: &A) -> Result<Column, NoMemory>
+pub fn copied<T: Element, A: Source<T>>(alloc: Global, a: &A) -> Result<Column, NoMemory>
     ensures { IfOk result (λ c. c ≡ column_with T.kind T.cell (A.count_of a.now) (A.row_of a.now)) }
 {
     // No row is refused.
@@ -128,7 +128,7 @@ pub fn copied<T: Value, A: Source<T>>(alloc: Global, a: &A) -> Result<Column, No
 }
 
 /// The rows of a lane, as a column: two slices are copied where the values lie side by side.
-pub fn copied_lane<T: Value>(alloc: Global, a: &Lane<'_, T>) -> Result<Column, NoMemory>
+pub fn copied_lane<T: Element>(alloc: Global, a: &Lane<'_, T>) -> Result<Column, NoMemory>
     ensures { IfOk result (λ c. c
         ≡ column_with T.kind T.cell a.now.count
         (lane_row a.now.values.now a.now.present.now a.now.start a.now.stride a.now.back)) }
@@ -139,7 +139,7 @@ pub fn copied_lane<T: Value>(alloc: Global, a: &Lane<'_, T>) -> Result<Column, N
     }
 }
 
-fn copied_side<T: Value>(alloc: Global, a: &Dense<'_, T>) -> Result<Column, NoMemory>
+fn copied_side<T: Element>(alloc: Global, a: &Dense<'_, T>) -> Result<Column, NoMemory>
     ensures { IfOk result (λ c. c
         ≡ column_with T.kind T.cell (length a.now.values.now)
         (option_at a.now.values.now a.now.present.now)) }
@@ -163,7 +163,7 @@ impl ColRef<'_> {
 }
 
 // The rows of a source at these places.
-fn picked<T: Value, A: Source<T>>(alloc: Global, a: &A, places: &Gaps) -> Result<Column, NoMemory>
+fn picked<T: Element, A: Source<T>>(alloc: Global, a: &A, places: &Gaps) -> Result<Column, NoMemory>
     requires { All (IsPlaceOf (A.count_of a.now)) places.now }
     ensures { IfOk result (λ c. c
         ≡ column_with T.kind T.cell (length places.now)
@@ -199,7 +199,7 @@ pub fn shift(alloc: Global, a: ColRef<'_>, periods: i64) -> Result<Column, NoMem
     }
 }
 
-fn shift_lane<T: Value>(
+fn shift_lane<T: Element>(
     alloc: Global,
     a: &Lane<'_, T>,
     distance: usize,
@@ -219,7 +219,7 @@ fn shift_lane<T: Value>(
 }
 
 // The same of values that lie side by side: a part of them is copied, beside rows of nothing.
-fn shift_side<T: Value>(
+fn shift_side<T: Element>(
     alloc: Global,
     a: &Dense<'_, T>,
     distance: usize,
@@ -235,7 +235,7 @@ fn shift_side<T: Value>(
     Ok(T::column(moved))
 }
 
-fn moved_side<T: Value>(
+fn moved_side<T: Element>(
     alloc: Global,
     a: &Dense<'_, T>,
     distance: usize,
@@ -294,7 +294,7 @@ fn moved_down<T: Copy>(
     Ok(moved)
 }
 
-fn shift_rows<T: Value, A: Source<T>>(
+fn shift_rows<T: Element, A: Source<T>>(
     alloc: Global,
     a: &A,
     distance: usize,
@@ -340,7 +340,7 @@ pub fn take(alloc: Global, a: ColRef<'_>, places: &Gaps) -> Result<Column, NoMem
     }
 }
 
-fn take_lane<T: Value>(alloc: Global, a: &Lane<'_, T>, places: &Gaps) -> Result<Column, NoMemory>
+fn take_lane<T: Element>(alloc: Global, a: &Lane<'_, T>, places: &Gaps) -> Result<Column, NoMemory>
     requires { All (IsPlaceOf a.now.count) places.now }
     ensures kind { IfOk result (λ c. c.kind ≡ T.kind) }
     ensures cells { IfOk result (λ c. c.cells
@@ -354,7 +354,7 @@ fn take_lane<T: Value>(alloc: Global, a: &Lane<'_, T>, places: &Gaps) -> Result<
     }
 }
 
-fn take_rows<T: Value, A: Source<T>>(
+fn take_rows<T: Element, A: Source<T>>(
     alloc: Global,
     a: &A,
     places: &Gaps,

@@ -1,8 +1,6 @@
 -- What an operation makes of values is what the operator makes of their cells.
 use Rattle.{
-  std.proofs.Common.{arith, ◌≡◌, ℕ, Bool, not, List, ◌++◌, ℤ, ◌+ℤ◌, Option, Some, option_map},
-  cell_core.specs.{Values.{text_of}, declared.cell.TextId.{TextId}},
-  meaning.specs.{Cell.{datum}, Operator.{division_cells, invert_cell, floor_quotient, floor_rest}},
+  meaning.{proofs.Common.{arith, ◌≡◌, ℕ, Bool, not, List, ◌++◌, ℤ, ◌+ℤ◌, Option, Some, option_map, text_of, TextId, datum, invert_cell}, specs.Operator.{division_cells, floor_quotient, floor_rest}},
   column_operators.specs.{declared.ops.Task.TheVariants.{Sum, Quotient, Rest}, Tasks.{task_cell}, Operations.{number_row, division_row, not_row, both}},
   column_core.specs.Columns.{number_cell, truth_cell, text_cell, text_value},
 }

@@ -1,6 +1,7 @@
 -- Quotients by a product with the inverse of a divisor.
 use Rattle.{
-  std.{proofs.{Common.{◌≡◌, ℕ, ◌+◌, ◌-◌, ◌*◌, ◌/◌, ◌%◌, ◌<◌, ◌≤◌, ◌^◌, inl, inr, sym, arith}, Math.Nat.{pow-le-pow_right}, lemmas.{Bool.{cases_lt}, Nat.{mul-lt, mul-le, div-mul-add, div-add-mod', mod_below, le-div, div_below, pow_pos, pow-add, leading_length}}}, specs.{Prelude.{◌⊎◌}, Int.Count.{count_leading_zeros}}},
+  meaning.proofs.Common.{◌≡◌, ℕ, ◌+◌, ◌-◌, ◌*◌, ◌/◌, ◌%◌, ◌<◌, ◌≤◌, ◌^◌, inl, inr, sym, arith, pow-le-pow_right, cases_lt, mul-le, div-mul-add, div-add-mod', div_below, pow-add, leading_length, ◌⊎◌, count_leading_zeros},
+  std.proofs.lemmas.Nat.{mul-lt, mod_below, le-div, pow_pos},
   column_operators.specs.Quotients.{IsInverse},
 }
 

@@ -1,8 +1,6 @@
 -- What an operator makes has as many rows as its operands.
 use Rattle.{
-  std.{proofs.{Common.{◌≡◌, ◌∙◌, ℕ, suc, Bool, true, false, List, ◌∷◌, length, map, arith, Option, Result, Ok, Err}, lemmas.List.{length-map, length-replicate}}, specs.Prelude.{IfOk}},
-  cell_core.specs.declared.cell.{Kind.{Kind}, Cell.{Cell}},
-  meaning.specs.{Text.{Text}, Cell.{CellValue, datum}, Column.{ColumnValue, try_pairs, then_rows, column_if, zero_division}, Operator.{binary_column, scalar_binary, scalar_column}, Symbol.{Binary}},
+  meaning.{proofs.Common.{◌≡◌, ◌∙◌, ℕ, suc, Bool, true, false, List, ◌∷◌, length, map, arith, Option, Result, Ok, Err, length-map, length-replicate, IfOk, Kind, Cell, Text, CellValue, datum, ColumnValue, try_pairs, then_rows, column_if, zero_division, scalar_binary, scalar_column, Binary}, specs.Operator.{binary_column}},
   nullable_array.specs.{Answers.{Answers}, declared.ops.ArrayFault.{ArrayFault}},
   column_core.specs.Columns.{CellColumn, column_value as cells_value},
 }

@@ -1,8 +1,7 @@
 -- A scalar beside each cell of a column.
 use Rattle.{
-  std.{proofs.{Common.{arith, ◌≡◌, ℕ, zero, suc, ◌+◌, Bool, true, false, List, length, map, replicate, refl, sym, ap, ◌∙◌, Option, Result}, lemmas.List.{length-map}}, specs.List.{range_with_len}},
-  cell_core.specs.declared.cell.{Cell.{Cell}, Kind.{Kind, TheVariants.{Text as string}}, TextId.{TextId}},
-  meaning.specs.{Cell.{CellValue, datum}, Column.{tabulate}, Operator.{scalar_kind, scalar_column}},
+  meaning.proofs.Common.{arith, ◌≡◌, ℕ, zero, suc, ◌+◌, Bool, true, false, List, length, map, replicate, refl, sym, ap, ◌∙◌, Option, Result, length-map, range_with_len, Cell, Kind, TextId, CellValue, datum, tabulate, scalar_kind, scalar_column},
+  cell_core.specs.declared.cell.Kind.TheVariants.{Text as string},
   nullable_array.specs.{declared.ops.ArrayFault.{ArrayFault}, Answers.{Answers}},
   column_operators.specs.{declared.ops.Task.{Task}, Tasks.{task_column, scalar_task}},
   column_core.{specs.Columns.{CellColumn, column_value, column_with, text_cell}, proofs.ColumnLaws.{length-tabulate}},

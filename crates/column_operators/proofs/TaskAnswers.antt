@@ -1,8 +1,6 @@
 -- What operators answer, from rows of values to columns of cells.
 use Rattle.{
-  std.proofs.Common.{arith, ◌≡◌, ℕ, List, Option, Some, option_map, Result},
-  cell_core.specs.declared.cell.{Cell.{Cell}, Kind.{Kind}},
-  meaning.specs.{Cell.{datum}, Column.{zero_division, column_of}},
+  meaning.proofs.Common.{arith, ◌≡◌, ℕ, List, Option, Some, option_map, Result, Cell, Kind, datum, zero_division, column_of},
   column_core.{specs.{Columns.{CellColumn, column_value, column_with}, Rows.{try_rows, map_rows}}, proofs.CellRows.{map-map, pairs-rows}},
   nullable_array.specs.{declared.ops.ArrayFault.{ArrayFault}, Answers.{Answers}},
   column_operators.specs.{declared.ops.Task.{Task}, Tasks.{task_cell, task_kind, task_column}},

@@ -7,14 +7,14 @@ use Rattle.meaning.specs.Cell.{CellValue}
 use Rattle.meaning.specs.Column.{ColumnValue, ColumnFault, zero_division, column_if, try_pairs}
 use Rattle.meaning.specs.Operator.{floor_quotient, floor_rest, add_cells, number_cells, division_cells, compare_cells, and_cells, or_cells, xor_cells, number_kind, sum_kind, comparison_kind, truth_kind, scalar_column}
 use Rattle.meaning.specs.Symbol as symbol
-use Rattle.column_operators.specs.declared.ops.Binary.{Binary}
-use Rattle.column_operators.specs.declared.ops.Binary.TheVariants.{Add, Sub, Mul, FloorDiv, Mod, Eq, Ne, Lt, Le, Gt, Ge, And, Or, Xor}
+use Rattle.column_operators.specs.declared.ops.Operator.{Operator}
+use Rattle.column_operators.specs.declared.ops.Operator.TheVariants.{Add, Sub, Mul, FloorDiv, Mod, Eq, Ne, Lt, Le, Gt, Ge, And, Or, Xor}
 use Rattle.column_operators.specs.declared.ops.Relation.{Relation}
 use Rattle.column_operators.specs.declared.ops.Task.{Task}
 use Rattle.column_operators.specs.declared.ops.Task.TheVariants.{Sum, Difference, Product, Quotient, Rest, Compare, Both, Either, OneOf}
 
 -- the operator of the language
-abbrev pub operator_of : Binary → symbol.Binary
+abbrev pub operator_of : Operator → symbol.Binary
 operator_of Add = symbol.add
 operator_of Sub = symbol.sub
 operator_of Mul = symbol.mul

@@ -18,7 +18,7 @@ use crate::joins::Join;
 use crate::operators::{
     Both, Compare, Difference, Either, Not, OneOf, Product, Quotient, Rest, Sum,
 };
-use crate::ops::{Binary, Relation, Task, relation_of, task_of};
+use crate::ops::{Operator, Relation, Task, relation_of, task_of};
 use crate::pairs::Constant;
 use cell_core::{Cell, TextDict, TextId};
 use column_core::{
@@ -37,7 +37,7 @@ use std::alloc::Global;
 pub fn binary(
     alloc: Global,
     dict: &mut TextDict,
-    op: Binary,
+    op: Operator,
     a: ColRef<'_>,
     b: ColRef<'_>,
 ) -> Result<Column, ArrayFault>
@@ -52,7 +52,7 @@ pub fn binary(
         (column_value dict.old b.entry)) }
 {
     match op {
-        Binary::Add => sums(alloc, dict, a, b),
+        Operator::Add => sums(alloc, dict, a, b),
         _ => pure_binary(alloc, dict, op, a, b),
     }
 }
@@ -62,12 +62,12 @@ pub fn binary(
 pub fn pure_binary(
     alloc: Global,
     dict: &TextDict,
-    op: Binary,
+    op: Operator,
     a: ColRef<'_>,
     b: ColRef<'_>,
 ) -> Result<Column, ArrayFault>
     requires same { length a.cells ≡ length b.cells }
-    requires pure { op ≢ Binary.Add }
+    requires pure { op ≢ Operator.Add }
     ensures given { IfOk result (λ c. AreGiven dict.now c.cells) }
     ensures rows { IfOk result (λ c. length c.cells ≡ length a.entry.cells) }
     ensures answer { Answers dict.now result
@@ -160,7 +160,7 @@ fn truths(
 pub fn with_scalar(
     alloc: Global,
     dict: &mut TextDict,
-    op: Binary,
+    op: Operator,
     a: ColRef<'_>,
     scalar: Cell,
     scalar_left: bool,
@@ -175,7 +175,7 @@ pub fn with_scalar(
         (datum dict.old scalar) scalar_left) }
 {
     match op {
-        Binary::Add => sums_beside(alloc, dict, a, scalar, scalar_left),
+        Operator::Add => sums_beside(alloc, dict, a, scalar, scalar_left),
         _ => pure_with_scalar(alloc, dict, op, a, scalar, scalar_left),
     }
 }
@@ -185,12 +185,12 @@ pub fn with_scalar(
 pub fn pure_with_scalar(
     alloc: Global,
     dict: &TextDict,
-    op: Binary,
+    op: Operator,
     a: ColRef<'_>,
     scalar: Cell,
     scalar_left: bool,
 ) -> Result<Column, ArrayFault>
-    requires { op ≢ Binary.Add }
+    requires { op ≢ Operator.Add }
     ensures given { IfOk result (λ c. AreGiven dict.now c.cells) }
     ensures rows { IfOk result (λ c. length c.cells ≡ length a.entry.cells) }
     ensures answer { Answers dict.now result

@@ -12,7 +12,7 @@
 //! let mut price = Column::new(alloc, Kind::Int64);
 //! price.push(Cell::Int(7))?;
 //! price.push(Cell::Na)?;
-//! let twice = with_scalar(alloc, &mut dict, Binary::Mul, price.as_ref(), Cell::Int(2), false)?;
+//! let twice = with_scalar(alloc, &mut dict, Operator::Mul, price.as_ref(), Cell::Int(2), false)?;
 //! ```
 #![tactic(auto)]
 
@@ -30,4 +30,4 @@ mod pairs;
 pub use kernels::{binary, invert, pure_binary, pure_with_scalar, with_scalar};
 pub use membership::isin;
 pub use missing::{fillna, isna, notna};
-pub use ops::Binary;
+pub use ops::Operator;

@@ -4,7 +4,7 @@ ghost use Rattle.column_core.specs.Columns.{column_with};
 ghost use Rattle.column_core.specs.Lanes.{lane_row};
 
 use cell_core::NoMemory;
-use column_core::{Column, Lane, Nothing, RowOp, Source, Value, by_rows};
+use column_core::{Column, Element, Lane, Nothing, RowOp, Source, by_rows};
 use std::alloc::Global;
 
 /// An operation on one value that refuses no row.
@@ -16,7 +16,7 @@ pub(crate) trait TotalOp<X, U>: RowOp<X, (), U> {
 
 /// The column of what is made of each value of a lane.
 #[inline(always)]
-pub(crate) fn map_lane<X: Copy, U: Value, O: TotalOp<X, U>>(
+pub(crate) fn map_lane<X: Copy, U: Element, O: TotalOp<X, U>>(
     alloc: Global,
     op: &O,
     a: &Lane<'_, X>,
@@ -33,7 +33,7 @@ pub(crate) fn map_lane<X: Copy, U: Value, O: TotalOp<X, U>>(
 }
 
 #[inline(always)]
-fn map_rows<X, U: Value, O: TotalOp<X, U>, A: Source<X>>(
+fn map_rows<X, U: Element, O: TotalOp<X, U>, A: Source<X>>(
     alloc: Global,
     op: &O,
     a: &A,

@@ -9,7 +9,7 @@ ghost use Rattle.column_operators.specs.Marks.{missing_mark, filled_cell, mark_o
 use crate::maps::{TotalOp, map_lane};
 use cell_core::{Cell, NoMemory};
 use column_core::{
-    Borrowed, ColRef, Column, Lane, Nothing, RowOp, Value, number_in, text_in, truth_in,
+    Borrowed, ColRef, Column, Element, Lane, Nothing, RowOp, number_in, text_in, truth_in,
 };
 use nullable_array::{PairOp, Side, by_sides};
 use std::alloc::Global;
@@ -179,7 +179,11 @@ pub fn fillna(alloc: Global, a: ColRef<'_>, value: Cell) -> Result<Column, NoMem
     }
 }
 
-fn fill_lane<T: Value>(alloc: Global, a: &Lane<'_, T>, value: Option<T>) -> Result<Column, NoMemory>
+fn fill_lane<T: Element>(
+    alloc: Global,
+    a: &Lane<'_, T>,
+    value: Option<T>,
+) -> Result<Column, NoMemory>
     ensures { IfOk result (λ c. c ≡ column_with T.kind T.cell a.now.count
         (λ k. filled_value value
         (lane_row a.now.values.now a.now.present.now a.now.start a.now.stride a.now.back k))) }
@@ -192,7 +196,11 @@ fn fill_lane<T: Value>(alloc: Global, a: &Lane<'_, T>, value: Option<T>) -> Resu
 }
 
 // The same of values that lie side by side.
-fn fill_side<T: Value, A: Side<T>>(alloc: Global, fill: &Fill<T>, a: A) -> Result<Column, NoMemory>
+fn fill_side<T: Element, A: Side<T>>(
+    alloc: Global,
+    fill: &Fill<T>,
+    a: A,
+) -> Result<Column, NoMemory>
     ensures { IfOk result (λ c. c
         ≡ column_with T.kind T.cell (A.count_of a)
         (λ k. filled_value fill.now.value (A.row_of a k))) }

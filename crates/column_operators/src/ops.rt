@@ -6,7 +6,7 @@ ghost use Rattle.column_operators.specs.Tasks.{operator_of, task_kind, task_cell
 /// An operator on two operands. NA on either side gives NA, but for `And` and `Or` (pandas user guide, "Nullable
 /// Boolean data type", on Kleene's tables).
 #[derive(Clone, Copy, Debug, PartialEq, Eq)]
-pub enum Binary {
+pub enum Operator {
     /// `+`: the sum of whole numbers, which wraps at 64 bits; the one text and then the other.
     Add,
     /// `-`: the difference of whole numbers, which wraps at 64 bits.
@@ -60,26 +60,26 @@ pub(crate) enum Task {
 }
 
 /// What the operator does.
-pub(crate) fn task_of(op: Binary) -> Task
+pub(crate) fn task_of(op: Operator) -> Task
     ensures kind { operator_kind (operator_of op) ≡ task_kind result }
     ensures cell { operator_cell (operator_of op) ≡ task_cell result }
-    ensures sum { result ≡ Task.Sum → op ≡ Binary.Add }
+    ensures sum { result ≡ Task.Sum → op ≡ Operator.Add }
 {
     match op {
-        Binary::Add => Task::Sum,
-        Binary::Sub => Task::Difference,
-        Binary::Mul => Task::Product,
-        Binary::FloorDiv => Task::Quotient,
-        Binary::Mod => Task::Rest,
-        Binary::Eq => Task::Compare(relation_of(false, true, false)),
-        Binary::Ne => Task::Compare(relation_of(true, false, true)),
-        Binary::Lt => Task::Compare(relation_of(true, false, false)),
-        Binary::Le => Task::Compare(relation_of(true, true, false)),
-        Binary::Gt => Task::Compare(relation_of(false, false, true)),
-        Binary::Ge => Task::Compare(relation_of(false, true, true)),
-        Binary::And => Task::Both,
-        Binary::Or => Task::Either,
-        Binary::Xor => Task::OneOf,
+        Operator::Add => Task::Sum,
+        Operator::Sub => Task::Difference,
+        Operator::Mul => Task::Product,
+        Operator::FloorDiv => Task::Quotient,
+        Operator::Mod => Task::Rest,
+        Operator::Eq => Task::Compare(relation_of(false, true, false)),
+        Operator::Ne => Task::Compare(relation_of(true, false, true)),
+        Operator::Lt => Task::Compare(relation_of(true, false, false)),
+        Operator::Le => Task::Compare(relation_of(true, true, false)),
+        Operator::Gt => Task::Compare(relation_of(false, false, true)),
+        Operator::Ge => Task::Compare(relation_of(false, true, true)),
+        Operator::And => Task::Both,
+        Operator::Or => Task::Either,
+        Operator::Xor => Task::OneOf,
     }
 }
 

@@ -1,20 +1,14 @@
 -- Parts one below the other: their columns, and the table of them.
 use Rattle.{
+  form_parts.proofs.Common.{slice_get_within, get_or_from_slice_get, same_Some, length-map, length-append, length-replicate, map-append, take_more, All-tail, All-map, All-same, All-nil, All-replicate, list_all-map, nat_tests, map-map, suc, zero, ◌≡◌, ◌∙◌, ◌<◌, ◌≤◌, ◌+◌, ◌^◌, refl, ap, sym, ℕ, true, false, List, [], ◌∷◌, ◌++◌, map, take, length, replicate, unwrap_or, slice_index_or, All, Option, Some, None, Result, Ok, Err, nat_lt, if◌then◌else◌, arith, Bool, slice_get, option_map, list_all, flat_map, Makes, columns_value, headings_value, table_column, columns_of, table_with, HaveRows, IsKnownTable, columns_part, columns_given, columns_settled, table_settled, na_cell, CellValue, datum, LabelValue, Text, ColumnValue, wrong_kind, FaultValue, limit, Cell, Na, Kind, Label, Shape, Series, Frame, AreDistinct, AreGiven, IsGiven, CellColumn, CellBlock, most_rows, all_flat, same_kind, ColumnOf, NumberedTable, column_value, column_at, heading_value, table_value, Table, IsWhole, AreHeadings, IsSettled, Entry, kind_itself, missing_column, value_of_column, try_all, within_limits, common_name, blocks_value, AxisValue},
+  meaning.proofs.Common.{sum_by-cons},
   concat_forms.{proofs.{PartLaws.{Parts, Headings, none_common, column_under_seen, kind_under_seen, rows_count, levels_count}, PlaceLaws.{map_given, each_of, flat_seen}}, specs.{declared.{parts.{Sought.{Sought, TheVariants.{Only, Under}}, Naming.TheVariants.{Columns}}, asked.Asked.{Asked}}, Parts.{column_sought, parts_value, AreKnownParts, AreOf, name_at}, Columns.{kind_sought, fits_kind, kinds_meet, piece_from, piece_of, cells_or_missing, sought_by, stacked, columns_stacked, rows_in, all_kinds_meet}, Below.{columns_made, table_made}, Asked.{asked_value, keys_value, AreKeysFor}, Axes.{axis_seen, levels_for}}},
-  std.{proofs.{lemmas.{Option.{slice_get_within, get_or_from_slice_get, same_Some}, List.{length-map, length-append, length-replicate, map-append, take_more, Sums.{sum_by-cons}, Elements.{All-tail, All-map, All-same, All-nil, All-replicate}, Quantifiers.{position-Some}, Folds.{fold_stays, list_all-map}}, Bool.{and_right, Decides.{nat_tests}}, Simd.{map-map}}, Common.{suc, zero, ◌≡◌, ◌∙◌, ◌<◌, ◌≤◌, ◌+◌, ◌^◌, refl, ap, sym, ℕ, true, false, List, [], ◌∷◌, ◌++◌, map, take, length, replicate, unwrap_or, slice_index_or, All, Option, Some, None, Result, Ok, Err, nat_lt, if◌then◌else◌, arith, Bool}}, specs.{Prelude.{slice_get}, Option.{option_map}, List.{list_all, flat_map}}},
-  frame_store.{specs.{Shown.{Makes, columns_value, headings_value}, Parts.{table_column, columns_of, table_with, HaveRows}, World.{IsKnownTable}}, proofs.Settling.{columns_part, columns_given, columns_settled, table_settled}},
-  meaning.specs.{Cell.{na_cell, CellValue, datum, LabelValue}, Text.{Text}, Column.{ColumnValue}, Fault.{wrong_kind, FaultValue, limit}},
+  std.proofs.lemmas.{List.{Quantifiers.{position-Some}, Folds.{fold_stays}}, Bool.{and_right}},
   merge_concat.specs.{declared.parts.Part.{Part}, Parts.{part_column}},
-  cell_core.specs.{declared.{cell.{Cell.{Cell, TheVariants.{Na}}, Kind.{Kind}, Label.{Label}}, grid.Shape.{Shape, TheVariants.{Series, Frame}}}, Texts.{AreDistinct, AreGiven, IsGiven}},
-  column_core.specs.{Columns.{CellColumn, column_value as seen_column}, Blocks.{CellBlock}},
-  align_meaning.{specs.Joins.{most_rows}, proofs.OrderLaws.{all_flat}},
-  join_meaning.specs.Concat.{same_kind, column_below, rows_concatenated, ConcatRefusal},
-  table_meaning.{specs.{Table.{ColumnOf, NumberedTable, column_value, column_at, heading_value, table_value, Table}, Valid.{IsWhole, AreHeadings}, Settled.{IsSettled}, Value.{Entry}}, proofs.KindLaws.{kind_itself}},
-  form_meaning.specs.{Finish.{missing_column, value_of_column, try_all, within_limits}, Infix.{common_name}},
-  form_parts.specs.Makes.{blocks_value},
+  column_core.specs.Columns.{column_value as seen_column},
+  join_meaning.specs.Concat.{column_below, rows_concatenated, ConcatRefusal},
   method_meaning.specs.Concat.{columns_below, column_or_missing, frame_column_below, Concatenation, rows_below, table_below, finished_below, name_of_all},
   selections.proofs.HeadingLaws.{head_settled, rest_settled},
-  multi_index.specs.Axes.{AxisValue},
 }
 
 abbrev stacked_seen : List Text → Sought → Parts → ColumnValue

@@ -1,20 +1,13 @@
 -- Parts side by side.
 use Rattle.{
+  form_parts.proofs.Common.{IsSome, option_map, flat_map, range_with_len, list_all, pointwise, ◌++◌, slice_index_or, ◌≡◌, ◌<◌, ◌+◌, refl, ap, sym, arith, ℕ, pos, Bool, true, false, List, [], ◌∷◌, map, length, All, Option, Some, None, Result, Ok, Err, take, if◌then◌else◌, length-map, map-append, length-append, take_more, length-replicate, list_all-map, All-map, All-nil, All-cons, All-tail, All-same, AllPass-from_list_all, nat_tests, AxisValue, HaveLevels, nameless_axis, AreDistinct, AreGiven, Label, Cell, Na, Frame, Text, LabelValue, int, fault_of, limit, FaultValue, bad_value, levels, met_rows, most_rows, reindexed, All-append as all_append, IsSettled, NumberedTable, Table, tuple_value, ColumnOf, heading_value, table_value, IsWhole, table, Entry, finished, limited, unless_repeated, within_limits, same_tuple, on_rows, labels_value, headings_value, Refuses, Makes, IsSingle, HaveRows, columns_of, table_with, axis_of, IsKnownTable, OpFault, Refused, NoMemory, settled_by, labels_part, columns_part, columns_given, columns_settled, table_settled, tuple_by_number, tuples_settled, settled_tuples, on_rows_seen, on_rows_given, value_decides, blocks_value, CellBlock, IsPlaceOf},
+  meaning.proofs.Common.{pointwise_decides, inr, append-nil, flat_map-append},
   concat_forms.{proofs.{PartLaws.{Axes, HasLevels, AreAxesOf, each_tuples, all_named, all_levels, Parts, Headings, parts_settled, numbered_labels, labels_each, levels_as}, PlaceLaws.{united_all, flat_seen, each_of}}, specs.{declared.{asked.Asked.{Asked}, parts.Naming.TheVariants.{Columns}}, Asked.{asked_value}, Parts.{parts_value, AreKnownParts, name_at, have_same_levels}, Headings.{numbered}, Beside.{met_beside, AreBlocks, IsAxisFor}, Axes.{HasLevelsOf, levels_of, named_after, IsAlike}}},
   merge_concat.specs.Axes.{tuples_of_each},
-  std.{specs.{Prelude.{IsSome}, Option.{option_map}, List.{flat_map, range_with_len, list_all}, Cmp.Lexicographic.{pointwise, pointwise_decides}}, proofs.{Common.{◌++◌, slice_index_or, ◌≡◌, ◌<◌, ◌+◌, refl, ap, sym, arith, ℕ, pos, Bool, true, false, List, [], ◌∷◌, map, length, All, Option, Some, None, Result, Ok, Err, take, inr, if◌then◌else◌}, lemmas.{List.{length-map, map-append, append-nil, length-append, take_more, length-replicate, Folds.{list_all-map}, Elements.{All-map, All-nil, All-cons, All-tail, All-same}, Concat.{flat_map-append}, Sums.{AllPass-from_list_all}}, Bool.Decides.{nat_tests}}}},
-  multi_index.specs.Axes.{AxisValue, HaveLevels, nameless_axis},
-  cell_core.specs.{Texts.{AreDistinct, AreGiven}, declared.{cell.{Label.{Label}, Cell.{Cell, TheVariants.{Na}}}, code.Code.TheVariants.{RepeatedLabel}, grid.Shape.TheVariants.{Frame}}},
-  meaning.specs.{Text.{Text}, Cell.{LabelValue, int}, FaultOf.{fault_of}, Fault.{limit, FaultValue, bad_value, levels}},
-  align_meaning.{specs.{Faults.{met_rows}, Joins.{most_rows}, Targets.{reindexed}}, proofs.OrderLaws.{all_append}},
+  cell_core.specs.declared.code.Code.TheVariants.{RepeatedLabel},
   join_meaning.specs.Concat.{united, are_equal, repeated_on_any, labels_concatenated, unless_repeated as unless_label, ConcatRefusal, first_axis},
-  table_meaning.specs.{Settled.{IsSettled}, Table.{NumberedTable, Table, tuple_value, ColumnOf, heading_value, table_value}, Valid.{IsWhole}, Value.{table, Entry}},
-  form_meaning.specs.{Finish.{finished, limited, unless_repeated, within_limits}, Infix.{same_tuple, on_rows}},
   method_meaning.specs.Concat.{Concatenation, rows_met, labels_of_tables, table_beside, unless_label_twice, headings_beside, numbered_from, name_of_all, columns_beside, level_names_of_all},
-  frame_store.{specs.{Shown.{labels_value, headings_value, Refuses, Makes}, Parts.{IsSingle, HaveRows, columns_of, table_with, axis_of}, World.{IsKnownTable}, declared.fault.OpFault.{OpFault, TheVariants.{Refused, NoMemory}}}, proofs.Settling.{settled_by, labels_part, columns_part, columns_given, columns_settled, table_settled}},
-  form_parts.{proofs.{RowLaws.{tuple_by_number, tuples_settled, settled_tuples}, GapLaws.{on_rows_seen, on_rows_given}, LabelLaws.{value_decides}}, specs.Makes.{blocks_value}},
   selections.{proofs.{HeadingLaws.{repeated_seen, different}, RefusalLaws.{repeated_settled}}, specs.Headings.{NamesRepeated, repeated_heading}},
-  column_core.specs.{Blocks.{CellBlock}, Moves.{IsPlaceOf}},
   label_align.proofs.SameLaws.{tuples_decide},
 }
 use Rattle.meaning.specs.Fault as fault

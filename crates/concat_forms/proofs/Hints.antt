@@ -1,7 +1,7 @@
 -- Laws that the goals of functions want, by the name of the first that does.
 use Rattle.{
+  form_parts.proofs.Common.{list_all-map, err_from_is_err_and},
   concat_forms.proofs.{PartLaws.{numbered_axis, range_rows, axes_alike, axis_of_parts, levels_as, united_given, headings_united, numbered_labels}, BelowLaws.{none_of_parts, beyond_of_parts, many_rows, levels_of_parts}, BesideLaws.{beside_equal, beside_met, met_given, met_found, met_many, headings_refused, beyond_axis, beyond_limits}},
-  std.proofs.lemmas.{List.Folds.{list_all-map}, Result.{err_from_is_err_and}},
 }
 
 pub ruleset axis_of_all = (numbered_axis, range_rows, axes_alike, axis_of_parts)

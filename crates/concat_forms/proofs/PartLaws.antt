@@ -1,18 +1,15 @@
 -- Parts: their headings, columns, names and rows, by numbers as with their texts, and the objects of a list as parts.
 use Rattle.{
-  std.{proofs.{Common.{sym, ◌≡◌, ◌<◌, ◌+◌, refl, ℕ, suc, Bool, true, false, List, [], ◌∷◌, length, take, slice_index_or, Option, None, arith, ◌++◌, ◌∙◌, ap, not, map, All, ◌-◌, subst, zero, fold, drop, slice_set, nat_eq, Some, replicate, Result, if◌then◌else◌}, lemmas.{List.{take_more, get_or-take, length-take-le, length-map, map-append, append_assoc, take_more_set, drop_more, length-append, length-replicate, Folds.{list_any_none, list_all-map, flat_map-map, fold-map}, Elements.{All-from_get_or, All-map, filter_passes, All-tail, filter_agree, All-push, All-same}, Kept.{AllPairs-filter, AllPairs-cons}, FromFn.{map-range_with_len_more, length-range_with_len}, Sums.{AllPass-from_list_all}, Concat.{length-flat_map}}, Simd.{map-map}, Bool.Decides.{nat_tests}}, Math.Seq.{drop-cons}}, specs.{Prelude.{◌≢◌, AllPairs, position, IsSome, IfSome, IfOk}, List.{list_all, list_any, position_or_len, range_with_len, flat_map}, Option.{option_map}, Borrow.{Bor}, Global.{Vec}}},
+  form_parts.proofs.Common.{sym, ◌≡◌, ◌<◌, ◌+◌, refl, ℕ, suc, Bool, true, false, List, [], ◌∷◌, length, take, slice_index_or, Option, None, arith, ◌++◌, ◌∙◌, ap, not, map, All, ◌-◌, subst, zero, fold, drop, slice_set, nat_eq, Some, replicate, Result, if◌then◌else◌, take_more, length-map, map-append, take_more_set, drop_more, length-append, length-replicate, list_any_none, list_all-map, All-map, All-tail, All-push, All-same, map-range_with_len_more, length-range_with_len, AllPass-from_list_all, map-map, nat_tests, drop-cons, ◌≢◌, AllPairs, IsSome, IfSome, IfOk, list_all, list_any, position_or_len, range_with_len, flat_map, option_map, Bor, Label, Frame, AreDistinct, tuple_value, column_at, NumberedTable, column_value, heading_value, table_value, Table, IsSettled, AreHeadings, IsWhole, object_in, GivenList, headings_value, labels_value, IsKnownTable, item_of, items_of, AreLiveItems, IsLiveItem, Tables, Item, ObjId, axis_of, headings_part, columns_name_part, level_names_part, object_settled, Text, distinct, LabelValue, label_datum, common_name, HaveLevels, AxisValue, range_axis, nameless_axis, default_seen},
+  meaning.proofs.Common.{get_or-take, length-take-le, flat_map-map, fold-map, filter_passes, AllPairs-filter, AllPairs-cons, length-flat_map, position, Vec},
+  std.proofs.lemmas.List.{append_assoc, Elements.{All-from_get_or, filter_agree}},
   selections.proofs.{PlaceLaws.{heading_settled, heading_seen}, HeadingLaws.{heading_decides, same_seen, head_settled, rest_settled}, AnswerLaws.{column_seen}, PickedLaws.{list_is}},
   indexmap.specs.IndexSet.{insert_key},
-  cell_core.specs.{declared.{cell.Label.{Label}, grid.Shape.TheVariants.{Frame}, memory.NoMemory.{NoMemory}}, Texts.{AreDistinct}},
+  cell_core.specs.declared.memory.NoMemory.{NoMemory},
   concat_forms.{specs.{Parts.{same_heading, column_sought, parts_value, headings_of_each, AreKnownParts, name_at, have_same_levels, AreOf, AreSettledParts}, declared.parts.{Sought.{Sought, TheVariants.{Under}}, Naming.{Naming, TheVariants.{Columns, Level, Series}}}, Columns.{kind_sought, rows_in}, Axes.{names_of_levels, axis_seen, levels_with, levels_of, named_after}, Headings.{common_headings}, Asked.{keys_value, KeysFit}}, proofs.PlaceLaws.{map_given, united_seen, united_all, flat_seen, each_of}},
   method_meaning.specs.Concat.{labels_of_tables, column_under, kind_under, kept_names, level_names_of_all, name_of_all, tables_from, tables_of, rows_below},
-  table_meaning.specs.{Table.{tuple_value, column_at, NumberedTable, column_value, heading_value, table_value, Table}, Settled.{IsSettled}, Valid.{AreHeadings, IsWhole}, Value.{object_in, GivenList}},
-  frame_store.{specs.{Shown.{headings_value, labels_value}, World.{IsKnownTable}, Arguments.{item_of, items_of, AreLiveItems, IsLiveItem, IsLiveObject}, Objects.{Tables}, declared.{arguments.Item.{Item}, object.ObjId.{ObjId}}, Parts.{axis_of}}, proofs.Settling.{headings_part, columns_name_part, level_names_part, object_settled}},
-  meaning.specs.{Text.{Text}, Reduce.{distinct}, Cell.{LabelValue, label_datum}},
+  frame_store.specs.Arguments.{IsLiveObject},
   join_meaning.specs.Concat.{united, labels_under},
-  form_meaning.specs.Infix.{common_name},
-  multi_index.specs.Axes.{HaveLevels, AxisValue, range_axis, nameless_axis},
-  form_parts.proofs.LabelLaws.{default_seen},
   merge_concat.specs.Axes.{HaveLevelsOfFirst, levels_of_first, tuples_below, levels_below},
 }
 use Rattle.form_meaning.specs.Finish as finish

@@ -1,14 +1,9 @@
 -- Lists that grow, parts of lists, and lists of labels that are put together alike where they are seen otherwise, as with their texts.
 use Rattle.{
-  std.{proofs.{Common.{subst, All, ◌≡◌, ◌<◌, ◌+◌, ◌-◌, arith, ℕ, List, [], ◌∷◌, ◌++◌, map, length, take, drop, slice_index_or, Option, refl, Bool, true, false, ◌&&◌, Some, nat_lt}, lemmas.List.{length-map, take_all, map-append, append_assoc, take_more, Elements.{All-nil, All-head, All-tail, All-filter}}, Math.ListN.{get_or-map}}, specs.{List.{list_all, list_any, flat_map}, Option.{option_map}}},
-  cell_core.specs.declared.cell.Cell.{Cell, TheVariants.{Na}},
-  column_core.specs.Blocks.{CellBlock},
-  meaning.specs.Column.{taken},
-  table_meaning.specs.Table.{ColumnOf, no_column},
-  form_meaning.specs.Infix.{on_rows},
-  frame_store.specs.Parts.{columns_of, block_column},
+  form_parts.proofs.Common.{subst, All, ◌≡◌, ◌<◌, ◌+◌, ◌-◌, arith, ℕ, List, [], ◌∷◌, ◌++◌, map, length, take, drop, slice_index_or, Option, refl, Bool, true, false, ◌&&◌, Some, nat_lt, length-map, take_all, map-append, take_more, All-nil, All-head, All-tail, All-filter, get_or-map, list_all, list_any, flat_map, option_map, Cell, Na, CellBlock, taken, ColumnOf, no_column, on_rows, columns_of, block_column, first_where, first_repeated, all_flat, all_distinct, first_map, distinct_map},
+  std.proofs.lemmas.List.{append_assoc},
   pick_meaning.proofs.{RowLaws.{rows_where-map}, SeenLaws.{pointwise-map}},
-  align_meaning.{specs.Targets.{first_where, first_repeated}, proofs.{OrderLaws.{all_flat, all_distinct}, SeenLaws.{first_map, filter_map, distinct_map}}},
+  align_meaning.proofs.SeenLaws.{filter_map},
   join_meaning.specs.Concat.{united, are_equal, repeated_on_any},
 }
 pub use Rattle.multi_index.proofs.LevelLaws.{maps_alike as map_given}

@@ -4,8 +4,8 @@ ghost use Rattle.std.specs.Option.{option_map};
 ghost use Rattle.meaning.specs.Text.{Text};
 ghost use Rattle.table_meaning.specs.Settled.{IsSettled};
 ghost use Rattle.table_meaning.specs.Value.{list_in};
-ghost use Rattle.form_meaning.specs.declared.Form.TheVariants as form;
-ghost use Rattle.form_meaning.specs.Binding.{truth_in};
+ghost use Rattle.call_meaning.specs.declared.Accepted.TheVariants as accepted;
+ghost use Rattle.call_meaning.specs.Binding.{truth_in};
 ghost use Rattle.form_meaning.specs.Select.{labels_of};
 ghost use Rattle.method_meaning.specs.Concat as meant;
 ghost use Rattle.method_meaning.specs.Functions.{function_result};
@@ -13,7 +13,7 @@ ghost use Rattle.frame_store.specs.Arguments.{items_of};
 ghost use Rattle.frame_store.specs.Objects.{Tables, tables};
 ghost use Rattle.frame_store.specs.Shown.{Makes};
 ghost use Rattle.frame_store.specs.World.{world, arguments_in, IsSettledWorld, AreKnownArguments, Forms};
-ghost use Rattle.signatures.specs.Bound.{stands_at, form_at};
+ghost use Rattle.signatures.specs.Bound.{stands_at, accepted_at};
 ghost use Rattle.concat_forms.specs.Parts.{parts_value, AreKnownParts};
 ghost use Rattle.concat_forms.specs.Asked.{asked_value, keys_value};
 
@@ -22,8 +22,8 @@ use crate::below::below;
 use crate::beside::beside;
 use crate::gathering::{labels_of, parts_of};
 use crate::parts::Part;
+use call_meaning::Function;
 use cell_core::{Code, Label, NoMemory, Reason, TextDict};
-use form_meaning::Function;
 use form_parts::placed;
 use frame_store::{Item, Named, NamedList, OpFault, Store, Table, Value};
 use signatures::{Bound, bind, function_named, function_parameters};
@@ -42,7 +42,7 @@ fn keys_in(alloc: Global, items: Option<&[Item]>) -> Result<Option<Vec<Label>>, 
 
 // Whether the axis of a call is 1.
 fn is_across(bound: &Bound<'_>) -> bool
-    requires { form_at bound.now 1 ≡ Some form.Whole }
+    requires { accepted_at bound.now 1 ≡ Some accepted.Whole }
     ensures { (live : Tables) (texts : List Text)
         → result ≡ meant.is_across (stands_at live texts bound.now 1) }
 {
@@ -51,8 +51,8 @@ fn is_across(bound: &Bound<'_>) -> bool
 
 // What a call asks for besides the axis.
 fn asked_by(alloc: Global, dict: &TextDict, bound: &Bound<'_>) -> Result<Asked, NoMemory>
-    requires join { form_at bound.now 2 ≡ Some form.Text }
-    requires numbers { form_at bound.now 3 ≡ Some form.Truth }
+    requires join { accepted_at bound.now 2 ≡ Some accepted.Text }
+    requires numbers { accepted_at bound.now 3 ≡ Some accepted.Truth }
     ensures inner { (live : Tables)
         → IfOk result (λ a. a.inner ≡ meant.is_inner (stands_at live dict.now bound.now 2)) }
     ensures renumbered { (live : Tables) (texts : List Text)

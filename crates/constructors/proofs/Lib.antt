@@ -1,10 +1,4 @@
-pub mod ScalarLaws
-pub mod IndexLaws
-pub mod MadeLaws
 pub mod AxisLaws
-pub mod GivenLaws
-pub mod PairLaws
-pub mod ColumnLaws
 pub mod RowLaws
 pub mod FrameLaws
 pub mod Hints

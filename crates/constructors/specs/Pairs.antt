@@ -7,7 +7,7 @@ use Rattle.meaning.specs.Fault.{FaultValue}
 use Rattle.table_meaning.specs.Settled.{IsSettled}
 use Rattle.table_meaning.specs.Table.{ColumnOf}
 use Rattle.table_meaning.specs.Value.{Given, GivenList, nothing, list_in}
-use Rattle.form_meaning.specs.Binding.{each, is_scalar}
+use Rattle.call_meaning.specs.Binding.{each, is_scalar}
 use Rattle.form_meaning.specs.Select.{cells_of}
 use Rattle.form_meaning.specs.Set.{list_column}
 use Rattle.form_meaning.specs.Make.{on}

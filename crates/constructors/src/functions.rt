@@ -1,14 +1,14 @@
 // The functions of `pd` that make tables.
 ghost use Rattle.std.specs.Prelude.{◌≡◌, is_some};
 ghost use Rattle.meaning.specs.Cell.{IsLonger};
-ghost use Rattle.form_meaning.specs.Signature as signature;
-ghost use Rattle.form_meaning.specs.Functions as functions;
+ghost use Rattle.call_meaning.specs.Signature as signature;
+ghost use Rattle.call_meaning.specs.Functions as functions;
 ghost use Rattle.frame_store.specs.Shown.{Makes};
 ghost use Rattle.frame_store.specs.World.{world, arguments_in, IsSettledWorld, AreKnownArguments, Forms};
 
 use crate::given::{made_frame, made_series};
+use call_meaning::Function;
 use cell_core::{Code, TextDict, Words};
-use form_meaning::Function;
 use form_parts::placed;
 use frame_store::{Named, NamedList, OpFault, Store, Table, Value};
 use signatures::function_named;

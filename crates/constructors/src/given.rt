@@ -1,14 +1,14 @@
 // What a constructor makes of its arguments.
 ghost use Rattle.meaning.specs.Cell.{IsLonger};
-ghost use Rattle.form_meaning.specs.declared.Function.TheVariants as function_of;
-ghost use Rattle.form_meaning.specs.Functions as functions;
+ghost use Rattle.call_meaning.specs.declared.Function.TheVariants as function_of;
+ghost use Rattle.call_meaning.specs.Functions as functions;
 ghost use Rattle.frame_store.specs.Shown.{Makes};
 ghost use Rattle.frame_store.specs.World.{world, arguments_in, AreKnownArguments};
 
 use crate::frames::frame_of;
 use crate::series::series_of;
+use call_meaning::Function;
 use cell_core::TextDict;
-use form_meaning::Function;
 use form_parts::name_of;
 use frame_store::{Named, OpFault, Store, Table};
 use signatures::{bind, function_parameters};

@@ -3,7 +3,7 @@
 //! [`make`] calls a function by its name. The arguments are bound to the function's signature (the
 //! crate `signatures`), and what is made is given an object. Its contract says that the answer is the
 //! one that is meant, or its first fault, and that no other object changes; the definitions are
-//! `specs/Functions.antt` and `specs/Make.antt` of the crate `form_meaning`. [`function_exists`] says
+//! `specs/Functions.antt` of the crate `call_meaning` and `specs/Make.antt` of `form_meaning`. [`function_exists`] says
 //! whether `pd` has a function of a name.
 //!
 //! A column is made of the scalars of a list (`scalars`). The labels of the rows are the scalars or the

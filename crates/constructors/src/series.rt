@@ -1,5 +1,5 @@
 // What `pd.Series` makes.
-ghost use Rattle.std.specs.Prelude.{◌≡◌, length, Some, IfOk};
+ghost use Rattle.std.specs.Prelude.{Some, IfOk};
 ghost use Rattle.meaning.specs.Cell.{AreGiven, IsLonger};
 ghost use Rattle.table_meaning.specs.Settled.{IsSettled};
 ghost use Rattle.table_meaning.specs.Table.{heading_value};
@@ -7,17 +7,16 @@ ghost use Rattle.form_meaning.specs.Make as make;
 ghost use Rattle.form_parts.specs.Makes.{MakesBy};
 ghost use Rattle.frame_store.specs.Shown.{Makes};
 ghost use Rattle.signatures.specs.Scalars.{scalars};
-ghost use Rattle.constructors.specs.Scalars.{column_seen, made_series};
+ghost use Rattle.constructors.specs.Scalars.{column_seen};
 ghost use Rattle.constructors.specs.Index.{index_given, GivesLevels};
 ghost use Rattle.constructors.specs.Made as meant;
 
 use crate::axes::index_axis;
 use crate::scalars::list_column;
-use cell_core::{Kind, Label, NoMemory, Shape, TextDict};
+use cell_core::{Kind, Label, TextDict};
 use column_core::Column;
-use form_parts::column_of;
-use frame_store::{Blocks, Headings, Item, OpFault, Table};
-use multi_index::Axis;
+use form_parts::{column_of, series_table};
+use frame_store::{Item, OpFault, Table};
 use nullable_array::cast;
 use std::alloc::Global;
 
@@ -55,23 +54,6 @@ fn cast_to(
         None => Ok(column),
         Some(kind) => cast_column(alloc, dict, &column, kind),
     }
-}
-
-// The Series of a column, under an axis and a name if it has one.
-fn series_table(
-    alloc: Global,
-    axis: Axis,
-    name: Option<Label>,
-    column: Column,
-) -> Result<Table, NoMemory>
-    requires { length column.cells ≡ length axis.tuples }
-    ensures { IfOk result (λ made. made ≡ made_series axis name column) }
-{
-    let mut headings = Headings::new(alloc, None);
-    headings.push(name)?;
-    let mut blocks = Blocks::new(alloc);
-    blocks.push(column.into_block())?;
-    Ok(Table::new(Shape::Series, axis, headings, blocks))
 }
 
 // The Series of the scalars.

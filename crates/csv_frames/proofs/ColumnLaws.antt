@@ -1,7 +1,6 @@
 -- Laws of the columns that all records have.
 use Rattle.{
-  std.{proofs.{Common.{◌≡◌, ◌+◌, ◌<◌, ℕ, suc, refl, true, false, List, [], ◌∷◌, length, map, get_or, Option, Some, None, unwrap_or, arith}, lemmas.List.{length-map, get_or-map}}, specs.List.{list_all, list_any}},
-  meaning.specs.{Text.{Text}, Cell.{Kind, Int64}},
+  meaning.proofs.Common.{◌≡◌, ◌+◌, ◌<◌, ℕ, suc, refl, true, false, List, [], ◌∷◌, length, map, get_or, Option, Some, None, unwrap_or, arith, length-map, get_or-map, list_all, list_any, Text, Kind, Int64},
   column_core.specs.Columns.{CellColumn},
   table_meaning.specs.{Settled.{IsSettled}, Valid.{within_limits}},
   csv_meaning.specs.CsvRead.{is_missing, kind_of_fields, cell_of_field, column_of_fields, columns_from},
@@ -31,23 +30,17 @@ never_mixed = grind arith
 
 -- columns from a place on
 abbrev EachGrown : List Text → List (List Text) → ℕ → List (Option Kind) → List Growing → Type 0
-EachGrown texts rows start kinds columns = (k : ℕ) → k < length kinds → Grown texts (get_or kinds k None) (column_fields (start + k) rows) (get_or columns k growing.Missing)
+EachGrown texts rows start kinds columns = (k place : ℕ) → k < length kinds → place ≡ start + k → Grown texts (get_or kinds k None) (column_fields place rows) (get_or columns k growing.Missing)
 
 module _ (texts : List Text) (rows : List (List Text)) where
-  first_grown : (start : ℕ) (named : Option Kind) (kinds : List (Option Kind)) (g : Growing) (columns : List Growing) → EachGrown texts rows start (named ∷ kinds) (g ∷ columns) → Grown texts named (column_fields start rows) g
-  first_grown = grind arith
-
-  others_grown : (start : ℕ) (named : Option Kind) (kinds : List (Option Kind)) (g : Growing) (columns : List Growing) → EachGrown texts rows start (named ∷ kinds) (g ∷ columns) → EachGrown texts rows (suc start) kinds columns
-  others_grown start _ kinds g columns each = λ k lt. let same : start + suc k ≡ suc start + k = omega arith in rw same at (each (suc k) (omega arith))
-
   -- the columns are those that are meant, and settled, and the same with each kind named
   all_columns : (start count : ℕ) → count ≡ length rows → (kinds : List (Option Kind)) (columns : List Growing) → length columns ≡ length kinds → EachGrown texts rows start kinds columns
       → (list_any is_mixed columns ≡ false → columns_seen texts (map (column_so_far count) columns) ≡ columns_from start kinds rows) × IsSettled columns_seen texts (map (column_so_far count) columns)
       × (columns_from start (map (λ g. Some (kind_so_far g)) columns) rows ≡ columns_from start kinds rows)
   all_columns start count size (k ∷ ks) (g ∷ gs) same each =
       let long : count ≡ length (column_fields start rows) = search length-map in
-      let first = first_grown _ k ks g gs each in
-      let rest = all_columns (suc start) count size ks gs (omega arith) (others_grown _ k ks g gs each) in (
+      let first = each 0 start (omega arith) (omega arith) in
+      let rest = all_columns (suc start) count size ks gs (omega arith) (λ n place lt is. each (suc n) place (omega arith) (omega arith)) in (
         λ kept. grind (arith, column_right texts k (column_fields start rows) g first, rest.0),
         λ further. grind (arith, column_settled texts k (column_fields start rows) g first further, rest.1 further),
         grind (arith, kind_right texts k (column_fields start rows) g first, rest.2),

@@ -1,8 +1,7 @@
 -- Laws of the fields of a record.
 use Rattle.{
-  std.proofs.Common.{◌≡◌, ℕ, zero, suc, refl, List, [], ◌∷◌, unwrap_or},
+  meaning.proofs.Common.{◌≡◌, ℕ, zero, suc, refl, List, [], ◌∷◌, unwrap_or, Text},
   csv.specs.Records.{field_at},
-  meaning.specs.Text.{Text},
   csv_meaning.specs.CsvRead.{field_in},
 }
 

@@ -1,12 +1,10 @@
 -- Laws of columns that grow field by field.
 use Rattle.{
-  std.{proofs.{Common.{rules, arith, ◌≡◌, ◌∙◌, ℕ, zero, suc, refl, ap, sym, Bool, true, false, List, [], ◌∷◌, ◌++◌, length, map, replicate, Option, None, unwrap_or}, lemmas.List.{map-append}}, specs.{Prelude.{OnOk, Result, Ok, Err}, List.{list_all}}},
-  cell_core.specs.{Texts.{IsLonger}, declared.cell.{Cell.{Cell}, TextId.{TextId}}},
-  meaning.specs.{Text.{Text}, Cell.{datum, na_cell, Kind, Int64, string}},
+  meaning.{proofs.Common.{rules, arith, ◌≡◌, ◌∙◌, ℕ, zero, suc, refl, ap, sym, Bool, true, false, List, [], ◌∷◌, ◌++◌, length, map, replicate, Option, None, unwrap_or, map-append, list_all-append, OnOk, Result, Ok, Err, IsLonger, Cell, TextId, Text, datum, na_cell, Kind, Int64}, specs.Cell.{string}},
   column_core.{specs.{Columns.{CellColumn, number_cell, text_cell, column_with}, Lanes.{option_at}, declared.lanes.Owned.{Owned}}, proofs.CellRows.{pushed_column}},
   table_meaning.specs.Settled.{IsSettled},
   csv_meaning.specs.CsvRead.{is_missing, is_of_kind, kind_of_fields, cell_of_field},
-  csv_frames.{specs.{Views.{column_seen, cells_seen}, Growing.{IsGrownBy, IsFirst, IsPut, IsTextPut, Grown, number_in}, declared.growing.Growing.{Growing}}, proofs.{SettledLaws.{settled_more, seen_later}, KindsLaws.{all_na, value_pushed, value_stays, kind_first, kind_stays, kind_mixed}}},
+  csv_frames.{specs.{Views.{column_seen, cells_seen}, Growing.{IsGrownBy, IsFirst, IsPut, IsTextPut, Grown, number_in}, declared.growing.Growing.{Growing}}, proofs.{SettledLaws.{settled_more, seen_later}, KindsLaws.{all_na, kind_first, kind_mixed}}},
 }
 use Rattle.cell_core.specs.declared.cell.Cell.TheVariants as cell
 use Rattle.csv_frames.specs.declared.growing.Growing.TheVariants as growing
@@ -45,33 +43,25 @@ module _ (old new : List Text) (fields : List Text) (field : Text) where
   -- a column whose kind stays
   pub cells_grown : (named : Option Kind) (before after : CellColumn) → IsGrownBy old new field before after → Grown old named fields (growing.Cells before)
       → unwrap_or named (kind_of_fields (fields ++ field ∷ [])) ≡ unwrap_or named (kind_of_fields fields) → Grown new named (fields ++ field ∷ []) (growing.Cells after)
-  cells_grown _ _ _ by grown same = grind (arith, by grown.0, map-append, value_stays)
+  cells_grown _ _ _ by grown same = grind (arith, by grown.0, map-append, list_all-append)
 
-  -- the first value
-  pub first_grown : (rows : ℕ) (column : CellColumn) → length fields ≡ rows → list_all is_missing fields ≡ true → is_missing field ≡ false → IsFirst new rows field column → Grown new None (fields ++ field ∷ []) (growing.Cells column)
-  first_grown = grind (arith, kind_first, all_na, map-append, value_pushed)
-
-  -- the same, of a column for which no kind is named
+  -- the first value of a column for which no kind is named
   pub missing_grown : (named : Option Kind) (g : Growing) (rows : ℕ) (column : CellColumn) → g ≡ growing.Missing → is_missing field ≡ false → IsFirst new rows field column → length fields ≡ rows → Grown old named fields g
       → Grown new named (fields ++ field ∷ []) (growing.Cells column)
-  missing_grown = grind (arith, first_grown)
+  missing_grown = grind (arith, kind_first, all_na, map-append, list_all-append)
 
   module _ (named : Option Kind) (g : Growing) (before : CellColumn) (fits : Bool) (is : g ≡ growing.Cells before) (test : fits ≡ is_of_kind before.kind field) (grown : Grown old named fields g) where
-    was_cells : Grown old named fields (growing.Cells before)
-    was_cells = grind arith
-
-    kind_is : before.kind ≡ unwrap_or named (kind_of_fields fields)
-    kind_is = grind arith
-
     -- numbers or truth values, and then a field of another kind
     pub mixed_grown : fits ≡ false → named ≡ None → (named ≡ None) × (kind_of_fields (fields ++ field ∷ []) ≡ string)
     mixed_grown = grind (arith, kind_mixed)
 
     same_kind : (k : Option Kind) → before.kind ≡ unwrap_or k (kind_of_fields fields) → (k ≡ None → fits ≡ true) → unwrap_or k (kind_of_fields (fields ++ field ∷ [])) ≡ unwrap_or k (kind_of_fields fields)
-    same_kind = grind (arith, kind_stays)
+    same_kind = grind (arith, list_all-append)
 
     pub kept_grown : (after : CellColumn) → (named ≡ None → fits ≡ true) → IsGrownBy old new field before after → Grown new named (fields ++ field ∷ []) (growing.Cells after)
-    kept_grown = search (cells_grown, was_cells, same_kind, kind_is)
+    kept_grown after fit by =
+        let was : Grown old named fields (growing.Cells before) = rw is at grown in
+        cells_grown named before after by was (same_kind named (grind arith) fit)
 
 pub na_seen : (texts : List Text) (rows : ℕ) → map (datum texts) (replicate rows cell.Na) ≡ replicate rows na_cell
 na_seen _ zero = refl

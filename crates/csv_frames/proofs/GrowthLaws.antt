@@ -1,8 +1,7 @@
 -- Laws of columns that grow record by record.
 use Rattle.{
-  std.proofs.{Common.{append_assoc, ◌≡◌, ◌∙◌, ◌+◌, ◌<◌, ◌≤◌, ℕ, List, [], ◌∷◌, ◌++◌, length, get_or, set, Option, None, arith, inl, inr}, lemmas.{Bool.{cases_order}, List.{map-append, length-append, length-set, get_or-set_other}, Grind.{get_or-set_at}}},
-  cell_core.specs.Texts.{IsLonger},
-  meaning.specs.{Text.{Text}, Cell.{Kind}},
+  meaning.proofs.Common.{append_assoc, ◌≡◌, ◌∙◌, ◌+◌, ◌<◌, ◌≤◌, ℕ, List, [], ◌∷◌, ◌++◌, length, get_or, set, Option, None, arith, map-append, length-set, get_or-set_other, IsLonger, Text, Kind},
+  std.proofs.lemmas.{Bool.{cases_order}, List.{length-append}, Grind.{get_or-set_at}},
   csv_meaning.specs.CsvRead.{field_in, first_long},
   csv_frames.{specs.{Views.{column_fields, column_seen}, Growing.{Grown}, declared.growing.Growing.{Growing}}, proofs.SettledLaws.{settled_later, seen_later}},
 }
@@ -27,19 +26,9 @@ module _ (kinds : List (Option Kind)) (before : List (List Text)) (row : List Te
       → ArePushed old kinds before row place columns → ArePushed new kinds before row (place + 1) (set columns place g)
   push_one old new columns place g longer lt put pushed = record {
     count = search length-set;
-    done = λ k below. elim (cases_order k place) [
-      | inl same ↦ rw same here
-      | inr (inl less) ↦ moved k (λ e. absurd (omega arith)) (column_fields k (before ++ row ∷ [])) (pushed.done k less)
-      | inr (inr more) ↦ grind arith
-    ];
-    left = λ k above within. moved k (λ e. absurd (omega arith)) (column_fields k before) (grind arith);
+    done = λ k below. grind (arith, cases_order k place, get_or-set_other, get_or-set_at, grown_later, map-append, pushed.done k);
+    left = λ k above within. grind (arith, get_or-set_other, grown_later, pushed.left k);
   }
-    where
-      here : Grown new (get_or kinds place None) (column_fields place (before ++ row ∷ [])) (get_or (set columns place g) place growing.Missing)
-      here = grind (arith, map-append, get_or-set_at)
-
-      moved : (k : ℕ) → (k ≡ place → ⊥) → (fields : List Text) → Grown old (get_or kinds k None) fields (get_or columns k growing.Missing) → Grown new (get_or kinds k None) fields (get_or (set columns place g) k growing.Missing)
-      moved = search (get_or-set_other, grown_later)
 
 module _ (width : ℕ) (file before rows rest : List (List Text)) (row : List Text) (next : rows ≡ row ∷ rest) where
   -- the records so far and those after them

@@ -1,9 +1,7 @@
 -- Laws of kinds that are named for labels.
 use Rattle.{
-  std.{proofs.{Common.{rules, arith, ◌≡◌, ◌+◌, ◌<◌, ℕ, refl, List, [], ◌∷◌, length, drop, get_or, slice_get, Option, Some, true, if◌then◌else◌, string_bytes}, lemmas.{List.{drop_more}, Option.{slice_get-get_or}}}, specs.{declared.string.String.{String}, String.{string_eq}, Map.{lookup}}},
+  meaning.proofs.Common.{rules, arith, ◌≡◌, ◌+◌, ◌<◌, ℕ, refl, List, [], ◌∷◌, length, drop, slice_get, Option, Some, true, if◌then◌else◌, string_bytes, drop_more, slice_get-get_or, String, string_eq, lookup, Kind, Text, same_text, text_of},
   indexmap.specs.IndexMap.{insert_entry},
-  cell_core.specs.declared.cell.Kind.{Kind},
-  meaning.specs.{Text.{Text, same_text}, Cell.{text_of}},
   csv_meaning.specs.CsvRead.{kind_listed},
   csv_frames.specs.{Views.{entries_seen, kinds_seen, kind_at}, declared.table.NamedKind.{NamedKind}},
 }
@@ -29,6 +27,4 @@ pub kind_step : {Y : Type 0} (texts : List Text) (kinds : List NamedKind) (k : �
     → k < length kinds → slice_get kinds k ≡ Some entry → string_bytes key ≡ text_of texts entry.label → es' ≡ insert_entry string_eq es key entry.kind
     → kind_listed (kind_at (kinds_seen es) label) (entries_seen texts (drop k kinds)) label ≡ whole
     → kind_listed (kind_at (kinds_seen es') label) (entries_seen texts (drop (k + 1) kinds)) label ≡ whole
-kind_step _ kinds k entry _ _ _ _ _ lt is named put before =
-    let at : get_or kinds k entry ≡ entry = cc (slice_get-get_or kinds k entry lt) in
-    grind (arith, kind_put, drop_more)
+kind_step _ kinds k entry _ _ _ _ _ lt is named put before = grind (arith, slice_get-get_or kinds k entry lt, kind_put, drop_more)

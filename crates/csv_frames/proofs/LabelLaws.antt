@@ -1,9 +1,7 @@
 -- Laws of the labels of columns.
 use Rattle.{
-  std.{proofs.Common.{rules, ◌≡◌, ℕ, ◌+◌, ◌-◌, ◌<◌, Bool, true, false, not, cond, List, [], ◌∷◌, length, nat_eq, refl, arith}, specs.List.{list_any, position_or_len, range_with_len}},
-  cell_core.specs.Texts.{number_of},
-  meaning.specs.Text.{Text, same_text},
-  csv_meaning.specs.CsvRead.{with_number, is_free, free_label},
+  meaning.proofs.Common.{rules, ◌≡◌, ℕ, ◌+◌, ◌-◌, ◌<◌, Bool, false, not, cond, List, [], ◌∷◌, length, nat_eq, refl, arith, list_any, position_or_len, range_with_len, number_of, Text, same_text},
+  csv_meaning.specs.CsvRead.{is_free},
 }
 
 at_end : {X : Type 0} (p : X → Bool) (xs : List X) → nat_eq (position_or_len p xs) (length xs) ≡ not (list_any p xs)
@@ -20,10 +18,6 @@ first_free taken label columns n = position_or_len (is_free taken label) (range_
 
 from_number : (p : ℕ → Bool) (n columns : ℕ) → n < columns → position_or_len p (range_with_len n (columns - n)) ≡ cond (not (p n)) (1 + position_or_len p (range_with_len (n + 1) (columns - (n + 1)))) 0
 from_number = grind arith
-
-pub number_found : (taken : List Text) (label t : Text) (n columns : ℕ) → n < columns → t ≡ with_number label n → n + first_free taken label columns n ≡ 1 + first_free taken label columns 1
-    → true ≡ is_free taken label n → t ≡ free_label columns taken label
-number_found = grind arith
 
 pub number_passed : (taken : List Text) (label : Text) (n columns : ℕ) → n < columns → n + first_free taken label columns n ≡ 1 + first_free taken label columns 1
     → false ≡ is_free taken label n → n + 1 + first_free taken label columns (n + 1) ≡ 1 + first_free taken label columns 1

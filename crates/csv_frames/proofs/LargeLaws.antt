@@ -1,9 +1,7 @@
 -- Files whose tables are too large.
 use Rattle.{
+  meaning.proofs.Common.{rules, ◌≡◌, ℕ, suc, ap, refl, List, [], ◌∷◌, length, map, false, ◌<◌, ◌^◌, nat_le, arith, nat_tests, nil_from_length, Err, list_any, Kind, Text},
   csv_frames.proofs.NumberedLaws.{after_count},
-  std.{proofs.{Common.{rules, ◌≡◌, ℕ, suc, ap, refl, List, [], ◌∷◌, length, map, false, ◌<◌, ◌^◌, nat_le, arith}, lemmas.Bool.Decides.{nat_tests}}, specs.{Prelude.{Err}, List.{list_any}}},
-  cell_core.specs.declared.cell.Kind.{Kind},
-  meaning.specs.Text.{Text},
   table_meaning.specs.Valid.{within_limits},
   csv_meaning.specs.CsvRead.{beyond_limits, has_misfit, named_kind, labels_named, labels_of, columns_under},
 }
@@ -29,11 +27,6 @@ count_labels = search (after_count, count_named)
 large : (header : List Text) (rows : List (List Text)) → within_limits (length rows) (length header) ≡ false → columns_under [] header rows ≡ Err beyond_limits
 large = grind (arith, no_misfits, count_labels)
 
--- without named kinds
-pub no_kinds : (kinds : List (Text × Kind)) → length kinds ≡ 0 → kinds ≡ []
-no_kinds [] _ = refl
-no_kinds (k ∷ ks) none = search
-
 -- a header that is too wide for a table
 pub wide : (kinds : List (Text × Kind)) (count : ℕ) (header : List Text) (rows : List (List Text)) → count ≡ length kinds → count ≡ 0 → 2 ^ 16 < length header → columns_under kinds header rows ≡ Err beyond_limits
-wide = search (rules, nat_le, nat_tests, no_kinds, large)
+wide = search (rules, nat_le, nat_tests, nil_from_length, large)

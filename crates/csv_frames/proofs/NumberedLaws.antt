@@ -1,8 +1,7 @@
 -- The labels of a header, said as a whole.
 use Rattle.{
-  std.{proofs.{Common.{rules, ◌≡◌, ℕ, zero, suc, ◌+◌, ◌-◌, ◌<◌, ◌≤◌, ◌^◌, true, false, ◌||◌, List, [], ◌∷◌, ◌++◌, length, take, refl, ap, ◌∙◌, arith, append_assoc, append-nil}, lemmas.List.{Folds.{list_any-append}, FromFn.{get_or-range_with_len, length-range_with_len}, Sums.{prefix_len_passes, prefix_len-le-length}}}, specs.{Prelude.{slice_get, Option, Some}, List.{position_or_len, range_with_len}}},
-  cell_core.specs.Texts.{with_text},
-  meaning.specs.Text.{Text},
+  meaning.proofs.Common.{rules, ◌≡◌, ℕ, zero, suc, ◌+◌, ◌-◌, ◌<◌, ◌≤◌, ◌^◌, true, false, ◌||◌, List, [], ◌∷◌, ◌++◌, length, take, refl, ap, ◌∙◌, arith, append_assoc, list_any-append, get_or-range_with_len, length-range_with_len, prefix_len_passes, prefix_len-le-length, slice_get, Option, Some, position_or_len, range_with_len, with_text, Text},
+  std.proofs.Common.{append-nil},
   csv_meaning.{specs.CsvRead.{with_number, is_free, next_label, labels_after, with_texts, different_labels}, proofs.DifferentLaws.{IsFair, numbered-free, fair-after, count-texts, header-had, labels_differ}},
   csv_frames.specs.Numbered.{has_text, AreNumbered},
 }
@@ -64,9 +63,8 @@ after_count _ before _ (l ∷ rest) = ap suc (after_count _ (with_text before l)
 
 pub labels_numbered : (header : List Text) → length header < 2 ^ 64 → AreNumbered header (different_labels header)
 labels_numbered header small =
-    let fair : IsFair (length header) [] (with_texts [] header) header = grind (arith, count-texts, header-had) in
     let used : Alike (with_texts [] header) (header ++ []) = λ q. cc (all_alike [] [] header (λ t. refl) q, append-nil header) in
-    let at = nexts _ small _ [] [] [] _ _ (λ t. refl) used fair in
+    let at = nexts _ small _ [] [] [] _ _ (λ t. refl) used (grind (arith, count-texts, header-had)) in
     record {
       count = search after_count;
       first = λ place label is new. (at place label is).first new;

@@ -1,8 +1,7 @@
 -- Laws of reading a file.
 use Rattle.{
-  std.{proofs.{Common.{◌≡◌, ◌≤◌, ◌^◌, ℕ, List, length, take, true, false, arith}, lemmas.Str.{utf8_valid_len-IsUtf8}, Math.Seq.{take-append_seam}}, specs.Prelude.{Result, IsUtf8, is_err}},
-  cell_core.specs.{Texts.{IsLonger}, declared.cell.Kind.{Kind}},
-  meaning.specs.Text.{Text},
+  meaning.proofs.Common.{◌≡◌, ◌≤◌, ◌^◌, ℕ, List, length, take, true, false, arith, take-append_seam, Result, IsLonger, Kind, Text},
+  std.{proofs.lemmas.Str.{utf8_valid_len-IsUtf8}, specs.Prelude.{IsUtf8, is_err}},
   csv_meaning.specs.CsvRead.{CsvValue, CsvRefusal, columns_of_records, columns_of_file},
   csv_frames.specs.{Rows.{file_records}, Views.{ReadsAs, ReadAnswers}, declared.table.{CsvTable.{CsvTable}, CsvFault.{CsvFault}}},
 }

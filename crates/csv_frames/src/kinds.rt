@@ -4,7 +4,7 @@ ghost use Rattle.meaning.specs.Text.{Text as OneText};
 ghost use Rattle.csv_meaning.specs.CsvRead as meant;
 ghost use Rattle.csv_frames.specs.Views.{texts_seen, entries_seen, kinds_seen, kind_at};
 
-use crate::table::Entries;
+use crate::table::NamedKinds;
 use cell_core::{Kind, NoMemory, TextDict};
 use indexmap::IndexMap;
 use std::alloc::Global;
@@ -14,7 +14,7 @@ use std::alloc::Global;
 fn kinds_by_label(
     alloc: Global,
     dict: &TextDict,
-    kinds: &Entries,
+    kinds: &NamedKinds,
 ) -> Result<IndexMap<String, Kind>, NoMemory>
     ensures { IfOk result (λ named. (label : OneText) →
         kind_at (kinds_seen named.entries) label
@@ -40,7 +40,7 @@ fn kind_of_label(named: &IndexMap<String, Kind>, label: &str) -> Option<Kind>
 pub(crate) fn kinds_of_labels(
     alloc: Global,
     dict: &TextDict,
-    kinds: &Entries,
+    kinds: &NamedKinds,
     labels: &[String],
 ) -> Result<Vec<Option<Kind>>, NoMemory>
     ensures { IfOk result (λ named. named.items

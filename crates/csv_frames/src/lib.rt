@@ -6,7 +6,7 @@
 //!
 //! ```text
 //! let mut dict = TextDict::new(alloc);
-//! let table = read_csv(alloc, &mut dict, b"id,name\n1,ann\n2,\n", &Entries::new(alloc))?;
+//! let table = read_csv(alloc, &mut dict, b"id,name\n1,ann\n2,\n", &NamedKinds::new(alloc))?;
 //! let ids = table.columns.at(0).as_ref();
 //! ```
 #![tactic(auto)]
@@ -24,4 +24,4 @@ mod table;
 
 pub use laws::labels_are_numbered;
 pub use reading::read_csv;
-pub use table::{Columns, CsvFault, CsvTable, Entries, NamedKind};
+pub use table::{Columns, CsvFault, CsvTable, NamedKind, NamedKinds};

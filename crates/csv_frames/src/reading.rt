@@ -16,7 +16,7 @@ use crate::growth::{Growth, MOST_COLUMNS, growth_of, is_within_limits};
 use crate::kinds::kinds_of_labels;
 use crate::labels::labels_of;
 use crate::records::{next_record, reader_of};
-use crate::table::{Columns, CsvFault, CsvTable, Entries};
+use crate::table::{Columns, CsvFault, CsvTable, NamedKinds};
 use cell_core::{Kind, TextDict};
 use csv::StringRecord;
 use std::alloc::Global;
@@ -123,7 +123,7 @@ fn columns_under(
     dict: &mut TextDict,
     bytes: &[u8],
     header: &StringRecord,
-    kinds: &Entries,
+    kinds: &NamedKinds,
 ) -> Result<CsvTable, CsvFault>
     requires small { length bytes.now ≤ 2 ^ 28 }
     requires header { file_records bytes.now ≡ fields_of header.now ∷ file_rows bytes.now }
@@ -148,7 +148,7 @@ fn columns_of_text(
     alloc: Global,
     dict: &mut TextDict,
     bytes: &[u8],
-    kinds: &Entries,
+    kinds: &NamedKinds,
 ) -> Result<CsvTable, CsvFault>
     requires { length bytes.now ≤ 2 ^ 28 }
     ensures longer { IsLonger dict.old dict.new }
@@ -188,7 +188,7 @@ pub fn read_csv(
     alloc: Global,
     dict: &mut TextDict,
     bytes: &[u8],
-    kinds: &Entries,
+    kinds: &NamedKinds,
 ) -> Result<CsvTable, CsvFault>
     ensures longer { IsLonger dict.old dict.new }
     ensures settled { IfOk result (IsSettled csv_seen dict.new) }

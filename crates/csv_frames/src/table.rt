@@ -18,7 +18,7 @@ pub struct NamedKind {
 }
 
 /// Kinds that are named for columns. Where a label is listed twice its last kind counts.
-pub type Entries = ListOf<NamedKind>;
+pub type NamedKinds = ListOf<NamedKind>;
 
 /// The columns of a file.
 #[derive(Drop)]

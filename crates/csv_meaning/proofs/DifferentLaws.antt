@@ -1,8 +1,7 @@
 -- The labels of a header all differ.
 use Rattle.{
-  std.{proofs.{Common.{rules, ◌≡◌, ℕ, zero, suc, ◌+◌, ◌-◌, ◌<◌, ◌≤◌, ◌^◌, Bool, true, false, not, ◌||◌, if◌then◌else◌, List, [], ◌∷◌, ◌++◌, length, map, refl, sym, ap, ◌∙◌, arith, inl, inr, length-append}, lemmas.{Bool.{cases_eq, false_from_ne_true}, Fmt.{decimal_injective}, List.{length-map, FromFn.{get_or-range_with_len, length-range_with_len}, Sums.{prefix_len_stops, prefix_len_passes, prefix_len-le-length}}, Map.Made.{length-le_from_is_member}, Slice.Eq.{bytes_eq-Decides}}, Math.Seq.{drop-append_seam}}, specs.{Prelude.{◌⊎◌, decimal, codes, slice_index_or}, List.{list_any, position_or_len, range_with_len, IsDistinct, AllByRecursion}, Cmp.Lexicographic.{nat_list_eq_equiv}}},
-  cell_core.specs.Texts.{with_text},
-  meaning.specs.Text.{Text, same_text},
+  meaning.proofs.Common.{rules, ◌≡◌, ℕ, zero, suc, ◌+◌, ◌-◌, ◌<◌, ◌≤◌, ◌^◌, Bool, true, false, not, ◌||◌, if◌then◌else◌, List, [], ◌∷◌, ◌++◌, length, map, refl, sym, ap, ◌∙◌, arith, inl, inr, length-append, cases_eq, decimal_injective, length-map, get_or-range_with_len, length-range_with_len, prefix_len_passes, prefix_len-le-length, bytes_eq-Decides, drop-append_seam, ◌⊎◌, decimal, codes, slice_index_or, list_any, position_or_len, range_with_len, AllByRecursion, with_text, Text, same_text},
+  std.{specs.{List.{IsDistinct}, Cmp.Lexicographic.{nat_list_eq_equiv}}, proofs.lemmas.{Bool.{false_from_ne_true}, List.Sums.{prefix_len_stops}, Map.Made.{length-le_from_is_member}}},
   csv_meaning.specs.CsvRead.{with_number, is_free, free_label, next_label, labels_after, with_texts, different_labels},
 }
 

@@ -1,7 +1,7 @@
 -- Laws that the goals of functions want, by the name of the first that does.
 use Rattle.{
+  meaning.proofs.Common.{get_or_from_slice_get, get_or_past},
   factorize.proofs.{LabelLaws.{no_row}, KeyNumberLaws.{sight_counted, ordered_below, ordered_counted}},
-  std.proofs.lemmas.{Option.{get_or_from_slice_get}, List.{get_or_past}},
 }
 
 pub ruleset tuple_label = (no_row, get_or_from_slice_get, get_or_past)

@@ -1,12 +1,10 @@
 -- The labels of a row are those of its key.
 use Rattle.{
-  std.{proofs.{Common.{◌≡◌, ◌<◌, ◌≤◌, arith, ℕ, List, [], length, slice_get, slice_index_or, Some}, Math.ListN.{get_or-map}, lemmas.{List.{length-map, same_lists, get_or_default, get_or_past, get_or-map as get_or-map-at, Elements.{All-map}, FromFn.{length-map-range_with_len, get_or-map-range_with_len}}, Option.{get_or_from_slice_get}}}, specs.List.{range_with_len}},
-  cell_core.specs.{declared.cell.{Cell.{Cell}, Label.{Label}}, Values.{label_datum}},
+  meaning.proofs.Common.{◌≡◌, ◌<◌, ◌≤◌, arith, ℕ, List, [], length, slice_get, slice_index_or, Some, length-map, same_lists, get_or_default, get_or_past, get_or-map as get_or-map-at, All-map, length-map-range_with_len, get_or-map-range_with_len, get_or_from_slice_get, range_with_len, Cell, Label, label_datum, Text},
+  std.proofs.Math.ListN.{get_or-map},
   column_core.specs.Columns.{CellColumn},
-  row_groups.specs.Labels.{label_of_cell},
+  factorize.specs.{Labels.{label_of_cell}, Keys.{row_key, column_keys}},
   row_keys.specs.Keys.{label_in},
-  factorize.specs.Keys.{row_key, column_keys},
-  meaning.specs.Text.{Text},
   multi_index.specs.Axes.{HaveLevels},
   label_align.{specs.Tuples.{tuple_seen, labels_of}, proofs.OrderLaws.{label_there, labels_counted}},
 }

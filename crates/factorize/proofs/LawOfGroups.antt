@@ -1,7 +1,7 @@
 -- What factorize answers are groups.
 use Rattle.{
-  std.{proofs.{Common.{rules, ◌≡◌, ◌+◌, ◌<◌, ◌≤◌, ◌||◌, refl, arith, ℕ, suc, Bool, true, false, not, cond, List, [], ◌∷◌, filter, length, All, slice_index_or, nat_lt, Option, None}, lemmas.{Bool.{false≢true, true≢false, not-true, not-false, ltb-true, lt-ltb, eqb-true, eq-eqb, cases_lt}, List.{length-map, get_or-map, Elements.{All-cons, All-head, All-tail, All-filter, filter_passes}, Sums.{passes_at_first, position_or_len_is}}}}, specs.{List.{list_any, position_or_len}, Cmp.{IsEquivalence, IsStrictWeakOrder}}},
-  meaning.specs.Reduce.{distinct},
+  meaning.proofs.Common.{rules, ◌≡◌, ◌+◌, ◌<◌, ◌≤◌, ◌||◌, refl, arith, ℕ, suc, Bool, true, false, not, cond, List, [], ◌∷◌, filter, length, All, slice_index_or, nat_lt, Option, None, false≢true, ltb-true, lt-ltb, eqb-true, eq-eqb, cases_lt, length-map, get_or-map, All-cons, All-head, All-tail, All-filter, filter_passes, passes_at_first, position_or_len_is, list_any, position_or_len, IsEquivalence, IsStrictWeakOrder, distinct},
+  std.proofs.lemmas.Bool.{true≢false, not-true, not-false},
   sorting.specs.Sorting.{put_in, in_order},
   align_meaning.proofs.OrderLaws.{all_put_in, all_in_order},
   pick_meaning.{specs.Rows.{rows_where}, proofs.RowLaws.{rows_where-map}},

@@ -1,9 +1,9 @@
 -- The first place that passes a test, with one element more.
 use Rattle.{
-  std.{proofs.{Common.{◌≡◌, ◌∙◌, ◌+◌, ◌<◌, ◌≤◌, sym, subst, arith, ℕ, Bool, false, List, [], ◌∷◌, ◌++◌, ◌==◌, length, slice_index_or, Option, Some, None, length-append, map, All}, lemmas.{Bool.{lt-ltb, le-ltb, ne_eqb, eq-eqb, eqb-true, eqb-false, cases_lt}, List.{length-map, get_or-map, get_or-set_same, get_or-set_other, get_or_default, same_lists, Folds.{position_or_len_push}, Elements.{All-map}, FromFn.{length-map-range_with_len, get_or-map-range_with_len}}}}, specs.List.{position, position_or_len}},
+  meaning.proofs.Common.{◌≡◌, ◌∙◌, ◌+◌, ◌<◌, ◌≤◌, sym, subst, arith, ℕ, Bool, false, List, [], ◌∷◌, ◌++◌, ◌==◌, length, slice_index_or, Option, Some, None, length-append, map, All, lt-ltb, le-ltb, ne_eqb, eq-eqb, eqb-true, eqb-false, cases_lt, length-map, get_or-map, get_or-set_same, get_or-set_other, get_or_default, same_lists, position_or_len_push, All-map, length-map-range_with_len, get_or-map-range_with_len, position_or_len, map-map as map_map},
+  std.specs.List.{position},
   column_core.specs.Moves.{IsPlaceOf},
   row_keys.proofs.DistinctLaws.{prefix-le},
-  group_meaning.proofs.ListLaws.{map_map},
   factorize.specs.Numbers.{placed, places_of, recoded, number_in},
 }
 

@@ -6,7 +6,7 @@ use Rattle.cell_core.specs.declared.cell.Label.TheVariants.{Na}
 use Rattle.meaning.specs.Text.{Text}
 use Rattle.meaning.specs.Column.{tabulate}
 use Rattle.column_core.specs.Columns.{CellColumn}
-use Rattle.row_groups.specs.Labels.{label_of_cell}
+use Rattle.factorize.specs.Labels.{label_of_cell}
 use Rattle.row_keys.specs.Keys.{same_tuple}
 use Rattle.label_align.specs.Tuples.{tuple_seen, tuple_less}
 use Rattle.group_meaning.specs.Keys.{KeyRules, tuple_rules}

@@ -6,9 +6,9 @@ ghost use Rattle.group_meaning.specs.Grouping.{AreGroups};
 ghost use Rattle.factorize.specs.Keys.{seen_rules, levels_of};
 
 use crate::factor::{KeyGroups, group_by_keys};
+use crate::groups::{Groups, RowGroups};
 use crate::levels::KeyTuples;
 use cell_core::{NoMemory, Places, TextDict, Tuples};
-use row_groups::{Groups, RowGroups};
 use std::alloc::Global;
 use std::marker::Model;
 

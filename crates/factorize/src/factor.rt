@@ -7,11 +7,11 @@ ghost use Rattle.group_meaning.specs.Grouping.{AreGroups};
 ghost use Rattle.factorize.specs.Keys.{seen_rules};
 ghost use Rattle.factorize.specs.Numbers.{first_row, places_of, recoded};
 
+use crate::groups::Groups;
 use crate::levels::KeyLevels;
 use crate::numbers::numbered;
 use crate::places::{codes_by, numbers_kept, places_among, rows_of_numbers};
 use cell_core::{Gaps, NoMemory, Places, TextDict};
-use row_groups::Groups;
 use row_keys::Numbers;
 use std::alloc::Global;
 

@@ -4,9 +4,9 @@ ghost use Rattle.multi_index.specs.Axes.{HaveLevels};
 ghost use Rattle.row_keys.specs.Keys.{label_in};
 ghost use Rattle.factorize.specs.Keys.{levels_of};
 
+use crate::labels::label_of;
 use cell_core::{Label, Tuples};
 use column_core::ColRef;
-use row_groups::label_of;
 
 /// A key for each row: a label at each level.
 pub trait KeyLevels {

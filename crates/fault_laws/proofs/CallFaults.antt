@@ -1,15 +1,13 @@
 -- No call of a method or a function has the fault that a file isn't there.
 use Rattle.{
-  std.{proofs.Common.{arith}, specs.Prelude.{List, [], ◌∷◌, Bool, Option, ℕ, false, Some, None, Result, ◌≡◌, true}},
-  meaning.specs.{Cell.{LabelValue, CellValue}, Text.{Text}, Fault.{FaultValue}},
+  meaning.proofs.Common.{arith, List, [], ◌∷◌, Bool, Option, ℕ, false, Some, None, Result, ◌≡◌, true, LabelValue, CellValue, Text, FaultValue, Shape, Series, Frame},
   table_meaning.specs.{Table.{Table}, Value.{Given, object_in, NamedGiven, GivenList, Entry, cell, table}},
-  form_meaning.specs.{Binding.{text_in, bound_of, Bound}, Signature.{function_parameters, function_named}},
+  call_meaning.specs.{Binding.{text_in, bound_of, Bound}, Signature.{function_parameters, function_named}},
   method_meaning.specs.{Merge.{keys_named, keys_under, keys_on, keys_of_merge, merge_result}, Concat.{Concatenation, frames_below, below, along, concat_result, concat_call}, Groups.{Grouping, Values, GroupCall, group_answer, of_bound, grouping_in, values_named, values_in, transform_in, without_arguments, group_call_of, grouped_of}, Calls.{ChainValue, plain_result, call_result}, Functions.{is_concat, function_result}, Readers.{reads_file, read_result, make_with}},
   fault_laws.{specs.FormFault.{HasFormFault}, proofs.{FormFaults.{if_fault, then_value_fault, finished_fault, column_places_fault, on_fault, limited_fault, try_all_fault, of_length_fault, on_bound_fault, made_column_fault, column_place_fault, make_with_fault}, MethodFaults.{method_result_fault}}},
-  cell_core.specs.declared.grid.Shape.{Shape, TheVariants.{Series, Frame}},
   select_meaning.specs.Select.{shown_as},
 }
-use Rattle.form_meaning.specs.declared.Function.TheVariants as function
+use Rattle.call_meaning.specs.declared.Function.TheVariants as function
 use Rattle.method_meaning.specs.Groups as groups
 use Rattle.method_meaning.specs.Calls as call
 

@@ -1,13 +1,11 @@
 -- No form on values has the fault that a file isn't there.
 use Rattle.{
-  std.{proofs.Common.{arith}, specs.Prelude.{ℕ, Bool, true, false, List, [], ◌∷◌, Option, Some, None, Result, Err, if◌then◌else◌}},
-  cell_core.specs.declared.grid.Shape.{Shape, TheVariants.{Series, Frame}},
-  meaning.specs.{Text.{Text}, Cell.{CellValue, LabelValue}, Column.{ColumnValue, ColumnFault}, Fault.{FaultValue, wrong_kind, bad_value, not_aligned, then_value}},
-  language_meaning.specs.Tree.{Binary},
+  meaning.proofs.Common.{arith, ℕ, Bool, true, false, List, [], ◌∷◌, Option, Some, None, Result, Err, if◌then◌else◌, Shape, Series, Frame, Text, CellValue, LabelValue, ColumnValue, ColumnFault, FaultValue, wrong_kind, bad_value, not_aligned, then_value, Binary},
   align_meaning.specs.Faults.{AlignRefusal, met_rows},
   table_meaning.specs.{Table.{ColumnOf, Table, column_at}, Value.{Entry, cell, table, Given, NamedGiven}},
-  form_meaning.specs.{declared.Function.{Function}, Binding.{Bound, on_bound}, Finish.{column_labels, limited_table, limited, unless_repeated, finished, made_column, try_all}, Select.{found, column_place, column_places, length_result}, Infix.{Meeting, has_one, same_tuple, compares, infix_table, on_levels, rows_infix, joined_frames, frame_infix, takes_each, labels_fit, spread_frame, joined_turned, across_unequal, across_infix, table_infix, infix_result, sign_result}, Set.{of_length}, Make.{on, all_of_length}, Functions.{constructed, made_named, make_result}},
-  method_meaning.specs.Readers.{file_name_of, csv_result, read_result, make_with},
+  call_meaning.specs.{declared.Function.{Function}, Binding.{Bound, on_bound}, Functions.{constructed, made_named, make_result}},
+  form_meaning.specs.{Finish.{column_labels, limited_table, limited, unless_repeated, finished, made_column, try_all}, Select.{found, column_place, column_places, length_result}, Infix.{Meeting, has_one, same_tuple, compares, infix_table, on_levels, rows_infix, joined_frames, frame_infix, takes_each, labels_fit, spread_frame, joined_turned, across_unequal, across_infix, table_infix, infix_result, sign_result}, Set.{of_length}, Make.{on, all_of_length}},
+  method_meaning.specs.Readers.{csv_result, read_result, make_with},
   fault_laws.specs.FormFault.{HasFormFault},
 }
 
@@ -122,9 +120,6 @@ made_named_fault = grind (arith, if_fault, on_bound_fault, constructed_fault)
 
 pub make_result_fault : (name : Text) (gs : List NamedGiven) → HasFormFault (make_result name gs)
 make_result_fault name gs = made_named_fault _ name gs
-
-pub file_name_of_fault : (f : Function) (gs : List NamedGiven) → HasFormFault (file_name_of f gs)
-file_name_of_fault = grind arith
 
 csv_result_fault : (bytes : List ℕ) (gs : List Given) → HasFormFault (csv_result bytes gs)
 csv_result_fault = grind arith

@@ -1,19 +1,17 @@
 -- No method has the fault that a file isn't there.
 use Rattle.{
+  meaning.proofs.Common.{arith, ℤ, Bool, true, false, List, [], ◌∷◌, Option, Result, Shape, Series, Frame, Text, CellValue, LabelValue, FaultValue},
   fault_laws.{proofs.{FormFaults.{if_fault, then_value_fault, of_length_fault, unless_repeated_fault, met_rows_fault, on_bound_fault, limited_fault, finished_fault, made_column_fault, try_all_fault, found_fault, column_places_fault, on_fault}, SelectFaults.{found_pick_fault, whole_items_fault}}, specs.FormFault.{HasFormFault}},
-  std.{proofs.Common.{arith}, specs.Prelude.{ℤ, Bool, true, false, List, [], ◌∷◌, Option, Result}},
-  cell_core.specs.declared.grid.Shape.{Shape, TheVariants.{Series, Frame}},
-  meaning.specs.{Text.{Text}, Cell.{CellValue, LabelValue}, Fault.{FaultValue}},
   table_meaning.specs.{Table.{ColumnOf, Table}, Value.{Entry, Given, GivenList, NamedGiven}},
-  form_meaning.specs.declared.Method.{Method},
+  call_meaning.specs.declared.Method.{Method},
   method_meaning.specs.{Rows.{head_result, tail_result, duplicated_result, sort_by_result, drop_result}, Methods.{each_column, filled_column, Summary, summary_cell, summary_of, renamed_frame, reset_index_result, csv_answer, answer_for}, Levels.{rename_axis_result, set_index_result, renumbered, droplevel_result, swaplevel_result}, Reindex.{reindex_result}, Section.{xs_result}, Calls.{method_result}},
 }
-use Rattle.form_meaning.specs.declared.Method.TheVariants as method
-use Rattle.form_meaning.specs.declared.ColumnMethod.TheVariants as column_method
-use Rattle.form_meaning.specs.declared.RowMethod.TheVariants as row_method
-use Rattle.form_meaning.specs.declared.LevelMethod.TheVariants as level_method
-use Rattle.form_meaning.specs.declared.LabelMethod.TheVariants as label_method
-use Rattle.form_meaning.specs.declared.TableMethod.TheVariants as table_method
+use Rattle.call_meaning.specs.declared.Method.TheVariants as method
+use Rattle.call_meaning.specs.declared.ColumnMethod.TheVariants as column_method
+use Rattle.call_meaning.specs.declared.RowMethod.TheVariants as row_method
+use Rattle.call_meaning.specs.declared.LevelMethod.TheVariants as level_method
+use Rattle.call_meaning.specs.declared.LabelMethod.TheVariants as label_method
+use Rattle.call_meaning.specs.declared.TableMethod.TheVariants as table_method
 
 -- cells, column by column
 each_column_fault : (f : ColumnOf CellValue → Result (ColumnOf CellValue) FaultValue) (t : Table) → ((c : ColumnOf CellValue) → HasFormFault (f c)) → HasFormFault (each_column f t)

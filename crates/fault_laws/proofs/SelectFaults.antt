@@ -1,8 +1,6 @@
 -- No selection has the fault that a file isn't there.
 use Rattle.{
-  std.{proofs.Common.{arith}, specs.Prelude.{ℕ, Bool, true, false, List, Option, Some, None, Result}},
-  cell_core.specs.declared.grid.Shape.{Shape, TheVariants.{Series, Frame}},
-  meaning.specs.{Cell.{int_cell, LabelValue}, Symbol.{Accessor}},
+  meaning.proofs.Common.{arith, ℕ, Bool, true, false, List, Option, Some, None, Result, Shape, Series, Frame, int_cell, LabelValue, Accessor},
   table_meaning.specs.{Table.{Table}, Value.{Entry, cell, table, GivenList, GivenSub, no_given, more_given, one, row, many, key_given, span_given}},
   pick_meaning.specs.Faults.{PickFault},
   select_meaning.specs.{Keys.{whole_items, place_key, found_pick, place_pick, loc_rows, loc_columns, rows_by, columns_by, joined_key, reach_by}, Select.{Way, as_series, shown_as, columns_reach, mask_reach, frame_reach, item_reach, select_result}},

@@ -1,8 +1,6 @@
 -- No setting and no removal has the fault that a file isn't there.
 use Rattle.{
-  std.{proofs.Common.{arith}, specs.Prelude.{List, Option, Result}},
-  cell_core.specs.declared.grid.Shape.{Shape},
-  meaning.specs.{Cell.{LabelValue}, Symbol.{Accessor}, Fault.{FaultValue}},
+  meaning.proofs.Common.{arith, List, Option, Result, Shape, LabelValue, Accessor, FaultValue},
   table_meaning.specs.{Table.{Table}, Value.{Entry, Given, GivenSub}},
   form_meaning.specs.Finish.{column_labels},
   pick_meaning.specs.Keys.{Pick},

@@ -1,9 +1,5 @@
 -- The texts of keys, label by label.
-use Rattle.{
-  std.proofs.{Common.{◌≡◌, ℕ, suc, ◌+◌, List, [], ◌∷◌, ◌++◌, length, drop, map, slice_get, Some, codes, ap, sym, ◌∙◌, append_assoc, arith}, Math.Seq.{drop-cons}, lemmas.Option.{slice_get_within, get_or_from_slice_get}},
-  cell_core.specs.declared.cell.Label.{Label},
-  meaning.specs.{Cell.{LabelValue}, FaultText.{label_text, more_labels, key_text}},
-}
+use Rattle.meaning.{proofs.Common.{◌≡◌, ℕ, suc, ◌+◌, List, [], ◌∷◌, ◌++◌, length, drop, map, slice_get, Some, codes, ap, sym, ◌∙◌, append_assoc, arith, drop-cons, slice_get_within, get_or_from_slice_get, Label, LabelValue, more_labels}, specs.FaultText.{label_text, key_text}}
 
 module _ (f : Label → LabelValue) where
   pub key_text-one : (key : List Label) (l : Label) → length key ≡ 1 → slice_get key 0 ≡ Some l → key_text (map f key) ≡ label_text (f l)

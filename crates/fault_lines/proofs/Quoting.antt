@@ -1,7 +1,7 @@
 -- The bytes of texts in quotes.
 use Rattle.{
-  std.proofs.{Common.{◌≡◌, ◌≢◌, ℕ, suc, ◌<◌, List, [], ◌∷◌, ◌++◌, length, get_or, encode_utf8, refl, ap, sym, ◌∙◌, append_assoc, append-nil, arith}, lemmas.{Str.{inside_one}, Bool.Decides.{nat_tests}}},
-  meaning.specs.FaultText.{quoted_byte, quoted_bytes},
+  meaning.{proofs.Common.{◌≡◌, ◌≢◌, ℕ, suc, ◌<◌, List, [], ◌∷◌, ◌++◌, length, get_or, encode_utf8, refl, ap, sym, ◌∙◌, append_assoc, arith, inside_one, nat_tests, quoted_bytes}, specs.FaultText.{quoted_byte}},
+  std.proofs.Common.{append-nil},
 }
 
 -- none of the four that are escaped

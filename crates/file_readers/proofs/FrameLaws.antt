@@ -1,16 +1,11 @@
 -- Frames of columns that were read.
 use Rattle.{
-  std.{proofs.{Common.{◌≡◌, ◌≢◌, ◌+◌, ◌<◌, refl, ℕ, List, [], ◌∷◌, ◌++◌, map, length, drop, get_or, slice_get, append_assoc, unwrap_or, Option, Some, Ok, All, arith}, lemmas.{List.{drop_more, get_or-map, length-map, FromFn.{length-map-range_with_len}, Elements.{All-map}}, Option.{slice_get-get_or}}}, specs.{Prelude.{IsSome, Result}, List.{AllPairs}}},
-  cell_core.specs.declared.{cell.Label.{Label}, grid.Shape.TheVariants.{Series, Frame}},
-  meaning.specs.Text.{Text},
-  multi_index.specs.Axes.{AxisValue, HaveLevels, range_axis},
-  column_core.specs.{Blocks.{CellBlock}, Columns.{CellColumn}},
-  table_meaning.specs.{Settled.{IsSettled}, Table.{NumberedTable, table_value, tuple_value, heading_value}, Valid.{AreHeadings, IsWhole}, Value.{table}},
+  form_parts.proofs.Common.{◌≡◌, ◌≢◌, ◌+◌, ◌<◌, refl, ℕ, List, [], ◌∷◌, ◌++◌, map, length, drop, get_or, slice_get, append_assoc, unwrap_or, Option, Some, Ok, All, arith, drop_more, length-map, length-map-range_with_len, All-map, slice_get-get_or, IsSome, Result, Label, Series, Frame, Text, AxisValue, HaveLevels, range_axis, CellBlock, CellColumn, IsSettled, NumberedTable, table_value, tuple_value, heading_value, AreHeadings, IsWhole, table, default_seen, HeadingList, IsSingle, block_column, table_column, table_with, headings_value, columns_value, settled_by},
+  meaning.proofs.Common.{get_or-map},
+  std.specs.List.{AllPairs},
   method_meaning.specs.Readers.{frame_of_columns, frame_or_fault},
   csv_meaning.specs.CsvRead.{CsvValue, CsvRefusal},
   csv_frames.specs.{Views.{tuples_seen, columns_seen, csv_seen, PartsFit}, declared.table.CsvTable.{CsvTable}},
-  form_parts.proofs.LabelLaws.{default_seen},
-  frame_store.{specs.{Parts.{HeadingList, IsSingle, block_column, table_column, table_with}, Shown.{headings_value, columns_value}}, proofs.Settling.{settled_by}},
   file_readers.specs.Frames.{headings_of, column_block, frame_of},
 }
 

@@ -1,12 +1,8 @@
 -- The first argument of a call as a name.
 use Rattle.{
-  std.{proofs.Common.{arith, ◌≡◌, ap, List, [], Option, Some, None, Ok}, specs.Option.{option_map}},
-  cell_core.specs.declared.cell.TextId.{TextId},
-  meaning.specs.{Text.{Text}, Cell.{text_cell, datum}},
-  table_meaning.specs.{Settled.{IsSettled}, Value.{NamedGiven, scalar_in}},
-  form_meaning.specs.{declared.Function.{Function}, Signature.{function_parameters}, Binding.{bound, bound_of, argument_at, arguments_from, text_of, text_in}},
+  form_parts.proofs.Common.{arith, ◌≡◌, ap, List, [], Option, Some, None, Ok, option_map, TextId, Text, text_cell, datum, IsSettled, NamedGiven, scalar_in, arguments_of, World},
+  call_meaning.specs.{declared.Function.{Function}, Signature.{function_parameters}, Binding.{bound, bound_of, argument_at, arguments_from, text_of, text_in}},
   method_meaning.specs.Readers.{name_in, name_of_bound, file_name_of},
-  frame_store.specs.{Arguments.{arguments_of}, World.{World}},
   signatures.{specs.{Bound.{given_in, Tells}, declared.bound.Bound.{Bound}}, proofs.ToldLaws.{told_settled}},
   file_readers.specs.Names.{Names},
 }

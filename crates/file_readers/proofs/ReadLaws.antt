@@ -1,19 +1,15 @@
 -- Files that are read.
 use Rattle.{
-  std.proofs.{Common.{◌≡◌, ◌≤◌, ◌^◌, ap, ℕ, Bool, true, List, [], ◌∷◌, length, nat_le, if◌then◌else◌, Result, Ok, Err, arith}, lemmas.{Bool.Decides.{nat_tests}, List.{length-map}}},
+  form_parts.proofs.Common.{◌≡◌, ◌≤◌, ◌^◌, ap, ℕ, Bool, true, List, [], ◌∷◌, length, if◌then◌else◌, Result, Ok, Err, arith, nat_tests, length-map, Kind, Label, Text, LabelValue, HaveLevels, within_limits, NamedGiven, dict_in, World},
+  meaning.proofs.Common.{nat_le},
   csv.specs.Reading.{records},
-  cell_core.specs.declared.cell.{Kind.{Kind}, Label.{Label}},
-  meaning.specs.{Text.{Text}, Cell.{LabelValue}},
-  multi_index.specs.Axes.{HaveLevels},
-  table_meaning.specs.{Valid.{within_limits}, Value.{NamedGiven, dict_in}},
-  form_meaning.specs.{Signature.{function_parameters}, Binding.{bound, bound_of}},
-  frame_store.specs.World.{World},
+  call_meaning.specs.{Signature.{function_parameters}, Binding.{bound, bound_of}},
   signatures.specs.{Bound.{given_in, stands_at}, declared.bound.Bound.{Bound}},
   method_meaning.specs.Readers.{kinds_given, frame_or_fault, read_result},
   csv_meaning.specs.CsvRead.{CsvValue, CsvRefusal, columns_of_records, columns_of_file},
   csv_frames.specs.{Views.{label_tuples, tuples_seen, csv_seen}, declared.table.CsvTable.{CsvTable}},
 }
-use Rattle.form_meaning.specs.declared.Function.TheVariants as function
+use Rattle.call_meaning.specs.declared.Function.TheVariants as function
 
 -- what reading a file answers
 abbrev Read : Type 0

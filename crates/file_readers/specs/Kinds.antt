@@ -4,7 +4,7 @@ use Rattle.std.specs.Option.{option_map}
 use Rattle.cell_core.specs.declared.cell.Kind.{Kind}
 use Rattle.meaning.specs.Text.{Text}
 use Rattle.meaning.specs.Cell.{CellValue, LabelValue, text, text_of as text_at}
-use Rattle.form_meaning.specs.Binding.{text_of}
+use Rattle.call_meaning.specs.Binding.{text_of}
 use Rattle.form_meaning.specs.Make.{kind_named}
 use Rattle.csv_frames.specs.declared.table.NamedKind.{NamedKind}
 

@@ -8,7 +8,7 @@ use Rattle.meaning.specs.Cell.{datum, text_of}
 use Rattle.meaning.specs.Fault.{FaultValue, wrong_kind}
 use Rattle.table_meaning.specs.Settled.{IsSettled}
 use Rattle.table_meaning.specs.Value.{NamedGiven}
-use Rattle.form_meaning.specs.declared.Function.{Function}
+use Rattle.call_meaning.specs.declared.Function.{Function}
 use Rattle.method_meaning.specs.Readers.{file_name_of}
 use Rattle.frame_store.specs.Shown.{Refuses}
 

@@ -10,7 +10,7 @@ ghost use Rattle.frame_store.specs.Readers.{lent_pairs};
 ghost use Rattle.file_readers.specs.Kinds as meant;
 
 use cell_core::{Cell, Label, NoMemory, TextDict, TextId};
-use csv_frames::{Entries, NamedKind};
+use csv_frames::{NamedKind, NamedKinds};
 use frame_store::Argument;
 use signatures::kind_named;
 use std::alloc::Global;
@@ -47,7 +47,7 @@ fn kind_for(dict: &TextDict, label: Label, value: Option<Cell>) -> Option<NamedK
 }
 
 // Appends the kind, where there is one.
-fn push_kind(kinds: &mut Entries, kind: Option<NamedKind>) -> Result<(), NoMemory>
+fn push_kind(kinds: &mut NamedKinds, kind: Option<NamedKind>) -> Result<(), NoMemory>
     ensures { OnOk result (kinds.new ≡ kinds.old ++ meant.kinds_of kind) }
 {
     match kind {
@@ -61,11 +61,11 @@ pub(crate) fn kinds_in(
     alloc: Global,
     dict: &TextDict,
     pairs: &[(Label, Argument)],
-) -> Result<Entries, NoMemory>
+) -> Result<NamedKinds, NoMemory>
     ensures { IfOk result (λ kinds. (live : Tables) → entries_seen dict.now kinds
         ≡ readers.kinds_in (entries_of live dict.now pairs.now)) }
 {
-    let mut kinds = Entries::new(alloc);
+    let mut kinds = NamedKinds::new(alloc);
     let mut rest = pairs;
     while let [first, after @ ..] = rest {
         let kind = kind_for(dict, first.0, first.1.scalar());
@@ -80,12 +80,12 @@ pub(crate) fn kinds_given(
     alloc: Global,
     dict: &TextDict,
     pairs: Option<&[(Label, Argument)]>,
-) -> Result<Entries, NoMemory>
+) -> Result<NamedKinds, NoMemory>
     ensures { IfOk result (λ kinds. (live : Tables) → entries_seen dict.now kinds
         ≡ readers.kinds_given (option_map (lent_pairs live dict.now) pairs.entry)) }
 {
     match pairs {
         Some(pairs) => kinds_in(alloc, dict, pairs),
-        None => Ok(Entries::new(alloc)),
+        None => Ok(NamedKinds::new(alloc)),
     }
 }

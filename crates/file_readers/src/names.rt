@@ -1,7 +1,7 @@
 // The name of the file that a call reads.
 ghost use Rattle.std.specs.Prelude.{◌≡◌};
 ghost use Rattle.table_meaning.specs.Settled.{IsSettled};
-ghost use Rattle.form_meaning.specs.Signature as signature;
+ghost use Rattle.call_meaning.specs.Signature as signature;
 ghost use Rattle.method_meaning.specs.Readers as readers;
 ghost use Rattle.method_meaning.specs.Readers.{file_name_of};
 ghost use Rattle.frame_store.specs.Objects.{tables};
@@ -9,8 +9,8 @@ ghost use Rattle.frame_store.specs.Arguments.{arguments_of, AreLive};
 ghost use Rattle.frame_store.specs.World.{world, arguments_in};
 ghost use Rattle.file_readers.specs.Names.{name_for, Names};
 
+use call_meaning::Function;
 use cell_core::{Cell, Code, TextDict, TextId};
-use form_meaning::Function;
 use frame_store::{Named, NamedList, Store};
 use signatures::{bind, function_named, function_parameters};
 

@@ -14,9 +14,9 @@ ghost use Rattle.file_readers.specs.Frames as meant;
 use crate::frames::frame_of;
 use crate::kinds::kinds_given;
 use crate::names::reads_file;
+use call_meaning::Function;
 use cell_core::{Code, Reason, TextDict};
-use csv_frames::{CsvFault, Entries, read_csv};
-use form_meaning::Function;
+use csv_frames::{CsvFault, NamedKinds, read_csv};
 use form_parts::placed;
 use frame_store::{Named, NamedList, OpFault, Store, Table, Value};
 use signatures::{bind, function_parameters};
@@ -43,7 +43,7 @@ pub(crate) fn frame_of_file(
     alloc: Global,
     dict: &mut TextDict,
     bytes: &[u8],
-    kinds: &Entries,
+    kinds: &NamedKinds,
 ) -> Result<Table, OpFault>
     ensures longer { IsLonger dict.old dict.new }
     ensures answer { Makes dict.new result (readers.frame_or_fault

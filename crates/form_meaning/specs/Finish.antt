@@ -9,7 +9,7 @@ use Rattle.table_meaning.specs.Table.{ColumnOf, Table}
 use Rattle.table_meaning.specs.Value.{Entry, table}
 pub use Rattle.table_meaning.specs.Table.{same_kind}
 pub use Rattle.table_meaning.specs.Valid.{within_limits}
-use Rattle.form_meaning.specs.Binding.{same_label}
+use Rattle.form_meaning.specs.Given.{same_label}
 
 abbrev pub limited_table : Table → Result Table FaultValue
 limited_table t = if within_limits (length t.labels) (length t.columns) then Ok t else Err limit

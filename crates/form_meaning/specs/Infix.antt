@@ -16,7 +16,7 @@ use Rattle.align_meaning.specs.Faults.{met_rows}
 use Rattle.align_meaning.specs.Joins.{Lists, outer}
 use Rattle.table_meaning.specs.Table.{ColumnOf, TableOf, Table, column_at}
 use Rattle.table_meaning.specs.Value.{Entry, cell, table}
-use Rattle.form_meaning.specs.Binding.{same_label}
+use Rattle.form_meaning.specs.Given.{same_label}
 use Rattle.form_meaning.specs.Finish.{within_limits, limited_table, same_heading, first_repeated, unless_repeated, same_kind, value_of_column, column_of_value, made_column, try_all, with_columns, column_labels}
 
 -- lists of equal labels

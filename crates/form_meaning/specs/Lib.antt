@@ -1,8 +1,6 @@
-pub mod Signature
-pub mod Binding
+pub mod Given
 pub mod Finish
 pub mod Infix
 pub mod Select
 pub mod Set
 pub mod Make
-pub mod Functions

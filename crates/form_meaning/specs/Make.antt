@@ -11,7 +11,7 @@ use Rattle.meaning.specs.Operator.{cell_label}
 use Rattle.meaning.specs.Fault.{FaultValue, wrong_kind, limit, then_value}
 use Rattle.table_meaning.specs.Table.{ColumnOf, Table}
 use Rattle.table_meaning.specs.Value.{Entry, Given, GivenList, GivenPairs, cell, table, no_given, more_given, no_entries, more_entries, nothing, one, row, many, entries, list_in, dict_in, scalar_in}
-use Rattle.form_meaning.specs.Binding.{same_label, each, is_scalar}
+use Rattle.form_meaning.specs.Given.{same_label, each, is_scalar}
 use Rattle.form_meaning.specs.Finish.{limited, default_labels, value_of_column, made_column, try_all}
 use Rattle.form_meaning.specs.Select.{cells_of, labels_of}
 use Rattle.form_meaning.specs.Set.{list_column, of_length}

@@ -1,9 +1,8 @@
 -- The rows that labels take, by their numbers as by their texts, and the columns on such rows.
 use Rattle.{
-  std.proofs.{lemmas.{Simd.{map-map}, List.{map_push, map_more, Elements.{All-map, All-push}}}, Common.{arith, ◌≡◌, ◌∙◌, refl, sym, ℕ, ◌+◌, ◌<◌, false, List, [], ◌∷◌, ◌++◌, map, length, take, slice_index_or, All, Option, Result, Ok, Err}, Math.ListN.{get_or-map}},
+  meaning.proofs.Common.{map-map, map_push, map_more, All-map, All-push, arith, ◌≡◌, ◌∙◌, refl, sym, ℕ, ◌+◌, ◌<◌, false, List, [], ◌∷◌, ◌++◌, map, length, take, slice_index_or, All, Option, Result, Ok, Err, Cell, Na, Label, AreDistinct, AreGiven, IsGiven, Text, na_cell, datum, gap_cell, taken, FaultValue},
+  std.proofs.Math.ListN.{get_or-map},
   table_meaning.specs.{Table.{column_value, ColumnOf, tuple_value, no_column}, Settled.{IsSettled}},
-  cell_core.specs.{declared.cell.{Cell.{Cell, TheVariants.{Na}}, Label.{Label}}, Texts.{AreDistinct, AreGiven, IsGiven}},
-  meaning.specs.{Text.{Text}, Cell.{na_cell, datum}, Column.{gap_cell, taken}, Fault.{FaultValue}},
   column_core.specs.{Blocks.{CellBlock}, Columns.{CellColumn}, Moves.{IsPlaceOf}},
   form_meaning.specs.Infix.{same_tuple, on_rows},
   align_meaning.{specs.{Faults.{met_rows}, Targets.{reindexed}}, proofs.{SeenLaws.{gaps_seen, reindexed_seen}, FoundLaws.{reindexed_count, reindexed_below, repeat_given}}},

@@ -1,12 +1,10 @@
 -- Labels are equal exactly where their numbers are.
 use Rattle.{
-  std.{proofs.{Common.{arith, ◌≡◌, ℕ, Bool, List, [], ◌∷◌, map, refl, Option, Some}, lemmas.Bool.Decides.{same_from_decides}}, specs.{Prelude.{pos}, Bool.{Decides}}},
-  cell_core.specs.{declared.cell.Label.{Label}, Texts.{AreDistinct, IsGivenLabel}, Values.{int, label_datum}},
-  meaning.specs.Text.{Text},
+  meaning.proofs.Common.{arith, ◌≡◌, ℕ, Bool, List, [], ◌∷◌, map, refl, Option, Some, same_from_decides, pos, Decides, Label, AreDistinct, IsGivenLabel, int, label_datum, Text},
   table_meaning.specs.{Settled.{IsSettled}, Table.{heading_value}},
   index_core.specs.Ranges.{number_label},
   multi_index.specs.Axes.{range_axis, single_tuples},
-  form_meaning.specs.{Binding.{same_label}, Finish.{default_labels}},
+  form_meaning.specs.{Given.{same_label}, Finish.{default_labels}},
   frame_store.{specs.Shown.{labels_value}, proofs.Settling.{cell_given}},
 }
 use Rattle.cell_core.specs.declared.cell.Label.TheVariants as label

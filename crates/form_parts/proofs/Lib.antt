@@ -3,3 +3,4 @@ pub mod ObjectMade
 pub mod TableMade
 pub mod RowLaws
 pub mod GapLaws
+pub mod Common

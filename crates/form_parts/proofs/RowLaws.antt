@@ -1,14 +1,12 @@
 -- Rows and headings are equal exactly where their labels' numbers are.
 use Rattle.{
-  std.{proofs.{Common.{map, arith, ◌≡◌, Bool, List, [], ◌∷◌, refl, All}, lemmas.{List.Elements.{All-head, All-tail, All-cons}, Bool.Decides.{same_from_decides}}}, specs.{Bool.{Decides}, Cmp.Lexicographic.{pointwise_decides}}},
-  cell_core.specs.{declared.cell.Label.{Label}, Texts.{AreDistinct, IsGivenLabel}, Values.{LabelValue, label_datum}},
-  meaning.specs.Text.{Text},
+  meaning.proofs.Common.{map, arith, ◌≡◌, Bool, List, [], ◌∷◌, refl, All, All-head, All-tail, All-cons, same_from_decides, Decides, pointwise_decides, Label, AreDistinct, IsGivenLabel, LabelValue, label_datum, Text, value_decides},
   table_meaning.specs.{Settled.{IsSettled}, Table.{tuple_value}},
   form_meaning.specs.Infix.{same_tuple, same_tuples},
   frame_store.specs.Shown.{labels_value},
   row_keys.specs.Keys.{same_tuple as same_numbers},
   label_align.{specs.Runs.{AreGivenTuples}, proofs.SameLaws.{tuple_decides as numbers_decide}},
-  form_parts.proofs.LabelLaws.{label_given, label_one, value_decides},
+  form_parts.proofs.LabelLaws.{label_given, label_one},
 }
 
 tuple_decides : (a b : List LabelValue) → Decides (same_tuple a b) (a ≡ b)

@@ -1,8 +1,6 @@
 -- A table of other columns under other headings.
 use Rattle.{
-  std.proofs.{Common.{arith, ◌≡◌, ℕ, List, length, map, Result, Ok, Err}, lemmas.List.{length-map}},
-  cell_core.specs.Texts.{IsLonger},
-  meaning.specs.{Text.{Text}, Cell.{CellValue}, Fault.{FaultValue, then_value}},
+  meaning.proofs.Common.{arith, ◌≡◌, ℕ, List, length, map, Result, Ok, Err, length-map, IsLonger, Text, CellValue, FaultValue, then_value},
   column_core.specs.Blocks.{CellBlock},
   table_meaning.specs.{Settled.{IsSettled}, Table.{ColumnOf, NumberedTable, table_value, heading_value}, Valid.{AreHeadings, IsWhole}, Value.{Entry}},
   form_meaning.specs.Finish.{with_columns},

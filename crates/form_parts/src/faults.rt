@@ -1,5 +1,7 @@
 // What a kernel or a join answers, as a part of a form.
 ghost use Rattle.std.specs.Prelude.{◌≡◌};
+ghost use Rattle.cell_core.specs.declared.code.Code.TheVariants as code;
+ghost use Rattle.frame_store.specs.declared.fault.OpFault.TheVariants.{Refused};
 ghost use Rattle.form_parts.specs.Faults.{refusal_of, align_refusal, column_result, block_result};
 
 use cell_core::{Code, Reason};
@@ -7,6 +9,13 @@ use column_core::{Block, Column};
 use frame_store::OpFault;
 use label_align::AlignFault;
 use nullable_array::ArrayFault;
+
+/// The refusal of a form or a kind that isn't taken. Takes no memory.
+pub fn wrong_kind() -> OpFault
+    ensures { result ≡ Refused code.WrongKind }
+{
+    OpFault::Refused(Code::WrongKind)
+}
 
 /// A kernel's refusal as that of a form: `WrongKind`, `ZeroDivide`, `BadValue(Cast)` or `NoMemory`.
 pub fn refusal_of(fault: ArrayFault) -> OpFault

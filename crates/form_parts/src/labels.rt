@@ -7,7 +7,7 @@ ghost use Rattle.meaning.specs.Operator.{cell_label};
 ghost use Rattle.table_meaning.specs.Settled.{IsSettled};
 ghost use Rattle.table_meaning.specs.Table.{heading_value};
 ghost use Rattle.frame_store.specs.Shown.{labels_value};
-ghost use Rattle.form_meaning.specs.Binding as meant;
+ghost use Rattle.form_meaning.specs.Given as meant;
 ghost use Rattle.form_meaning.specs.Infix.{common_name, same_tuples};
 ghost use Rattle.form_meaning.specs.Finish as finish;
 ghost use Rattle.form_parts.specs.Labels.{label_of};

@@ -16,12 +16,14 @@
 
 mod faults;
 mod gaps;
+mod kinds;
 mod labels;
 mod objects;
 mod parts;
 
-pub use faults::{align_refusal, block_of, column_of, refusal_of};
+pub use faults::{align_refusal, block_of, column_of, refusal_of, wrong_kind};
 pub use gaps::{columns_on, rows_of_labels};
+pub use kinds::present_kind;
 pub use labels::{common_name, label_of, name_of, same_heading, same_label, same_rows};
 pub use objects::placed;
-pub use parts::{headings_named, headings_of, table_under, within_limits};
+pub use parts::{headings_named, headings_of, series_table, table_under, within_limits};

@@ -1,11 +1,14 @@
-// The parts that a new table takes over from another.
-ghost use Rattle.std.specs.Prelude.{◌≡◌, All, IfOk};
+// The parts that a new table takes over from another, and Series of their own.
+ghost use Rattle.std.specs.Prelude.{◌≡◌, ◌∷◌, [], length, None, All, IfOk};
+ghost use Rattle.cell_core.specs.declared.grid.Shape.TheVariants.{Series};
 ghost use Rattle.table_meaning.specs.Valid.{IsWhole};
-ghost use Rattle.frame_store.specs.Parts.{headings_of, headings_with, table_of, axis_of, IsSingle};
+ghost use Rattle.frame_store.specs.Parts.{headings_of, headings_with, table_of, table_with, table_column, axis_of, IsSingle};
 ghost use Rattle.form_meaning.specs.Finish as finish;
 
-use cell_core::{Grid, Label, NoMemory};
+use cell_core::{Grid, Label, NoMemory, Shape};
+use column_core::Column;
 use frame_store::{Blocks, Headings, ObjRef, Table};
+use multi_index::Axis;
 use std::alloc::Global;
 
 /// Whether a new table may have so many rows and columns: at most 2^26 rows, 2^16 columns, and
@@ -54,4 +57,22 @@ pub fn table_under(
 {
     let axis = on.axis().copy(alloc)?;
     Ok(Table::new(on.shape(), axis, headings, blocks))
+}
+
+/// The Series of a column, under an axis and a name if it has one. `NoMemory` is the only refusal.
+pub fn series_table(
+    alloc: Global,
+    axis: Axis,
+    name: Option<Label>,
+    column: Column,
+) -> Result<Table, NoMemory>
+    requires { length column.cells ≡ length axis.tuples }
+    ensures { IfOk result (λ made. made ≡ table_with Series axis
+        record { columns_name = None; labels = name ∷ [] } (table_column column ∷ [])) }
+{
+    let mut headings = Headings::new(alloc, None);
+    headings.push(name)?;
+    let mut blocks = Blocks::new(alloc);
+    blocks.push(column.into_block())?;
+    Ok(Table::new(Shape::Series, axis, headings, blocks))
 }

@@ -1,8 +1,8 @@
 -- Laws that the goals of functions want, by the name of the first that does.
 use Rattle.{
-  std.proofs.{Common.{append_assoc, append-nil}, lemmas.{Grind.{flat_map-append}, Cmp.{tied_itself}}},
+  meaning.proofs.Common.{append_assoc, tied_itself, label_total},
+  std.proofs.{Common.{append-nil}, lemmas.Grind.{flat_map-append}},
   frame_format.proofs.{FieldLaws.{places_more, length_measured, at_last, sides_measured}, ToldLaws.{columns_told, headings_seen, column_within, heading_seen, level_within, level_name_seen, kind_seen, levels_told, tuple_seen, row_within, same_seen, cell_seen, label_seen}, EscapeLaws.{shown_text-encode}},
-  cell_core.proofs.LabelLaws.{label_total},
 }
 
 pub ruleset push_all_headings = (append_assoc, append-nil, places_more, flat_map-append)

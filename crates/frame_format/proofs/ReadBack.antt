@@ -1,8 +1,7 @@
 -- What was written as CSV reads back as its records.
 use Rattle.{
-  std.{proofs.Common.{◌≡◌, ◌≤◌, ◌+◌, ◌-◌, ℕ, zero, suc, List, [], ◌∷◌, length, map, Bool, refl, arith, length-append}, specs.List.{flat_map}},
+  meaning.proofs.Common.{◌≡◌, ◌≤◌, ◌+◌, ◌-◌, ℕ, zero, suc, List, [], ◌∷◌, length, map, Bool, refl, arith, length-append, flat_map, Text, na_cell},
   csv.{specs.{Machine.{next_record}, Reading.{records_from, default_config}, Writing.{read_back}}, proofs.RoundTrip.{rows_text, read-write}},
-  meaning.specs.{Text.{Text}, Cell.{na_cell}},
   table_meaning.specs.Table.{Table, rows_of},
   format_meaning.specs.CsvWrite.{record_text, row_fields, csv_text_of},
   frame_format.specs.ReadBack.{table_fields, ReadsBack},

@@ -1,27 +1,18 @@
 -- The fields of records.
 use Rattle.{
-  std.{proofs.{Common.{◌≢◌, Option, subst, append-nil, Vec, false, ◌≡◌, ℕ, ◌+◌, ◌<◌, List, [], ◌∷◌, ◌++◌, length, map, get_or, sym, ap, ◌∙◌, append_assoc, Some, refl, arith}, lemmas.{List.{length-map, get_or-map, Folds.{flat_map-map}, FromFn.{fill_by_all}}, Str.{IsUtf8-append}}}, specs.{List.{flat_map}, Str.{IsUtf8}, Io.KnownBytes.{Appends}}},
-  cell_core.specs.Values.{CellValue, LabelValue, na_cell},
-  meaning.specs.Text.{Text},
+  meaning.proofs.Common.{◌≢◌, Option, subst, false, ◌≡◌, ℕ, ◌+◌, ◌<◌, List, [], ◌∷◌, ◌++◌, length, map, get_or, ap, ◌∙◌, append_assoc, Some, arith, length-map, get_or-map, flat_map-map, fill_by_all, map-map, IsUtf8-append, flat_map, IsUtf8, CellValue, LabelValue, na_cell, Text},
+  std.{proofs.Common.{append-nil, Vec}, specs.Io.KnownBytes.{Appends}},
   table_meaning.specs.Table.{Table, ColumnOf, RowOf, no_column, row_of, rows_of},
-  csv.specs.{Records.{Row, fields_of, partial_of, AllText}, declared.writer.{Writer.{Writer}, WriterBuilder.{WriterBuilder}}, Writing.{row_text, text_written, writer_under, writer_pending, writer_setup, fields_written, has_written, default_writer}},
+  csv.{proofs.RecordFacts.{text-more}, specs.{Records.{Row, fields_of, partial_of, AllText}, declared.writer.{Writer.{Writer}, WriterBuilder.{WriterBuilder}}, Writing.{row_text, text_written, writer_under, writer_pending, writer_setup, fields_written, has_written, default_writer}}},
   format_meaning.specs.{CsvWrite.{cell_field, record_text}, Print.{places}},
-  frame_format.{specs.Written.{HasWritten, IsFilled}, proofs.{FieldLaws.{flat_more}, TextOfRecords.{texts_more, no_texts, record_utf8}}},
+  frame_format.{specs.Written.{HasWritten, IsFilled}, proofs.{FieldLaws.{flat_more}, TextOfRecords.{no_texts, record_utf8}}},
 }
 use Rattle.csv.specs.declared.writer.QuoteStyle.TheVariants as style
 
--- what is made of each item, place by place
-pub each_placed : {A : Type 0} (f : A → Text) (xs : List A) (d : A) (n : ℕ) → length xs ≡ n → map (λ k. f (get_or xs k d)) (places n) ≡ map f xs
-each_placed f xs d n is =
-    sym (fill_by_all _ (map f xs) n [] (length-map xs f ∙ is) (λ k h. get_or-map f xs k d [] (let lt : k < length xs = omega arith in lt)))
-
 -- all fields of a record's part
 pub fields_placed : {A : Type 0} (f : A → Text) (xs : List A) (d : A) (n : ℕ) (first fields : List Text) → fields ≡ first ++ map (λ k. f (get_or xs k d)) (places n) → length xs ≡ n → fields ≡ first ++ map f xs
-fields_placed = grind (arith, each_placed)
-
-map-map : {A B C : Type 0} (g : B → C) (f : A → B) (xs : List A) → map g (map f xs) ≡ map (λ x. g (f x)) xs
-map-map g f [] = refl
-map-map g f (x ∷ xs) = cc (map-map g f xs)
+fields_placed f xs d n _ _ made is =
+    cc (fill_by_all (λ k. f (get_or xs k d)) (map f xs) n [] (length-map xs f ∙ is) (λ k h. get_or-map f xs k d [] (let lt : k < length xs = omega arith in lt)))
 
 -- the fields of a row's cells
 pub cells_placed : (columns : List (ColumnOf CellValue)) (row n : ℕ) (first fields : List Text) → fields ≡ first ++ map (λ k. cell_field (get_or (get_or columns k no_column).cells row na_cell)) (places n) → length columns ≡ n
@@ -45,21 +36,14 @@ appended = grind arith
 pub record_more : {A : Type 0} (w w' : Writer (Vec ℕ A)) (bytes : List ℕ) (fields : List Text) → HasWritten w bytes → AllText fields → writer_setup w' ≡ writer_setup w → fields_written w' ≡ 0 → has_written w' ≡ false
     → (fields_written w ≡ 0 → has_written w ≡ false → (writer_setup w).style ≢ style.NonNumeric → Appends (text_written (λ (v : Vec ℕ A). Some v.items) w) (text_written (λ (v : Vec ℕ A). Some v.items) w') (row_text (writer_setup w) fields))
     → HasWritten w' (bytes ++ record_text fields)
-record_more {A} w _ bytes fields before texts setup ended clean grows =
-    record {
-      setup = search;
-      fields = ended;
-      wrote = clean;
-      utf8 = IsUtf8-append bytes (record_text fields) before.utf8 (record_utf8 _ texts);
-      text = grind (arith, appended);
-    }
+record_more = grind (arith, IsUtf8-append, record_utf8, appended)
 
 -- a record without a field, and one with a field more
 pub cleared : (r : Row) → fields_of r ≡ [] → partial_of r ≡ [] → IsFilled r
 cleared = grind (arith, no_texts)
 
 pub filled_more : (r r' : Row) (t : Text) → IsFilled r → fields_of r' ≡ fields_of r ++ (partial_of r ++ t) ∷ [] → partial_of r' ≡ [] → IsUtf8 t → IsFilled r'
-filled_more = grind (arith, texts_more)
+filled_more = grind (arith, text-more)
 
 -- the header record
 pub header_written : {A : Type 0} (w w' : Writer (Vec ℕ A)) (fields header : List Text) → HasWritten w [] → ((bytes : List ℕ) → HasWritten w bytes → HasWritten w' (bytes ++ record_text fields)) → fields ≡ header → HasWritten w' (record_text header ++ [])

@@ -1,8 +1,6 @@
 -- A whole table is what a grid that is read off it tells.
 use Rattle.{
-  std.{proofs.{Common.{◌≡◌, ℕ, ◌<◌, List, [], length, get_or, refl, sym, arith, None}, lemmas.List.FromFn.{fill_by_all}}, specs.Prelude.{All, slice_index_or}},
-  cell_core.specs.{Grids.{GridValue}, declared.cell.{Label.{Label}, Cell.{Cell}}},
-  meaning.specs.{Text.{Text}, Column.{tabulate}},
+  meaning.proofs.Common.{◌≡◌, ℕ, ◌<◌, List, [], length, get_or, refl, sym, arith, None, fill_by_all, All, slice_index_or, GridValue, Label, Cell, Text, tabulate},
   table_meaning.specs.Table.{ColumnOf, NumberedTable, no_column, column_at, table_value},
   format_meaning.specs.Told.{numbered, told},
 }
@@ -14,7 +12,7 @@ placed : {X : Type 0} (xs : List X) (n : ℕ) (d : X) → length xs ≡ n → ta
 placed xs n d is = sym (fill_by_all _ xs n d is (λ k h. refl))
 
 placed_by : {X : Type 0} (f : ℕ → X) (xs : List X) (n : ℕ) (d : X) → length xs ≡ n → ((k : ℕ) → k < length xs → get_or xs k d ≡ f k) → tabulate n f ≡ xs
-placed_by f xs n d is same = sym (fill_by_all f xs n d is (λ k h. same k (omega (arith, is, h))))
+placed_by f xs n d is same = sym (fill_by_all f xs n d is (grind arith))
 
 -- the table by row and column
 abbrev pub read_off : NumberedTable → GridValue

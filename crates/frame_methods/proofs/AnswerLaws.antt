@@ -1,11 +1,8 @@
 -- The answer of a call, by its method.
 use Rattle.{
-  std.proofs.Common.{arith, ◌≡◌, ℕ, Some, Result},
-  meaning.specs.Fault.{FaultValue},
-  table_meaning.specs.{Table.{NumberedTable, Table, table_value}, Value.{Entry, Given}},
-  form_meaning.specs.{declared.Method.{Method}, Signature.{parameters_of}, Binding.{argument_at, arguments_from}},
+  form_parts.proofs.Common.{arith, ◌≡◌, ℕ, Some, Result, FaultValue, NumberedTable, Table, table_value, Entry, Given, table_at, Makes, OpFault, World, arguments_in},
+  call_meaning.specs.{declared.Method.{Method}, Signature.{parameters_of}, Binding.{argument_at, arguments_from}},
   method_meaning.specs.Methods.{answer_for},
-  frame_store.specs.{Objects.{table_at}, Shown.{Makes}, declared.fault.OpFault.{OpFault}, World.{World, arguments_in}},
   signatures.specs.{Bound.{stands_at}, declared.bound.Bound.{Bound}},
   frame_methods.specs.Calls.{answer_in},
 }

@@ -1,11 +1,6 @@
 -- What is made, as an answer.
 use Rattle.{
-  std.{proofs.Common.{arith, ◌≡◌, ◌∙◌, List, ap, Result, Ok, Err}, specs.Prelude.{IfOk}},
-  cell_core.specs.{Texts.{IsLonger}, declared.cell.Cell.{Cell}},
-  meaning.specs.{Text.{Text}, Cell.{datum}, Fault.{FaultValue}},
-  table_meaning.specs.{Settled.{IsSettled}, Table.{NumberedTable, Table, table_value}, Value.{Entry}},
-  form_parts.specs.Makes.{MakesBy},
-  frame_store.{specs.{declared.{arguments.Value.{Value}, fault.OpFault.{OpFault}}, Objects.{Tables}, Shown.{shown, Makes, FormAnswers}}, proofs.Settling.{seen_later}},
+  form_parts.proofs.Common.{arith, ◌≡◌, ◌∙◌, List, ap, Result, Ok, Err, IfOk, IsLonger, Cell, Text, datum, FaultValue, IsSettled, NumberedTable, Table, table_value, Entry, MakesBy, Value, OpFault, Tables, shown, Makes, FormAnswers, seen_later},
   frame_methods.specs.{declared.made.Made.{Made}, Made.{made_value}},
 }
 use Rattle.table_meaning.specs.Value as value

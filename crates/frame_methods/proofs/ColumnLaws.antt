@@ -1,13 +1,7 @@
 -- Columns that are made one by one.
 use Rattle.{
-  std.proofs.{Common.{◌≡◌, refl, ℕ, ◌+◌, ◌<◌, List, [], ◌∷◌, ◌++◌, map, length, append_assoc, length-append, Result, Ok, Err, slice_index_or, arith}, lemmas.List.{map-append, map_push, drop_more, Elements.{All-push}}},
-  cell_core.specs.declared.cell.Cell.{Cell},
-  meaning.specs.{Text.{Text}, Cell.{CellValue, IsLonger, AreGiven}, Fault.{FaultValue}},
-  column_core.specs.{Columns.{CellColumn}, Blocks.{CellBlock}},
-  table_meaning.specs.{Settled.{IsSettled}, Table.{ColumnOf, NumberedTable, column_value, column_at, no_column, table_value}},
-  form_meaning.specs.Finish.{try_all},
-  frame_store.{specs.{Parts.{block_column, single_block, IsSingle, table_column}, Shown.{columns_value, cells_value}}, proofs.Settling.{settled_later, seen_later, cells_settled, cells_given, column_settled, columns_settled, columns_given, columns_part, longer_twice}},
-  nullable_array.specs.declared.ops.ArrayFault.{ArrayFault},
+  form_parts.proofs.Common.{◌≡◌, refl, ℕ, ◌+◌, ◌<◌, List, [], ◌∷◌, ◌++◌, map, length, append_assoc, Result, Ok, Err, slice_index_or, arith, map-append, map_push, drop_more, All-push, Cell, Text, CellValue, IsLonger, AreGiven, FaultValue, CellColumn, CellBlock, IsSettled, ColumnOf, NumberedTable, column_value, column_at, no_column, table_value, try_all, block_column, single_block, IsSingle, table_column, columns_value, cells_value, settled_later, seen_later, cells_settled, cells_given, column_settled, columns_settled, columns_given, columns_part, longer_twice, ArrayFault},
+  meaning.proofs.Common.{length-append},
   frame_methods.specs.Columns.{IsFront, IsFault},
 }
 

@@ -1,13 +1,8 @@
 -- The CSV text of an object is that of its table.
 use Rattle.{
-  std.proofs.{Common.{◌≡◌, Bool, List, length, slice_get, Some, arith}, lemmas.Option.{get_or_from_slice_get}},
-  cell_core.specs.declared.cell.TextId.{TextId},
-  meaning.specs.{Text.{Text}, Cell.{datum, text_cell}},
-  table_meaning.specs.{Table.{NumberedTable, table_value}, Valid.{IsWhole}},
-  multi_index.specs.Axes.{HaveLevels},
+  form_parts.proofs.Common.{◌≡◌, Bool, List, length, slice_get, Some, arith, get_or_from_slice_get, TextId, Text, datum, text_cell, NumberedTable, table_value, IsWhole, HaveLevels, grid_of},
   format_meaning.specs.{Told.{told}, CsvWrite.{csv_text_of}},
   frame_format.proofs.WholeLaws.{told_whole},
-  frame_store.specs.Grids.{grid_of},
 }
 use Rattle.cell_core.specs.declared.cell.Cell.TheVariants as cell
 

@@ -1,16 +1,10 @@
 -- Numbers that tell rows apart, and marks of the rows that an earlier row equals.
 use Rattle.{
-  std.{proofs.{Common.{◌≡◌, ◌∙◌, append_assoc, refl, ap, sym, arith, rules, ℕ, zero, suc, ◌+◌, ◌<◌, ◌≤◌, Bool, true, ◌&&◌, ◌||◌, nat_eq, List, [], ◌∷◌, ◌++◌, map, length, drop, set, slice_index_or, slice_get, All, Some, None, Ok}, Math.ListN.{get_or-map}, lemmas.{Bool.{cases_eq, Decides.{nat_tests, same_from_decides}}, List.{length-map, length-set, drop_more, get_or-set_same, get_or-set_other, Elements.{recursion_from_All, All-map}, Folds.{list_any-append}}, Map.Keys.{apart_from_distinct}, Simd.{map-map}, Option.{slice_get_within, get_or_from_slice_get}}}, specs.{Prelude.{slice_index, not}, Bool.{Decides}, Cmp.Lexicographic.{pointwise}, List.{AllByRecursion as ByRecursion, list_any, range_with_len, IsDistinct}}},
+  form_parts.proofs.Common.{◌≡◌, ◌∙◌, append_assoc, refl, ap, sym, arith, rules, ℕ, zero, suc, ◌+◌, ◌<◌, ◌≤◌, Bool, true, ◌&&◌, ◌||◌, nat_eq, List, [], ◌∷◌, ◌++◌, map, length, drop, set, slice_index_or, slice_get, All, Some, None, Ok, get_or-map, nat_tests, length-map, length-set, drop_more, get_or-set_same, get_or-set_other, All-map, list_any-append, map-map, slice_get_within, get_or_from_slice_get, slice_index, not, Decides, pointwise, AllByRecursion as ByRecursion, list_any, range_with_len, IsDistinct, AreDistinct, Cell, Boolean, Series, CellColumn, na_cell, datum, IsGiven, same_cell, Text, AxisValue, ColumnOf, NumberedTable, column_at, no_column, table_value, within_limits, table_with, axis_of, table_column, Makes, IsKnownTable, columns_part, columns_given, level_names_part, labels_part, columns_settled, table_settled},
+  meaning.proofs.Common.{cases_eq, same_from_decides, recursion_from_All, apart_from_distinct},
   indexmap.specs.IndexSet.{insert_key},
-  cell_core.specs.{Texts.{AreDistinct}, declared.{cell.{Cell.{Cell}, Kind.TheVariants.{Boolean}}, grid.Shape.TheVariants.{Series}}},
-  column_core.specs.Columns.{CellColumn},
-  meaning.specs.{Cell.{na_cell, datum, IsGiven}, Reduce.{same_cell}, Text.{Text}},
-  multi_index.specs.Axes.{AxisValue},
-  table_meaning.specs.Table.{ColumnOf, NumberedTable, column_at, no_column, table_value},
-  form_meaning.specs.Finish.{within_limits},
   method_meaning.specs.Rows.{cells_by_row, repeats},
   column_operators.specs.Marks.{same_number},
-  frame_store.{specs.{Parts.{table_with, axis_of, table_column}, Shown.{Makes}, World.{IsKnownTable}}, proofs.Settling.{columns_part, columns_given, level_names_part, labels_part, columns_settled, table_settled}},
   selections.{specs.Across.{cell_across}, proofs.{AnswerLaws.{column_seen}, PickedLaws.{listed_is, places_inside}}},
   label_methods.{specs.Rows.{row_cells}, proofs.{RowLaws.{cells_in, by_rows}, TableLaws.{limited_within}}},
   frame_methods.{specs.Rows.{AreNumbers, duplicated_among}, proofs.ListedLaws.{cell_by_number}},

@@ -1,8 +1,6 @@
 -- The cells that an operation holds were given.
 use Rattle.{
-  std.proofs.{Common.{suc, List, [], ◌∷◌, arith}, lemmas.List.{length-append, Elements.{All-cons, All-nil}}},
-  cell_core.specs.declared.cell.Cell.{Cell},
-  meaning.specs.{Text.{Text}, Cell.{IsGiven, AreGiven, IsLonger}},
+  form_parts.proofs.Common.{suc, List, [], ◌∷◌, arith, length-append, All-cons, All-nil, Cell, Text, IsGiven, AreGiven, IsLonger},
   frame_methods.specs.Columns.{EachGiven},
 }
 

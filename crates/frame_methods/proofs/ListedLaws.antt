@@ -1,13 +1,7 @@
 -- Cells that are in a list, by number and with texts.
 use Rattle.{
-  std.{proofs.{Common.{◌≡◌, ◌∙◌, ◌<◌, ◌+◌, refl, sym, ℕ, Bool, true, ◌||◌, List, [], ◌∷◌, ◌++◌, length, drop, get_or, Option, Some, None, IfSome, Result, arith}, lemmas.List.{map-append, Folds.{list_any-append}, Elements.{All-push}}}, specs.{Option.{option_map}, Bool.{Decides}, List.{list_any}}},
-  cell_core.specs.{declared.cell.Cell.{Cell}, Texts.{AreDistinct}},
-  form_parts.{specs.Labels.{label_of}, proofs.LabelLaws.{same_by_number}},
-  meaning.specs.{Text.{Text}, Cell.{CellValue, truth_cell, datum, label_datum, IsGiven, AreGiven}, Operator.{cell_label}, Reduce.{same_cell}, Fault.{FaultValue}},
-  table_meaning.specs.{Settled.{IsSettled}, Table.{Table}, Value.{Entry, GivenList}},
-  form_meaning.specs.{Make.{on}, Select.{cells_of}},
+  form_parts.proofs.Common.{◌≡◌, ◌∙◌, ◌<◌, ◌+◌, refl, sym, ℕ, Bool, true, ◌||◌, List, [], ◌∷◌, ◌++◌, length, drop, get_or, Option, Some, None, IfSome, Result, arith, map-append, list_any-append, All-push, option_map, Decides, list_any, Cell, AreDistinct, label_of, same_by_number, Text, CellValue, truth_cell, datum, label_datum, IsGiven, AreGiven, cell_label, same_cell, FaultValue, IsSettled, Table, Entry, GivenList, on, cells_of, Tables, items_of, cells_value, Item, cell_settled, cell_given},
   method_meaning.specs.Methods.{is_in, each_column},
-  frame_store.{specs.{Objects.{Tables}, Arguments.{items_of}, Shown.{cells_value}, declared.arguments.Item.{Item}}, proofs.Settling.{cell_settled, cell_given}},
   signatures.{proofs.ScalarLaws.{scalars_are}, specs.Scalars.{scalars, with_cell}},
   label_methods.proofs.ScalarLaws.{IsScalarOf, scalars_from},
   frame_methods.specs.{Listed.{noted, listed_column}, Columns.{EachGiven}},

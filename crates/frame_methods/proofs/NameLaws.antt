@@ -1,10 +1,6 @@
 -- Objects under other headings.
 use Rattle.{
-  std.proofs.Common.{arith, ◌≡◌, refl, pos, List, [], ◌∷◌, ◌++◌, length, Option, Some, None, slice_index_or, unwrap_or, Result},
-  cell_core.specs.declared.cell.Label.{Label},
-  meaning.specs.{Text.{Text}, Cell.{LabelValue, int, label_datum}, Fault.{FaultValue}},
-  table_meaning.specs.{Settled.{IsSettled}, Table.{heading_value}, Value.{Entry}},
-  frame_store.specs.{declared.{arguments.Value.{Value}, fault.OpFault.{OpFault}}, Parts.{HeadingList}, Shown.{Shown, headings_value, FormAnswers}},
+  form_parts.proofs.Common.{arith, ◌≡◌, refl, pos, List, [], ◌∷◌, ◌++◌, length, Option, Some, None, slice_index_or, unwrap_or, Result, Label, Text, LabelValue, int, label_datum, FaultValue, IsSettled, heading_value, Entry, Value, OpFault, HeadingList, Shown, headings_value, FormAnswers},
   label_methods.specs.Labels.{column_tuple},
 }
 

@@ -1,14 +1,8 @@
 -- What is made of a column, with texts.
 use Rattle.{
-  std.{proofs.{Common.{arith, ◌≡◌, ◌∙◌, refl, ap, sym, ℕ, suc, ◌+◌, ◌-◌, ℤ, pos, negsuc, nat_lt, Bool, List, [], ◌∷◌, map, length, Result, Ok, IfOk, Option, if◌then◌else◌}, lemmas.{List.{length-map, FromFn.{length-map-range_with_len}, Elements.{All-map}}, Simd.{map-map}}, Math.ListN.{get_or-map}}, specs.List.{range_with_len}},
-  cell_core.specs.declared.cell.{Cell.{Cell}, Kind.{Kind}},
-  meaning.specs.{Text.{Text}, Cell.{CellValue, na_cell, datum, IsGiven, AreGiven}, Column.{ColumnValue, ColumnFault, try_each, tabulate, shifted, shifted_row}, Cast.{cast_column}, Cumulate.{Cumulation, running, cumulate_column}},
-  column_core.specs.Columns.{CellColumn},
-  nullable_array.specs.{Answers.{Answers}, declared.ops.ArrayFault.{ArrayFault}},
-  table_meaning.specs.Table.{column_value},
-  form_meaning.specs.Finish.{made_column},
+  form_parts.proofs.Common.{arith, ◌≡◌, ◌∙◌, refl, ap, sym, ℕ, suc, ◌+◌, ◌-◌, ℤ, pos, negsuc, nat_lt, Bool, List, [], ◌∷◌, map, length, Result, Ok, IfOk, Option, if◌then◌else◌, length-map, length-map-range_with_len, All-map, map-map, get_or-map, range_with_len, Cell, Kind, Text, CellValue, na_cell, datum, IsGiven, AreGiven, ColumnValue, tabulate, CellColumn, Answers, ArrayFault, column_value, made_column, cells_value, table_column, settled_by, cells_settled, cells_given},
+  meaning.proofs.Common.{ColumnFault, try_each, shifted, shifted_row, cast_column, Cumulation, running, cumulate_column},
   method_meaning.specs.Methods.{mapped, shifted_column},
-  frame_store.{specs.{Shown.{cells_value}, Parts.{table_column}}, proofs.Settling.{settled_by, cells_settled, cells_given}},
   frame_methods.specs.Columns.{MakesColumn},
 }
 use Rattle.cell_core.specs.declared.cell.Cell.TheVariants as cell

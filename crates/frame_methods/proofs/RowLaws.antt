@@ -1,15 +1,10 @@
 -- Tables of some rows of another one.
 use Rattle.{
-  std.{proofs.{Common.{◌≡◌, ◌∙◌, ap, arith, ℕ, zero, suc, ◌+◌, ◌-◌, ◌<◌, ◌≤◌, min, ℤ, pos, negsuc, Bool, true, false, List, [], ◌∷◌, ◌++◌, map, length, take, slice_index_or, All, Option, Some, Result, Ok}, lemmas.List.{length-map, take_all, FromFn.{length-range_with_len}}}, specs.{Int.{div_ceil}, Ordering.{int_eq}, List.{list_all, range_with_len}}},
-  cell_core.specs.declared.{cell.Cell.{Cell}, grid.Rows.{Rows}},
-  column_core.proofs.MoveLaws.{get_or-tabulate},
-  meaning.specs.{Cell.{na_cell}, Fault.{FaultValue}, Reduce.{is_present}, Text.{Text}},
-  table_meaning.specs.{Settled.{IsSettled}, Table.{ColumnOf, NumberedTable, Table, row_of, column_at, table_value, tuple_value}, Value.{Entry, table}},
-  form_meaning.specs.Finish.{limited, within_limits},
+  form_parts.proofs.Common.{◌≡◌, ◌∙◌, ap, arith, ℕ, zero, suc, ◌+◌, ◌-◌, ◌<◌, ◌≤◌, ℤ, pos, negsuc, Bool, true, false, List, [], ◌∷◌, ◌++◌, map, length, take, slice_index_or, All, Option, Some, Result, Ok, length-map, take_all, length-range_with_len, list_all, range_with_len, Cell, Rows, get_or-tabulate, na_cell, FaultValue, Text, IsSettled, ColumnOf, NumberedTable, Table, row_of, column_at, table_value, tuple_value, Entry, table, limited, within_limits, table_or, HeadingList, columns_value, Makes, OpFault},
+  meaning.proofs.Common.{min, div_ceil, int_eq, is_present},
   pick_meaning.{specs.{Positions.{rows_before}, Rows.{rows_of, rows_where}}, proofs.{InsideLaws.{rows_inside}, RowLaws.{rows_more_yes, rows_more_no}}},
   select_meaning.specs.Select.{rows_taken},
   method_meaning.specs.Rows.{head_result, tail_result, cells_by_row, all_places},
-  frame_store.specs.{Objects.{table_or}, Parts.{HeadingList}, Shown.{columns_value, Makes}, declared.fault.OpFault.{OpFault}},
   selections.{specs.Chosen.{chosen}, proofs.{PickedLaws.{listed_is, read_is}, TakenLaws.{chosen_rows, chosen_settled}, AnswerLaws.{own_name, own_labels}}},
   label_methods.proofs.{RowLaws.{cells_in, by_rows}, TableLaws.{limited_within}},
   frame_methods.specs.Rows.{complete},

@@ -1,14 +1,8 @@
 -- Series over the labels of columns.
 use Rattle.{
-  std.proofs.{Common.{arith, ◌≡◌, refl, ap, sym, true, List, [], ◌∷◌, map, length, None, Ok}, lemmas.List.{length-map}},
-  cell_core.specs.declared.{cell.Kind.{Kind}, grid.Shape.TheVariants.{Series, Frame}},
-  meaning.specs.{Text.{Text}, Cell.{datum, AreGiven}},
-  column_core.specs.Columns.{CellColumn},
-  multi_index.specs.Axes.{AxisValue},
-  table_meaning.specs.{Table.{NumberedTable, table_value, heading_value}, Value.{table}, Settled.{IsSettled}},
-  form_meaning.specs.Finish.{within_limits, try_all, across_columns},
+  form_parts.proofs.Common.{arith, ◌≡◌, refl, ap, sym, true, List, [], ◌∷◌, map, length, None, Ok, length-map, Kind, Series, Frame, Text, datum, AreGiven, CellColumn, AxisValue, NumberedTable, table_value, heading_value, table, IsSettled, within_limits, try_all, table_with, table_column, labels_value, headings_value, columns_value, settled_by, columns_name_part, headings_part, columns_settled, table_settled},
+  form_meaning.specs.Finish.{across_columns},
   method_meaning.specs.Methods.{Summary, kind_for, summary_as, summary_of},
-  frame_store.{specs.{Parts.{table_with, table_column}, Shown.{labels_value, headings_value, columns_value}}, proofs.Settling.{settled_by, columns_name_part, headings_part, columns_settled, table_settled}},
   label_methods.{specs.Labels.{column_tuple}, proofs.{TableLaws.{limited_within}, ColumnLabelLaws.{tuples_seen}}},
 }
 

@@ -1,11 +1,8 @@
 -- Summaries of columns.
 use Rattle.{
-  std.{proofs.{Common.{arith, ◌≡◌, append_assoc, ◌<◌, ◌+◌, ◌^◌, ℕ, pos, mod-eq_of_lt, List, [], ◌∷◌, ◌++◌, length, length-append, Result, Ok}, lemmas.List.{map-append, drop_more, Elements.{All-push}}}, specs.Int.{int_wrap, cast_signed, w64}},
-  cell_core.specs.declared.cell.{Cell.{Cell}, Kind.{Kind}},
-  meaning.specs.{Text.{Text}, Cell.{CellValue, datum, IsGiven}, Fault.{FaultValue}, Reduce.{distinct_count}},
-  column_core.specs.Columns.{CellColumn},
-  table_meaning.specs.Table.{ColumnOf, column_value, column_at, no_column},
-  frame_store.specs.Parts.{table_column},
+  form_parts.proofs.Common.{arith, ◌≡◌, append_assoc, ◌<◌, ◌+◌, ◌^◌, ℕ, pos, List, [], ◌∷◌, ◌++◌, length, Result, Ok, map-append, drop_more, All-push, cast_signed, w64, Cell, Kind, Text, CellValue, datum, IsGiven, FaultValue, CellColumn, ColumnOf, column_value, column_at, no_column, table_column},
+  std.specs.Int.{int_wrap},
+  meaning.proofs.Common.{mod-eq_of_lt, length-append, distinct_count},
   frame_methods.specs.Summaries.{AreCells, counted_cell},
 }
 use Rattle.column_core.specs.Columns as kernel

@@ -1,12 +1,7 @@
 -- Tables that are made of others.
 use Rattle.{
-  std.proofs.{Common.{arith, ◌≡◌, true, List, map, length, All, Result, Ok}, lemmas.List.{length-map}},
-  cell_core.specs.declared.cell.Cell.{Cell},
-  meaning.specs.{Text.{Text}, Cell.{CellValue, AreGiven, IsLonger}, Fault.{FaultValue}},
-  column_core.specs.Blocks.{CellBlock},
-  table_meaning.specs.{Table.{ColumnOf, NumberedTable, table_value}, Value.{table}, Settled.{IsSettled}},
-  form_meaning.specs.Finish.{within_limits, with_columns, try_all},
-  frame_store.{specs.{Parts.{block_column, table_with, axis_of, HeadingList}, Shown.{columns_value}}, proofs.Settling.{settled_later, seen_later, columns_name_part, level_names_part, labels_part, headings_part, with_columns_settled}},
+  form_parts.proofs.Common.{arith, ◌≡◌, true, List, map, length, All, Result, Ok, length-map, Cell, Text, CellValue, AreGiven, IsLonger, FaultValue, CellBlock, ColumnOf, NumberedTable, table_value, table, IsSettled, within_limits, with_columns, try_all, block_column, table_with, axis_of, HeadingList, columns_value, settled_later, seen_later, columns_name_part, level_names_part, labels_part, headings_part},
+  frame_store.proofs.Settling.{with_columns_settled},
 }
 use Rattle.method_meaning.specs.Methods as meant
 

@@ -5,8 +5,8 @@ use Rattle.meaning.specs.Fault.{FaultValue}
 use Rattle.table_meaning.specs.Settled.{IsSettled}
 use Rattle.table_meaning.specs.Table.{Table}
 use Rattle.table_meaning.specs.Value.{Entry}
-use Rattle.form_meaning.specs.declared.Method.{Method}
-use Rattle.form_meaning.specs.Signature.{parameters_of, fits_shape}
+use Rattle.call_meaning.specs.declared.Method.{Method}
+use Rattle.call_meaning.specs.Signature.{parameters_of, fits_shape}
 use Rattle.method_meaning.specs.Methods.{answer_for, is_built}
 use Rattle.frame_store.specs.declared.fault.OpFault.{OpFault}
 use Rattle.frame_store.specs.declared.fault.OpFault.TheVariants.{Refused, NoMemory}

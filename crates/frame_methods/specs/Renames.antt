@@ -10,7 +10,7 @@ use Rattle.meaning.specs.Operator.{cell_label}
 use Rattle.meaning.specs.Fault.{FaultValue, wrong_kind}
 use Rattle.table_meaning.specs.Table.{heading_value}
 use Rattle.table_meaning.specs.Value.{Given, scalar_in}
-use Rattle.form_meaning.specs.Binding.{same_label}
+use Rattle.call_meaning.specs.Binding.{same_label}
 use Rattle.form_meaning.specs.Finish.{first_repeated, unless_repeated}
 use Rattle.frame_store.specs.Parts.{HeadingList}
 use Rattle.frame_store.specs.Shown.{headings_value}

@@ -5,19 +5,19 @@ ghost use Rattle.meaning.specs.Cell.{datum, IsGiven};
 ghost use Rattle.table_meaning.specs.Settled.{IsSettled};
 ghost use Rattle.table_meaning.specs.Table.{table_value};
 ghost use Rattle.table_meaning.specs.Value.{scalar_in};
-ghost use Rattle.form_meaning.specs.Binding.{HasNoText};
-ghost use Rattle.form_meaning.specs.declared.Form.TheVariants.{Scalar};
+ghost use Rattle.call_meaning.specs.Binding.{HasNoText};
+ghost use Rattle.call_meaning.specs.declared.Accepted.TheVariants.{Scalar};
 ghost use Rattle.method_meaning.specs.Calls.{called, has_method};
 ghost use Rattle.method_meaning.specs.Methods as meant;
-ghost use Rattle.form_meaning.specs.Signature.{method_named as named_method};
+ghost use Rattle.call_meaning.specs.Signature.{method_named as named_method};
 ghost use Rattle.frame_store.specs.Arguments.{arguments_of, entry_of, IsLive};
 ghost use Rattle.frame_store.specs.Objects.{tables, table_at};
 ghost use Rattle.frame_store.specs.World.{world, arguments_in, AreKnownArguments};
-ghost use Rattle.signatures.specs.Bound.{Tells, form_at};
+ghost use Rattle.signatures.specs.Bound.{Tells, accepted_at};
 ghost use Rattle.frame_methods.specs.Calls.{Binds};
 
+use call_meaning::Method;
 use cell_core::{Cell, Code, Grid, TextDict};
-use form_meaning::Method;
 use frame_store::{Named, ObjId, OpFault, Store, Value};
 use label_methods::no_attribute;
 use signatures::{Bound, bind, method_named, parameters};
@@ -53,7 +53,7 @@ fn is_built(method: Method) -> bool
 // The scalar that stands at a place, where the parameter always has one: its text was given, since those of all
 // arguments were. The store and the dictionary serve these clauses alone. Takes no memory.
 pub(crate) fn given_scalar(store: &Store, dict: &TextDict, bound: &Bound<'_>, place: usize) -> Cell
-    requires sure { form_at bound.now place ≡ Some Scalar }
+    requires sure { accepted_at bound.now place ≡ Some Scalar }
     requires no_text { HasNoText (slice_get bound.now.parameters.now place) }
     requires given { IsSettled (arguments_of (tables store.now)) dict.now bound.now.args.now }
     ensures told { Tells bound.now place scalar_in (λ _ texts. Some (datum texts result)) }
@@ -63,7 +63,7 @@ pub(crate) fn given_scalar(store: &Store, dict: &TextDict, bound: &Bound<'_>, pl
 }
 
 // The call of the method of the name that an object has, if it is built and takes the arguments.
-#[tactic(auto, using(form_meaning::proofs::ShapeLaws::named_fits))]
+#[tactic(auto, using(call_meaning::proofs::ShapeLaws::named_fits))]
 pub(crate) fn bound_call<'a>(
     alloc: Global,
     store: &Store,

@@ -6,7 +6,7 @@ ghost use Rattle.meaning.specs.Fault.{FaultValue};
 ghost use Rattle.table_meaning.specs.Settled.{IsSettled};
 ghost use Rattle.table_meaning.specs.Value.{Entry};
 ghost use Rattle.method_meaning.specs.Calls.{chain_result, method_result};
-ghost use Rattle.form_meaning.specs.declared.Method.TheVariants.{Rows, Levels, Labels, Table as Whole};
+ghost use Rattle.call_meaning.specs.declared.Method.TheVariants.{Rows, Levels, Labels, Table as Whole};
 ghost use Rattle.form_parts.specs.Makes.{MakesBy};
 ghost use Rattle.frame_store.specs.Arguments.{entry_of, object_value, shape_at, IsLive};
 ghost use Rattle.frame_store.specs.Objects.{tables};
@@ -26,8 +26,8 @@ use crate::renaming::{rename_frame, rename_series, to_frame};
 use crate::rows::{dropna, head, tail};
 use crate::sorts::{sort_index, sort_values};
 use crate::summaries::{summarize, summary_of};
+use call_meaning::{LabelMethod, LevelMethod, Method, RowMethod, TableMethod};
 use cell_core::{Code, Grid, TextDict};
-use form_meaning::{LabelMethod, LevelMethod, Method, RowMethod, TableMethod};
 use form_parts::{name_of, placed};
 use frame_store::{Chain, Named, NamedList, ObjId, OpFault, Store, Table, Value};
 use label_methods::{

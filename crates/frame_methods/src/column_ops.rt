@@ -2,7 +2,7 @@
 ghost use Rattle.std.specs.Prelude.{◌≡◌, [], ◌∷◌, map, slice_index_or, IfOk, IsSome};
 ghost use Rattle.cell_core.specs.declared.cell.Kind.TheVariants.{Boolean};
 ghost use Rattle.meaning.specs.Cell.{na_cell};
-ghost use Rattle.form_meaning.specs.declared.Method.TheVariants.{Columns};
+ghost use Rattle.call_meaning.specs.declared.Method.TheVariants.{Columns};
 ghost use Rattle.method_meaning.specs.Methods.{filled_column, shifted_column, cast_as, cumulated};
 ghost use Rattle.nullable_array.specs.Folds.{cumulation_of};
 ghost use Rattle.column_operators.specs.Marks.{missing_mark};
@@ -15,12 +15,12 @@ ghost use Rattle.frame_methods.specs.Listed.{listed_column};
 
 use crate::binding::given_scalar;
 use crate::columns::{ColumnOp, MadeColumn};
-use crate::listed::{Listed, listed_cells};
+use crate::listed::{ListedCells, listed_cells};
 use crate::tables::columns_placed;
+use call_meaning::ColumnMethod;
 use cell_core::{Cell, Kind, NoMemory, TextDict};
 use column_core::{ColRef, Column, shift};
 use column_operators::{fillna, isin, isna, notna};
-use form_meaning::ColumnMethod;
 use frame_store::{ObjId, OpFault, Store, Value};
 use nullable_array::{ArrayFault, Cumulation, cast, cumulate};
 use signatures::Bound;
@@ -72,7 +72,7 @@ impl ColumnOp for Filled {
 }
 
 // Whether each cell is in a list.
-impl ColumnOp for Listed {
+impl ColumnOp for ListedCells {
     ghost held = { λ s. s.values.keys };
 
     ghost answer = { λ _ cells. listed_column cells };
@@ -153,7 +153,7 @@ pub(crate) fn columns_answer(
         }
         ColumnMethod::Isin => {
             let values = listed_cells(alloc, dict, bound.list(0))?;
-            columns_placed(alloc, store, dict, &Listed { values }, on)
+            columns_placed(alloc, store, dict, &ListedCells { values }, on)
         }
         ColumnMethod::Astype => {
             let kind = bound.kind(dict, 0);

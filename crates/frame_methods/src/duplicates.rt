@@ -8,10 +8,9 @@ ghost use Rattle.frame_store.specs.Shown.{Makes};
 ghost use Rattle.frame_store.specs.World.{IsKnownTable};
 ghost use Rattle.frame_methods.specs.Rows.{AreNumbers, duplicated_among};
 
-use crate::series::series_table;
 use cell_core::{Cell, Code, Grid, Kind, NoMemory, Places, TextDict};
 use column_core::Column;
-use form_parts::within_limits;
+use form_parts::{series_table, within_limits};
 use frame_store::{ObjRef, OpFault, Table};
 use indexmap::IndexSet;
 use std::alloc::Global;

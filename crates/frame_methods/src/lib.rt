@@ -37,7 +37,6 @@ mod made;
 mod relabelling;
 mod renaming;
 mod rows;
-mod series;
 mod sort_keys;
 mod sorts;
 mod summaries;

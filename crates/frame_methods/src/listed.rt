@@ -15,7 +15,7 @@ use std::alloc::Global;
 
 // Whether a cell is among these. Texts are told apart by their numbers.
 #[derive(Drop)]
-pub(crate) struct Listed {
+pub(crate) struct ListedCells {
     pub(crate) values: IndexSet<Cell>,
 }
 

@@ -5,7 +5,7 @@ ghost use Rattle.cell_core.specs.declared.grid.Shape.TheVariants.{Frame};
 ghost use Rattle.table_meaning.specs.Settled.{IsSettled};
 ghost use Rattle.table_meaning.specs.Table.{table_value};
 ghost use Rattle.table_meaning.specs.Valid.{IsWhole, AreHeadings};
-ghost use Rattle.form_meaning.specs.Binding.{same_label};
+ghost use Rattle.call_meaning.specs.Binding.{same_label};
 ghost use Rattle.form_parts.specs.Makes.{MakesBy};
 ghost use Rattle.frame_store.specs.Shown.{headings_value};
 ghost use Rattle.frame_methods.specs.Renames.{given_labels, pairs_seen, have_labels, heading_by, relabelled, labels_seen};

@@ -15,11 +15,10 @@ ghost use Rattle.label_methods.specs.Columns.{seen_column};
 ghost use Rattle.frame_methods.specs.Summaries.{summary_value, counted_cell, column_cells};
 
 use crate::made::Made;
-use crate::series::series_table;
+use call_meaning::SummaryMethod;
 use cell_core::{Cell, Code, Grid, Kind, Shape, TextDict};
 use column_core::{ColRef, Column};
-use form_meaning::SummaryMethod;
-use form_parts::{refusal_of, within_limits};
+use form_parts::{refusal_of, series_table, within_limits};
 use frame_store::{ObjRef, OpFault, Table};
 use label_methods::columns_axis;
 use nullable_array::{Reduction, distinct, reduce};

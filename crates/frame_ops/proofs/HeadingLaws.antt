@@ -1,14 +1,7 @@
 -- Labels of columns, labels of rows that are those of columns, and tables under the headings that an operator gives them.
 use Rattle.{
-  frame_store.{specs.{Shown.{Makes, headings_value, labels_value}, Parts.{HeadingList, block_column, table_with, axis_of}}, proofs.Settling.{columns_name_part, headings_part}},
-  std.{proofs.{Common.{◌≡◌, ℕ, ◌+◌, ◌<◌, Bool, true, false, List, [], ◌∷◌, ◌++◌, length, map, drop, refl, ap, sym, subst, arith, nat_eq, add-one, Option, Some, None, slice_index_or, Result, Ok}, Math.Seq.{drop-cons}, lemmas.{List.{get_or-map, length-map}, Bool.Decides.{nat_tests}}}, specs.{Prelude.{◌≢◌}, Cmp.Lexicographic.{as_long}}},
-  cell_core.specs.{declared.{cell.Label.{Label}, grid.Shape.{Shape, TheVariants.{Series, Frame}}}, Texts.{IsLonger}},
-  meaning.specs.{Text.{Text}, Cell.{LabelValue, na, label_datum, CellValue}, Fault.{FaultValue, then_value}},
-  multi_index.specs.Axes.{HaveLevels},
-  table_meaning.specs.{Settled.{IsSettled}, Table.{heading_value, ColumnOf, NumberedTable, table_value}, Valid.{AreHeadings, IsWhole}},
-  form_meaning.specs.{Finish.{same_heading, with_columns}, Infix.{same_headings, are_headings, tuple_heading}},
-  form_parts.{proofs.{RowLaws.{tuples_settled}, TableMade.{under_settled, whole_under, made_is_settled, made_is_meant}}, specs.Makes.{blocks_value, AreColumns}},
-  column_core.specs.Blocks.{CellBlock},
+  form_parts.proofs.{Common.{Makes, headings_value, labels_value, HeadingList, block_column, table_with, axis_of, columns_name_part, headings_part, ◌≡◌, ℕ, ◌+◌, ◌<◌, Bool, true, false, List, [], ◌∷◌, ◌++◌, length, map, drop, refl, ap, sym, arith, nat_eq, add-one, Option, Some, None, slice_index_or, Result, Ok, drop-cons, length-map, nat_tests, ◌≢◌, Label, Shape, Series, Frame, IsLonger, Text, LabelValue, na, label_datum, CellValue, FaultValue, then_value, HaveLevels, IsSettled, heading_value, ColumnOf, NumberedTable, table_value, AreHeadings, IsWhole, same_heading, with_columns, are_headings, tuple_heading, tuples_settled, made_is_settled, made_is_meant, blocks_value, AreColumns, CellBlock}, TableMade.{under_settled, whole_under}},
+  meaning.proofs.Common.{get_or-map},
   frame_ops.specs.{declared.naming.Naming.{Naming, TheVariants.{Kept, Name, ColumnsName}}, Namings.{headings_by, named_by, IsNaming, IsSettledNaming}},
 }
 use Rattle.cell_core.specs.declared.cell.Label.TheVariants as label
@@ -20,13 +13,10 @@ label_settled texts ls l k settled alike lt is =
     let t = slice_index_or ls k [] in
     let inside : 0 < length t = omega (arith, alike k [] lt) in
     let tuple = tuples_settled _ ls settled k [] lt in
-    subst (λ x. IsSettled heading_value texts (Some x)) (sym is) (λ more.
+    rw is (λ more.
     ap Some (cc (get_or-map (label_datum (texts ++ more)) t 0 label.Na na inside, tuple more, get_or-map (label_datum texts) t 0 label.Na na inside)))
 
 -- tables with columns of different numbers
-pub other_count : (texts : List Text) (a b : List (Option Label)) → length a ≢ length b → false ≡ same_headings (headings_value texts a) (headings_value texts b)
-other_count = grind (arith, as_long same_heading, length-map)
-
 labels_differ : (x : List (List LabelValue)) (y : List (Option LabelValue)) → length x ≢ length y → are_headings x y ≡ false
 labels_differ [] _ n = grind arith
 labels_differ (t ∷ ls) [] n = grind arith

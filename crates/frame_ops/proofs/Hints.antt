@@ -1,9 +1,7 @@
 -- Laws that the goals of functions want, by the name of the first that does.
 use Rattle.{
+  form_parts.proofs.Common.{labels_part, length-map, nat_tests, single_on},
   frame_ops.proofs.{MeetingLaws.{columns_seen}, HeadingLaws.{other_rows, label_settled, counted_by, fits_by}, JoinLaws.{sides_beyond, meant_of}, WideLaws.{one_unfit, one_more_fits, one_more_spread, spread_refused, spread_beyond, spread_made, known_wide, widened_seen}, InfixLaws.{joined_tests, makes_as}},
-  frame_store.proofs.Settling.{labels_part},
-  std.proofs.lemmas.{List.{length-map}, Bool.Decides.{nat_tests}},
-  form_parts.proofs.GapLaws.{single_on},
 }
 
 pub ruleset infix_columns = columns_seen

@@ -1,12 +1,9 @@
 -- What an operator or a sign makes of its operands is what is meant.
 use Rattle.{
+  form_parts.proofs.Common.{◌≡◌, nat_eq, Bool, true, List, [], ◌∷◌, length, refl, arith, Result, Ok, Err, if◌then◌else◌, ℕ, suc, false, map, replicate, Some, length-map, list_all, Cell, Series, Text, AreGiven, CellValue, truth_cell, IsGiven, FaultValue, bad_value, not_aligned, then_value, Binary, NumberedTable, Table, table_value, column_at, no_column, ColumnOf, IsSettled, IsWhole, Entry, OpFault, Value, Object, Scalar, ObjId, headings_value, labels_value, Makes, entry_of, Tables, columns_given, columns_part, cell_given, with_columns, try_all, on_levels, same_tuples, are_headings, beside, compares, meets, met, with_scalar},
+  meaning.{proofs.Common.{try_pairs, operator_cell, invert_cell}, specs.Symbol.{xor}},
   selections.proofs.AnswerLaws.{column_seen},
-  std.{proofs.{Common.{◌≡◌, nat_eq, Bool, true, List, [], ◌∷◌, length, refl, arith, Result, Ok, Err, if◌then◌else◌, ℕ, suc, false, map, replicate, Some}, lemmas.List.{length-map}}, specs.List.{list_all}},
-  cell_core.specs.declared.{cell.Cell.{Cell}, grid.Shape.TheVariants.{Series}},
-  meaning.specs.{Text.{Text}, Cell.{AreGiven, CellValue, truth_cell, IsGiven}, Fault.{FaultValue, bad_value, not_aligned, then_value}, Symbol.{Binary, xor}, Column.{try_pairs}, Operator.{operator_cell, invert_cell}},
-  table_meaning.specs.{Table.{NumberedTable, Table, table_value, column_at, no_column, ColumnOf}, Settled.{IsSettled}, Valid.{IsWhole}, Value.{Entry}},
-  frame_store.{specs.{declared.{fault.OpFault.{OpFault}, arguments.Value.{Value, TheVariants.{Object, Scalar}}, object.ObjId.{ObjId}}, Shown.{headings_value, labels_value, Makes}, Arguments.{entry_of}, Objects.{Tables}}, proofs.Settling.{columns_given, columns_part, cell_given}},
-  form_meaning.specs.{Finish.{with_columns, try_all}, Infix.{on_levels, same_tuples, are_headings, beside, across_series, compares, rows_infix, across_infix, meets, met, with_scalar, is_truth_column, inverted_column, scalar_infix, inverted, sign_result}},
+  form_meaning.specs.Infix.{across_series, rows_infix, across_infix, is_truth_column, inverted_column, scalar_infix, inverted, sign_result},
   frame_ops.{specs.{declared.{naming.Naming.TheVariants.{Kept}, other.Other.{Other, TheVariants.{Beside, Across}}}, Joining.{joined_after}, Namings.{named_by}, Pairs.{pairs_from, kinds_meet, meetings_value, levels_fit, IsOpposite, columns_meant}}, proofs.{HeadingLaws.{other_rows}, MeetingLaws.{table_meant, kinds_seen, beside_meetings, across_meetings, levels_same, levels_one}}},
 }
 use Rattle.table_meaning.specs.Value as value

@@ -1,15 +1,10 @@
 -- What columns meet, and the columns that are made of it one after the other.
 use Rattle.{
-  std.{proofs.{lemmas.{Bool.{and_parts, Decides.{nat_tests}}, Option.{get_or_from_slice_get}, List.{length-map, map-append, length_push, Folds.{list_all-map}, Elements.{All-push, All-replicate}}}, Common.{arith, ◌≡◌, ℕ, zero, suc, Bool, true, List, [], length, map, replicate, ◌+◌, ◌++◌, ◌∷◌, ◌<◌, refl, Some, Result, if◌then◌else◌, ap, Ok, Err, false, drop, nat_eq, sym, subst, add-one, append_assoc, All}, Math.Seq.{drop-cons}}, specs.{Prelude.{slice_get}, List.{list_all}}},
-  cell_core.specs.{declared.cell.{Kind.{Kind}, Cell.{Cell, TheVariants.{Na}}}, Texts.{IsLonger, AreGiven, IsGiven}},
-  meaning.specs.{Text.{Text}, Cell.{datum, holds, CellValue}, Operator.{scalar_binary, scalar_column}, Symbol.{Binary}, Fault.{wrong_kind, bad_value, levels, limit, then_value, FaultValue}},
-  nullable_array.specs.{Answers.{Answers}, declared.ops.ArrayFault.{ArrayFault}},
-  column_core.specs.{Columns.{CellColumn, column_value as cells_value}, Blocks.{CellBlock}},
-  table_meaning.specs.{Table.{ColumnOf, NumberedTable, column_at, column_value, Table}, Settled.{IsSettled}},
-  form_meaning.specs.{Finish.{value_of_column, within_limits, try_all, with_columns}, Infix.{Meeting, meets, met, infix_table, on_levels, swapped, with_scalar, beside, spread, across, turned, same_count, has_one}},
+  form_parts.proofs.Common.{and_parts, nat_tests, get_or_from_slice_get, length-map, map-append, list_all-map, All-push, All-replicate, arith, ◌≡◌, ℕ, zero, suc, Bool, true, List, [], length, map, replicate, ◌+◌, ◌++◌, ◌∷◌, ◌<◌, refl, Some, Result, if◌then◌else◌, ap, Ok, Err, false, drop, nat_eq, sym, subst, add-one, append_assoc, All, drop-cons, slice_get, list_all, Kind, Cell, Na, IsLonger, AreGiven, IsGiven, Text, datum, holds, CellValue, Binary, wrong_kind, bad_value, levels, limit, then_value, FaultValue, Answers, ArrayFault, CellColumn, CellBlock, ColumnOf, NumberedTable, column_at, column_value, Table, IsSettled, value_of_column, within_limits, try_all, with_columns, Meeting, meets, met, on_levels, with_scalar, beside, spread, HaveRows, IsSingle, block_column, columns_value, OpFault, settled_later, seen_later, cells_settled, cells_given, column_settled, columns_settled, MakesBy, block_value, blocks_value, AreColumns},
+  meaning.proofs.Common.{length_push, scalar_binary, scalar_column},
+  column_core.specs.Columns.{column_value as cells_value},
+  form_meaning.specs.Infix.{infix_table, swapped, across, turned, same_count, has_one},
   frame_ops.specs.{declared.other.Other.{Other, TheVariants.{Across, Scalar, Beside}}, Pairs.{turned_pair, repeated, pair_at, series_cell, kind_beside, kinds_meet, meeting_value, column_meant, Pair, pairs_from, meetings_value, columns_meant, IsOpposite, IsGivenOther}},
-  frame_store.{specs.{Parts.{HaveRows, IsSingle, block_column}, Shown.{columns_value}, declared.fault.OpFault.{OpFault}}, proofs.Settling.{settled_later, seen_later, cells_settled, cells_given, column_settled, columns_settled}},
-  form_parts.specs.Makes.{MakesBy, block_value, blocks_value, AreColumns},
 }
 use Rattle.table_meaning.specs.Value as value
 

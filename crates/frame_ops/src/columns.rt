@@ -14,7 +14,7 @@ use crate::kinds::{all_meet, levels_fit};
 use crate::other::Other;
 use cell_core::{Code, Grid, Reason, TextDict};
 use column_core::{Block, Column};
-use column_operators::{Binary, binary, with_scalar};
+use column_operators::{Operator, binary, with_scalar};
 use form_parts::{block_of, within_limits};
 use frame_store::{Blocks, ObjRef, OpFault};
 use nullable_array::ArrayFault;
@@ -24,7 +24,7 @@ use std::alloc::Global;
 fn column_met(
     alloc: Global,
     dict: &mut TextDict,
-    op: Binary,
+    op: Operator,
     on: &ObjRef<'_>,
     other: &Other<'_>,
     place: usize,
@@ -55,7 +55,7 @@ fn column_met(
 fn block_met(
     alloc: Global,
     dict: &mut TextDict,
-    op: Binary,
+    op: Operator,
     on: &ObjRef<'_>,
     other: &Other<'_>,
     place: usize,
@@ -79,7 +79,7 @@ fn block_met(
 fn columns_met(
     alloc: Global,
     dict: &mut TextDict,
-    op: Binary,
+    op: Operator,
     on: &ObjRef<'_>,
     other: &Other<'_>,
 ) -> Result<Blocks, OpFault>
@@ -109,7 +109,7 @@ fn columns_met(
 pub(crate) fn infix_columns(
     alloc: Global,
     dict: &mut TextDict,
-    op: Binary,
+    op: Operator,
     on: &ObjRef<'_>,
     other: &Other<'_>,
 ) -> Result<Blocks, OpFault>

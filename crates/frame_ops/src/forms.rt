@@ -9,7 +9,7 @@ ghost use Rattle.frame_store.specs.World.{world, entry_in, IsSettledWorld, IsKno
 
 use crate::tables::{scalar_infix, table_infix};
 use cell_core::{Cell, Code, TextDict};
-use column_operators::Binary;
+use column_operators::Operator;
 use form_parts::placed;
 use frame_store::{OpFault, Store, Table, Value};
 use std::alloc::Global;
@@ -19,7 +19,7 @@ fn infix_made(
     alloc: Global,
     store: &Store,
     dict: &mut TextDict,
-    op: Binary,
+    op: Operator,
     a: Value,
     b: Value,
 ) -> Result<Table, OpFault>
@@ -79,7 +79,7 @@ fn sign_made(
         scalar_infix(
             alloc,
             dict,
-            Binary::Sub,
+            Operator::Sub,
             &store.read(id),
             Cell::Int(0),
             true,
@@ -88,7 +88,7 @@ fn sign_made(
         scalar_infix(
             alloc,
             dict,
-            Binary::Xor,
+            Operator::Xor,
             &store.read(id),
             Cell::Bool(true),
             false,
@@ -126,7 +126,7 @@ pub fn infix(
     alloc: Global,
     store: &mut Store,
     dict: &mut TextDict,
-    op: Binary,
+    op: Operator,
     a: Value,
     b: Value,
 ) -> Result<Value, OpFault>

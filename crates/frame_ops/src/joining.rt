@@ -23,7 +23,7 @@ use crate::columns::infix_columns;
 use crate::naming::{Naming, headings_by};
 use crate::other::Other;
 use cell_core::{Code, Gaps, Grid, NoMemory, TextDict};
-use column_operators::Binary;
+use column_operators::Operator;
 use form_parts::{align_refusal, columns_on, common_name, headings_of, within_limits};
 use frame_store::{Blocks, ObjRef, OpFault, Table};
 use label_align::{Joined, outer};
@@ -95,7 +95,7 @@ fn side_on(alloc: Global, on: &ObjRef<'_>, rows: &Gaps) -> Result<Table, NoMemor
 fn joined_columns(
     alloc: Global,
     dict: &mut TextDict,
-    op: Binary,
+    op: Operator,
     a: &ObjRef<'_>,
     b: &ObjRef<'_>,
     rows: &Joined,
@@ -129,7 +129,7 @@ fn joined_columns(
 pub(crate) fn joined_infix(
     alloc: Global,
     dict: &mut TextDict,
-    op: Binary,
+    op: Operator,
     a: &ObjRef<'_>,
     b: &ObjRef<'_>,
     naming: Naming,

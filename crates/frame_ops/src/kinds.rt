@@ -14,23 +14,27 @@ ghost use Rattle.frame_ops.specs.Pairs.{kind_beside, met_at, all_met, kinds_meet
 
 use crate::other::Other;
 use cell_core::{Cell, Grid, Kind};
-use column_operators::Binary;
+use column_operators::Operator;
 use frame_store::ObjRef;
 
 // Whether the operator takes two columns of a kind.
-fn takes_kind(op: Binary, kind: Kind) -> bool
+fn takes_kind(op: Operator, kind: Kind) -> bool
     ensures { result ≡ is_some (operator_kind (operator_of op) kind kind) }
 {
     match op {
-        Binary::Add => matches!(kind, Kind::Int64 | Kind::Text),
-        Binary::Sub | Binary::Mul | Binary::FloorDiv | Binary::Mod => matches!(kind, Kind::Int64),
-        Binary::And | Binary::Or | Binary::Xor => matches!(kind, Kind::Boolean),
-        Binary::Eq | Binary::Ne | Binary::Lt | Binary::Le | Binary::Gt | Binary::Ge => true,
+        Operator::Add => matches!(kind, Kind::Int64 | Kind::Text),
+        Operator::Sub | Operator::Mul | Operator::FloorDiv | Operator::Mod => matches!(
+            kind,
+            Kind::Int64
+        ),
+        Operator::And | Operator::Or | Operator::Xor => matches!(kind, Kind::Boolean),
+        Operator::Eq | Operator::Ne | Operator::Lt | Operator::Le | Operator::Gt | Operator::Ge =>
+            true,
     }
 }
 
 // Whether it takes columns of these kinds, whichever is on the left: never of two.
-fn takes(op: Binary, a: Kind, b: Kind) -> bool
+fn takes(op: Operator, a: Kind, b: Kind) -> bool
     ensures straight { result ≡ is_some (operator_kind (operator_of op) a b) }
     ensures turned { result ≡ is_some (operator_kind (operator_of op) b a) }
 {
@@ -50,7 +54,7 @@ fn kind_beside(kind: Kind, cell: Cell) -> Kind
 }
 
 // Whether the operator takes the column at a place with what it meets there.
-fn kinds_meet(op: Binary, on: &ObjRef<'_>, other: &Other<'_>, place: usize) -> bool
+fn kinds_meet(op: Operator, on: &ObjRef<'_>, other: &Other<'_>, place: usize) -> bool
     requires place { place < length on.now.columns }
     requires opposite { IsOpposite on.now other.now }
     ensures { result ≡ kinds_meet (operator_of op) (met_at on.now other.now place) }
@@ -64,7 +68,7 @@ fn kinds_meet(op: Binary, on: &ObjRef<'_>, other: &Other<'_>, place: usize) -> b
 }
 
 /// Whether the operator takes each column with what it meets.
-pub(crate) fn all_meet(op: Binary, on: &ObjRef<'_>, other: &Other<'_>) -> bool
+pub(crate) fn all_meet(op: Operator, on: &ObjRef<'_>, other: &Other<'_>) -> bool
     requires { IsOpposite on.now other.now }
     ensures { result ≡ list_all (kinds_meet (operator_of op)) (all_met on.now other.now) }
 {
@@ -77,7 +81,7 @@ pub(crate) fn all_meet(op: Binary, on: &ObjRef<'_>, other: &Other<'_>) -> bool
 }
 
 /// Whether the operator takes each column of a table with the column at its place of another one.
-pub(crate) fn columns_fit(op: Binary, a: &ObjRef<'_>, b: &ObjRef<'_>) -> bool
+pub(crate) fn columns_fit(op: Operator, a: &ObjRef<'_>, b: &ObjRef<'_>) -> bool
     requires { length b.now.columns ≡ length a.now.columns }
     ensures { result ≡ list_all (kinds_meet (operator_of op)) (all_met a.now (Beside b.now)) }
 {
@@ -90,7 +94,7 @@ pub(crate) fn columns_fit(op: Binary, a: &ObjRef<'_>, b: &ObjRef<'_>) -> bool
 }
 
 // Whether the operator takes columns of each column's kind on both sides.
-fn columns_taken(op: Binary, frame: &ObjRef<'_>) -> bool
+fn columns_taken(op: Operator, frame: &ObjRef<'_>) -> bool
     ensures { result ≡ list_all (meant.takes_twice (operator_of op)) frame.now.columns }
 {
     for place in 0..frame.columns() {
@@ -102,7 +106,7 @@ fn columns_taken(op: Binary, frame: &ObjRef<'_>) -> bool
 }
 
 // Whether it takes columns of a Series' kind on both sides, or the Series has no row.
-fn rows_taken(op: Binary, series: &ObjRef<'_>) -> bool
+fn rows_taken(op: Operator, series: &ObjRef<'_>) -> bool
     requires { 1 ≤ length series.now.columns }
     ensures { result ≡ meant.takes_rows (operator_of op)
         series.now.labels (column_at series.now.columns 0) }
@@ -114,7 +118,7 @@ fn rows_taken(op: Binary, series: &ObjRef<'_>) -> bool
 }
 
 /// Whether the operator takes columns of each kind of a frame, and of a Series that has a row, on both sides.
-pub(crate) fn takes_each(op: Binary, frame: &ObjRef<'_>, series: &ObjRef<'_>) -> bool
+pub(crate) fn takes_each(op: Operator, frame: &ObjRef<'_>, series: &ObjRef<'_>) -> bool
     requires { 1 ≤ length series.now.columns }
     ensures { result ≡ meant.takes_each (operator_of op) frame.now series.now }
 {
@@ -143,12 +147,12 @@ pub(crate) fn fits_rows(own: Kind, kind: Kind, rows: &[usize]) -> bool
 }
 
 /// Whether the operator compares.
-pub(crate) fn compares(op: Binary) -> bool
+pub(crate) fn compares(op: Operator) -> bool
     ensures { result ≡ compares (operator_of op) }
 {
     matches!(
         op,
-        Binary::Eq | Binary::Ne | Binary::Lt | Binary::Le | Binary::Gt | Binary::Ge
+        Operator::Eq | Operator::Ne | Operator::Lt | Operator::Le | Operator::Gt | Operator::Ge
     )
 }
 

@@ -7,8 +7,8 @@
 //! NA on a side gives NA, but for `&` and `|`, which follow Kleene's logic.
 //!
 //! ```text
-//! let twice = infix(alloc, &mut store, &mut dict, Binary::Mul, price, Value::Scalar(Cell::Int(2)))?;
-//! let total = infix(alloc, &mut store, &mut dict, Binary::Add, twice, tax)?;
+//! let twice = infix(alloc, &mut store, &mut dict, Operator::Mul, price, Value::Scalar(Cell::Int(2)))?;
+//! let total = infix(alloc, &mut store, &mut dict, Operator::Add, twice, tax)?;
 //! let opposite = invert_or_negate(alloc, &mut store, &mut dict, true, total)?;
 //! ```
 #![tactic(auto)]

@@ -28,7 +28,7 @@ use crate::other::Other;
 use crate::spreading::{labels_fit, spread_frame};
 use crate::widening::{joined_labels, widened};
 use cell_core::{Cell, Code, Grid, Reason, Shape, TextDict};
-use column_operators::Binary;
+use column_operators::Operator;
 use form_parts::{common_name, same_rows, table_under};
 use frame_store::{ObjRef, OpFault, Table};
 use std::alloc::Global;
@@ -37,7 +37,7 @@ use std::alloc::Global;
 fn table_met(
     alloc: Global,
     dict: &mut TextDict,
-    op: Binary,
+    op: Operator,
     on: &ObjRef<'_>,
     other: &Other<'_>,
     naming: Naming,
@@ -62,7 +62,7 @@ fn table_met(
 pub(crate) fn scalar_infix(
     alloc: Global,
     dict: &mut TextDict,
-    op: Binary,
+    op: Operator,
     on: &ObjRef<'_>,
     cell: Cell,
     left: bool,
@@ -85,7 +85,7 @@ pub(crate) fn scalar_infix(
 
 // Tests what tables of other labels must have: columns that the operator takes, and as many levels. None are compared.
 #[tactic(auto, using(crate::proofs::Hints::expect_joined))]
-fn expect_joined(op: Binary, a: &ObjRef<'_>, b: &ObjRef<'_>) -> Result<(), OpFault>
+fn expect_joined(op: Operator, a: &ObjRef<'_>, b: &ObjRef<'_>) -> Result<(), OpFault>
     requires { length b.now.columns ≡ length a.now.columns }
     ensures fit { OnOk result (MayJoin (operator_of op) a.now b.now) }
     ensures passes { (texts : List Text) (rest : Result Entry FaultValue)
@@ -108,7 +108,7 @@ fn expect_joined(op: Binary, a: &ObjRef<'_>, b: &ObjRef<'_>) -> Result<(), OpFau
 fn unequal_infix(
     alloc: Global,
     dict: &mut TextDict,
-    op: Binary,
+    op: Operator,
     a: &ObjRef<'_>,
     b: &ObjRef<'_>,
     naming: Naming,
@@ -133,7 +133,7 @@ fn unequal_infix(
 fn rows_infix(
     alloc: Global,
     dict: &mut TextDict,
-    op: Binary,
+    op: Operator,
     a: &ObjRef<'_>,
     b: ObjRef<'_>,
     naming: Naming,
@@ -158,7 +158,7 @@ fn rows_infix(
 fn series_infix(
     alloc: Global,
     dict: &mut TextDict,
-    op: Binary,
+    op: Operator,
     a: &ObjRef<'_>,
     b: ObjRef<'_>,
 ) -> Result<Table, OpFault>
@@ -178,7 +178,7 @@ fn series_infix(
 fn common_infix(
     alloc: Global,
     dict: &mut TextDict,
-    op: Binary,
+    op: Operator,
     a: &ObjRef<'_>,
     b: ObjRef<'_>,
 ) -> Result<Table, OpFault>
@@ -198,7 +198,7 @@ fn common_infix(
 fn unequal_columns(
     alloc: Global,
     dict: &mut TextDict,
-    op: Binary,
+    op: Operator,
     a: &ObjRef<'_>,
     b: ObjRef<'_>,
 ) -> Result<Table, OpFault>
@@ -219,7 +219,7 @@ fn unequal_columns(
 fn wide_infix(
     alloc: Global,
     dict: &mut TextDict,
-    op: Binary,
+    op: Operator,
     a: &ObjRef<'_>,
     b: &ObjRef<'_>,
 ) -> Result<Table, OpFault>
@@ -242,7 +242,7 @@ fn wide_infix(
 fn frame_infix(
     alloc: Global,
     dict: &mut TextDict,
-    op: Binary,
+    op: Operator,
     a: &ObjRef<'_>,
     b: ObjRef<'_>,
 ) -> Result<Table, OpFault>
@@ -264,7 +264,7 @@ fn frame_infix(
 fn joined_across(
     alloc: Global,
     dict: &mut TextDict,
-    op: Binary,
+    op: Operator,
     left: bool,
     frame: &ObjRef<'_>,
     series: &ObjRef<'_>,
@@ -292,7 +292,7 @@ fn joined_across(
 fn across_unequal(
     alloc: Global,
     dict: &mut TextDict,
-    op: Binary,
+    op: Operator,
     left: bool,
     frame: &ObjRef<'_>,
     series: &ObjRef<'_>,
@@ -326,7 +326,7 @@ fn across_unequal(
 fn across_infix(
     alloc: Global,
     dict: &mut TextDict,
-    op: Binary,
+    op: Operator,
     left: bool,
     frame: &ObjRef<'_>,
     series: ObjRef<'_>,
@@ -356,7 +356,7 @@ fn across_infix(
 pub(crate) fn table_infix(
     alloc: Global,
     dict: &mut TextDict,
-    op: Binary,
+    op: Operator,
     a: ObjRef<'_>,
     b: ObjRef<'_>,
 ) -> Result<Table, OpFault>

@@ -1,7 +1,7 @@
 -- Columns that are put and removed, and whole tables.
 use Rattle.{
-  std.{proofs.{lemmas.{Bool.{cond_both}, List.{map-set, map-append, length-map, length-set, length-append, take-map, drop-map, Elements.{All-set, All-push, All-map, All-append, All-take, All-drop}, Edits.{length-remove}}}, Common.{rules, ◌≡◌, ◌∙◌, ℕ, suc, ◌<◌, List, length, take, drop, map, sym, arith, nat_lt, Option, All}}, specs.Prelude.{remove}},
-  cell_core.specs.declared.{grid.{Rows.{Rows}, Shape.{Shape, TheVariants.{Series}}}, cell.{Cell.{Cell, TheVariants.{Na}}, Label.{Label}}},
+  meaning.proofs.Common.{cond_both, map-set, map-append, length-map, length-set, take-map, drop-map, All-set, All-push, All-map, All-append, All-take, All-drop, length-remove, rules, ◌≡◌, ◌∙◌, ℕ, suc, ◌<◌, List, length, take, drop, map, sym, arith, nat_lt, Option, All, remove, Rows, Shape, Series, Cell, Na, Label},
+  std.proofs.lemmas.List.{length-append},
   multi_index.specs.Axes.{AxisValue},
   column_core.{specs.Blocks.{CellBlock}, proofs.ColumnLaws.{length-tabulate}},
   table_meaning.specs.{Table.{ColumnOf, NumberedTable, column_at}, Change.{put_at, strided_column, cut_columns, with_column, without_column}, Valid.{AreHeadings, IsWhole}},

@@ -1,6 +1,6 @@
 -- Cells that are counted.
 use Rattle.{
-  std.proofs.{Common.{◌≡◌, ℕ, ◌+◌, ◌≤◌, List, [], ◌∷◌, min, sum_by, arith}, lemmas.List.Sums.{sum_by-cons}},
+  meaning.proofs.Common.{◌≡◌, ℕ, ◌+◌, ◌≤◌, List, [], ◌∷◌, min, sum_by, arith, sum_by-cons},
   table_meaning.specs.Table.{NumberedTable},
   frame_store.specs.Objects.{cells_in},
 }

@@ -1,7 +1,6 @@
 -- Blocks of one column, and columns that are cut from others.
 use Rattle.{
-  std.{proofs.{Common.{◌≡◌, ℕ, ◌+◌, ◌<◌, List, [], ◌∷◌, ◌++◌, length, take, map, ap, arith, Some, All}, lemmas.{List.{take_more, map-append, get_or-map, length-map, Elements.{All-push}}, Option.{get_or_from_slice_get}}}, specs.Prelude.{slice_index_or, slice_get}},
-  cell_core.specs.{Grids.{AreRowsBelow}, declared.{grid.Rows.{Rows}, cell.Cell.{Cell, TheVariants.{Na}}}},
+  meaning.proofs.Common.{◌≡◌, ℕ, ◌+◌, ◌<◌, List, [], ◌∷◌, ◌++◌, length, take, map, ap, arith, Some, All, take_more, map-append, get_or-map, length-map, All-push, get_or_from_slice_get, slice_index_or, slice_get, AreRowsBelow, Rows, Cell, Na},
   column_core.specs.Blocks.{CellBlock},
   table_meaning.specs.{Table.{ColumnOf, column_at}, Change.{strided_column, cut_columns}},
   frame_store.specs.Parts.{block_column, single_block, IsSingle, HaveRows},

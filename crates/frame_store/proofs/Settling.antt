@@ -1,8 +1,7 @@
 -- Laws of what is settled.
 use Rattle.{
-  std.proofs.{lemmas.{List.{get_or_append_left, get_or-replicate, get_or-map}, Bool.{cases_lt, cond_both, Decides.{nat_tests}}}, Common.{inl, inr, ◌≡◌, ◌∙◌, ◌≤◌, refl, ap, sym, List, [], ◌∷◌, ◌++◌, length, replicate, append_assoc, append-nil, Some, option_map, ℕ, suc, zero, nat_eq, if◌then◌else◌, All, slice_index_or, arith}},
-  cell_core.specs.{Texts.{AreGiven, IsLonger, IsGiven}, declared.cell.Cell.{Cell}, Values.{CellValue, datum}},
-  meaning.specs.Text.{Text},
+  meaning.proofs.Common.{get_or_append_left, get_or-map, cases_lt, cond_both, nat_tests, inl, inr, ◌≡◌, ◌∙◌, ◌≤◌, refl, ap, sym, List, [], ◌∷◌, ◌++◌, length, replicate, append_assoc, Some, option_map, ℕ, suc, zero, nat_eq, if◌then◌else◌, All, slice_index_or, arith, AreGiven, IsLonger, IsGiven, Cell, CellValue, datum, Text},
+  std.proofs.{lemmas.List.{get_or-replicate}, Common.{append-nil}},
   table_meaning.specs.{Settled.{IsSettled}, Table.{ColumnOf, NumberedTable, table_value, heading_value, column_value, no_column}},
   frame_store.specs.{Objects.{Tables, with_object}, Shown.{shown, with_shown, labels_value, headings_value, columns_value, cells_value}},
 }

@@ -1,7 +1,6 @@
 -- Cells that are put into columns.
 use Rattle.{
-  std.{proofs.{Common.{◌≡◌, ◌∙◌, ℕ, zero, suc, ◌+◌, ◌/◌, ◌%◌, ◌<◌, List, [], ◌∷◌, length, drop, map, refl, arith, Some}, lemmas.{List.{map-set, length-set, get_or_default}, Option.{get_or_from_slice_get}}, Math.Seq.{drop-cons, drop-length}}, specs.Prelude.{slice_index_or, slice_index, slice_get, slice_set}},
-  cell_core.specs.declared.cell.Cell.{Cell, TheVariants.{Na}},
+  meaning.proofs.Common.{◌≡◌, ◌∙◌, ℕ, zero, suc, ◌+◌, ◌/◌, ◌%◌, ◌<◌, List, [], ◌∷◌, length, drop, map, refl, arith, Some, map-set, length-set, get_or_default, get_or_from_slice_get, drop-cons, slice_index_or, slice_index, slice_get, slice_set, Cell, Na},
   column_core.specs.Blocks.{CellBlock},
   table_meaning.specs.{Table.{ColumnOf, column_at, no_column}, Change.{with_cell_at, with_cell, with_values_from}},
   frame_store.{specs.Parts.{block_column, single_block, HaveRows}, proofs.PartLaws.{column_of_block}},
@@ -48,7 +47,3 @@ row_inside = grind arith
 
 pub rows_kept : (first now : List (ColumnOf Cell)) (count : ℕ) → length now ≡ length first → HaveRows count first → AreAlike now first → HaveRows count now
 rows_kept = grind (arith, get_or_default)
-
--- all values are put
-pub all_put : (rows places : List ℕ) (values : List Cell) (now whole : List (ColumnOf Cell)) → with_values_from (length values) now rows places (drop (length values) values) ≡ whole → now ≡ whole
-all_put _ _ values _ _ before = cc (drop-length values)

@@ -1,8 +1,8 @@
 -- What the calls on groups answer, as columns.
 use Rattle.{
-  std.proofs.{Common.{arith, ◌≡◌, ap, refl, sym, ℕ, true, false, List, [], ◌∷◌, map, length, slice_index_or, Option, Ok}, Math.ListN.{get_or-map}, lemmas.{Bool.{cases_lt}, List.{get_or_past, Elements.{All-map}}}},
-  cell_core.specs.{declared.cell.{Cell.{Cell, TheVariants.{Na}}, Kind.{Kind, TheVariants.{Text as string}}}, contracts.cell.KindPartialEq.TheImpl.{eq-value}},
-  meaning.specs.{Cell.{na_cell, datum, IsGiven, AreGiven}, Column.{tabulate, gap_cell, taken}, Cumulate.{cumulation_takes}},
+  meaning.proofs.Common.{arith, ◌≡◌, ap, refl, sym, ℕ, true, false, List, [], ◌∷◌, map, length, slice_index_or, Option, Ok, cases_lt, get_or_past, All-map, Cell, Na, Kind, na_cell, datum, IsGiven, AreGiven, tabulate, gap_cell, taken, cumulation_takes},
+  std.proofs.Math.ListN.{get_or-map},
+  cell_core.specs.{declared.cell.Kind.TheVariants.{Text as string}, contracts.cell.KindPartialEq.TheImpl.{eq-value}},
   column_core.specs.Columns.{CellColumn, column_value},
   group_meaning.specs.{Rows.{GroupsValue}, Reductions.{GroupReduction, group_takes, group_kind, reduced_cells, running_cell, transform_groups, cumsum_groups}},
   group_by.{specs.Counted.{AreNumbers}, proofs.NumberLaws.{numbers_value}},

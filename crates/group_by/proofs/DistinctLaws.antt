@@ -1,9 +1,9 @@
 -- How many different cells each group has, with one cell more.
 use Rattle.{
-  std.{proofs.{Common.{◌≡◌, ◌∙◌, ◌+◌, ◌<◌, ◌≤◌, ◌^◌, refl, arith, ℕ, Bool, true, false, not, ◌&&◌, ◌||◌, cond, List, [], ◌∷◌, ◌++◌, filter, take, length, slice_index_or, All, Option, Some, None, length-append, append-nil}, lemmas.{Bool.{false≢true, eqb-true}, List.{length-map, get_or_default, Elements.{filter-append}, Folds.{list_any-append}}}}, specs.{List.{list_any}, Cmp.{IsEquivalence, nat_eq_equiv, on_equiv, and_equiv}}},
+  meaning.proofs.Common.{◌≡◌, ◌∙◌, ◌+◌, ◌<◌, ◌≤◌, ◌^◌, refl, arith, ℕ, Bool, true, false, not, ◌&&◌, ◌||◌, cond, List, [], ◌∷◌, ◌++◌, filter, take, length, slice_index_or, All, Option, Some, None, length-append, false≢true, eqb-true, length-map, get_or_default, filter-append, list_any-append, list_any, IsEquivalence, nat_eq_equiv, Cell, CellValue, na_cell, datum, AreDistinct, IsGiven, is_present, present, same_cell, distinct, distinct_count},
+  std.{proofs.Common.{append-nil}, specs.Cmp.{on_equiv, and_equiv}},
   indexmap.specs.IndexSet.{insert_key},
-  cell_core.specs.{declared.cell.Cell.{Cell}, contracts.cell.CellEq.TheImpl.Laws.{laws-law}},
-  meaning.specs.{Cell.{CellValue, na_cell, datum, AreDistinct, IsGiven}, Reduce.{is_present, present, same_cell, distinct, distinct_count}},
+  cell_core.specs.contracts.cell.CellEq.TheImpl.Laws.{laws-law},
   nullable_array.proofs.DistinctLaws.{numbers_apart, truths_apart, texts_apart},
   row_keys.proofs.DistinctLaws.{covers_more},
   group_meaning.specs.Rows.{is_in, rows_of_group, cells_of_group},

@@ -1,6 +1,6 @@
 -- Laws that the goals of functions want, by the name of the first that does.
 use Rattle.{
-  std.proofs.lemmas.List.{length-replicate, length-map, with_items_is},
+  meaning.proofs.Common.{length-replicate, length-map, with_items_is},
   group_by.proofs.{DistinctLaws.{noted_there, new_there, noted_missing}, GatherLaws.{cells_held, column_given}},
   column_core.proofs.ColumnLaws.{length-tabulate},
 }

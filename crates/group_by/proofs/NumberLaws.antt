@@ -1,8 +1,6 @@
 -- Columns of numbers, one row more at a time, and what is counted of groups.
 use Rattle.{
-  std.{proofs.{Common.{replicate, ◌≡◌, ◌+◌, ◌<◌, ◌≤◌, ◌^◌, refl, sym, subst, arith, ℕ, Bool, true, false, cond, List, [], ◌∷◌, ◌++◌, map, take, length, slice_index_or, All, Option, None, Result, IfOk, length-append}, lemmas.{List.{map-append, length-take-le, get_or_default, Elements.{All-replicate, All-push}, FromFn.{fill_by_all}}, Bool.{false≢true}}}, specs.List.{range_with_len}},
-  cell_core.specs.declared.cell.{Cell.{Cell}, Kind.TheVariants.{Int64}},
-  meaning.specs.{Cell.{CellValue, datum, holds, IsGiven}, Column.{tabulate}},
+  meaning.proofs.Common.{replicate, ◌≡◌, ◌+◌, ◌<◌, ◌≤◌, ◌^◌, refl, sym, subst, arith, ℕ, Bool, true, false, cond, List, [], ◌∷◌, ◌++◌, map, take, length, slice_index_or, All, Option, None, Result, IfOk, length-append, map-append, length-take-le, get_or_default, All-replicate, All-push, fill_by_all, false≢true, range_with_len, Cell, Int64, CellValue, datum, holds, IsGiven, tabulate},
   column_core.{specs.{Columns.{CellColumn, column_value}, Moves.{IsPlaceOf}}, proofs.CellRows.{map-map}},
   pick_meaning.specs.Rows.{rows_where},
   group_meaning.specs.{Rows.{is_in, rows_of_group}, Reductions.{of_group, count_cell}},

@@ -1,9 +1,7 @@
 -- The rows and cells of a group with one row more.
 use Rattle.{
-  std.proofs.{Common.{arith, ◌≡◌, ◌+◌, ◌<◌, sym, ℕ, true, false, List, [], ◌∷◌, ◌++◌, take, length, slice_index_or, Option, Some, None}, lemmas.{Bool.{false≢true, eq-eqb, eqb-true}, List.{map-append}}},
+  meaning.proofs.Common.{arith, ◌≡◌, ◌+◌, ◌<◌, sym, ℕ, true, false, List, [], ◌∷◌, ◌++◌, take, length, slice_index_or, Option, Some, None, false≢true, eq-eqb, eqb-true, map-append, Cell, Na, CellValue, na_cell, datum},
   pick_meaning.proofs.RowLaws.{rows_more_yes, rows_more_no},
-  cell_core.specs.declared.cell.Cell.{Cell, TheVariants.{Na}},
-  meaning.specs.Cell.{CellValue, na_cell, datum},
   group_meaning.specs.{Rows.{is_in, rows_of_group, cells_of_group}, Reductions.{GroupReduction, group_cell}},
   group_by.specs.Gathered.{TakesIn},
 }

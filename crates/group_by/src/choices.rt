@@ -10,7 +10,7 @@ ghost use Rattle.group_by.specs.Gathered.{if_present};
 use crate::cells::is_na;
 use crate::gather::{Amount, Choice};
 use cell_core::{Cell, TextDict};
-use row_groups::label_of;
+use factorize::label_of;
 use std::cmp::Ordering;
 
 /// The number in a cell: 1 in True, 0 in False.

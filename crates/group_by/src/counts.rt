@@ -9,7 +9,7 @@ ghost use Rattle.group_by.specs.Counted.{IsCounted, HaveCounted, AreNumbers};
 use crate::cells::counted;
 use cell_core::{Cell, Kind, NoMemory};
 use column_core::Column;
-use row_groups::Groups;
+use factorize::Groups;
 use std::alloc::Global;
 
 // Counts one more of a group, if there is one.

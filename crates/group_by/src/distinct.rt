@@ -11,8 +11,8 @@ use crate::cells::is_na;
 use crate::counts::{column_of_counts, count_one};
 use cell_core::{Cell, NoMemory, TextDict};
 use column_core::{ColRef, Column};
+use factorize::Groups;
 use indexmap::IndexSet;
-use row_groups::Groups;
 use std::alloc::Global;
 
 // Notes a cell of a group, and answers the group in which it is a new one. A cell that is missing or has no group

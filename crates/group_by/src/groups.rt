@@ -13,7 +13,7 @@ use crate::reduce::{reduced, takes};
 use crate::running::running_sums;
 use cell_core::{Kind, NoMemory, TextDict};
 use column_core::{ColRef, Column, take};
-use row_groups::RowGroups;
+use factorize::RowGroups;
 use std::alloc::Global;
 
 /// What a reduction makes of the cells of each group, one cell a group: of the present cells alone, so that a sum, a

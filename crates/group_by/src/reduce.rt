@@ -16,7 +16,7 @@ use crate::gather::{Chosen, Gather, Total};
 use crate::ops::GroupOp;
 use cell_core::{Cell, Kind, NoMemory, TextDict};
 use column_core::{ColRef, Column};
-use row_groups::Groups;
+use factorize::Groups;
 use std::alloc::Global;
 
 // Takes a cell into what is gathered of its group.

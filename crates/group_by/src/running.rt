@@ -15,7 +15,7 @@ use crate::choices::Number;
 use crate::gather::{Amount, added};
 use cell_core::{Cell, Kind, NoMemory};
 use column_core::{ColRef, Column};
-use row_groups::Groups;
+use factorize::Groups;
 use std::alloc::Global;
 
 // Adds a cell to the sum of its group.

@@ -1,14 +1,8 @@
 -- Columns that are made by groups.
 use Rattle.{
-  std.{proofs.{Common.{arith, ◌≡◌, ◌≢◌, refl, append_assoc, ℕ, ◌+◌, ◌<◌, Bool, true, false, List, [], ◌∷◌, ◌++◌, map, length, take, slice_index_or, Some, Result, Ok, Err}, lemmas.{Bool.{and_parts}, List.{length-map, map-append, take_more, FromFn.{length-map-range_with_len}, Elements.{All-cons, All-head, All-tail, All-push}}, Option.{get_or_from_slice_get}}}, specs.{Prelude.{slice_get, IfOk}, List.{list_all}}},
-  meaning.specs.{Text.{Text}, Cell.{CellValue, datum, AreGiven}, Column.{ColumnValue}, Fault.{FaultValue, wrong_kind}},
-  column_core.specs.{Blocks.{CellBlock}, Columns.{CellColumn}},
-  table_meaning.specs.{Settled.{IsSettled}, Table.{ColumnOf, NumberedTable, Table, column_at, no_column, table_value, column_value}},
-  form_meaning.specs.Finish.{value_of_column, made_column},
+  form_parts.proofs.Common.{arith, ◌≡◌, ◌≢◌, refl, append_assoc, ℕ, ◌+◌, ◌<◌, Bool, true, false, List, [], ◌∷◌, ◌++◌, map, length, take, slice_index_or, Some, Result, Ok, Err, and_parts, length-map, map-append, take_more, length-map-range_with_len, All-cons, All-head, All-tail, All-push, get_or_from_slice_get, slice_get, IfOk, list_all, Text, CellValue, datum, AreGiven, ColumnValue, FaultValue, wrong_kind, CellBlock, CellColumn, IsSettled, ColumnOf, NumberedTable, Table, column_at, no_column, table_value, column_value, value_of_column, made_column, blocks_value, table_column, block_column, IsSingle, AreColumnsOf, columns_part, columns_given},
   group_meaning.specs.Rows.{GroupsValue},
   method_meaning.specs.Groups.{each_of},
-  form_parts.specs.Makes.{blocks_value},
-  frame_store.{specs.Parts.{table_column, block_column, IsSingle, AreColumnsOf}, proofs.Settling.{columns_part, columns_given}},
   selections.proofs.AnswerLaws.{column_seen},
   group_by.specs.{Answers.{Answers}, declared.ops.GroupFault.{GroupFault, TheVariants.{KindMismatch}}},
   group_forms.specs.{declared.columns.ColumnCall.{ColumnCall}, Columns.{made_of, takes, takes_at, column_made, made_at, rows_made, AreTaken, AreBlocks}},

@@ -1,10 +1,6 @@
 -- What a form answers, by what it reads.
 use Rattle.{
-  std.proofs.Common.{arith, ◌≡◌, ◌∙◌, ℕ, sym, List, ◌++◌, false, Some, None, Result, Err},
-  meaning.specs.{Text.{Text}, Cell.{IsLonger}, Fault.{FaultValue}},
-  table_meaning.specs.{Settled.{IsSettled}, Table.{NumberedTable, table_value}, Valid.{IsWhole}, Value.{Entry, list_in}},
-  cell_core.specs.declared.cell.Cell.{Cell},
-  frame_store.{specs.{declared.{arguments.{Value.{Value}, Argument.{Argument}, Item.{Item}}, fault.OpFault.{OpFault, TheVariants.{NoMemory}}}, Arguments.{argument_of, items_of}, Objects.{Tables, table_or}, Shown.{shown, cells_value}, World.{World, IsSettledWorld, IsKnownTable, IsKnownArgument, Forms}, Parts.{AreColumnsOf}}, proofs.Settling.{object_settled, settled_later, seen_later}},
+  form_parts.proofs.Common.{arith, ◌≡◌, ◌∙◌, ℕ, sym, List, ◌++◌, false, Some, None, Result, Err, Text, IsLonger, FaultValue, IsSettled, NumberedTable, table_value, IsWhole, Entry, list_in, Cell, Value, Argument, Item, OpFault, NoMemory, argument_of, items_of, Tables, table_or, shown, cells_value, World, IsSettledWorld, IsKnownTable, IsKnownArgument, Forms, AreColumnsOf, object_settled, settled_later, seen_later},
   selections.specs.Selected.{scalars_in},
   signatures.{specs.Scalars.{scalars}, proofs.{ScalarLaws.{scalars_are}, ToldLaws.{some_same}}},
   group_forms.specs.Grouped.{AreValues},

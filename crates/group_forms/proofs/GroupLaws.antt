@@ -1,19 +1,11 @@
 -- Tables that have a row for each group.
 use Rattle.{
+  form_parts.proofs.Common.{arith, ◌≡◌, ◌∙◌, refl, ap, sym, ℕ, Bool, true, false, ◌&&◌, List, [], ◌∷◌, ◌++◌, map, length, All, Option, None, if◌then◌else◌, length-map, length-append, map-append, length-map-range_with_len, All-append, IsSome, list_all, Label, WrongKind, Frame, Text, CellValue, LabelValue, AreGiven, then_value, CellBlock, CellColumn, IsSettled, ColumnOf, NumberedTable, Table, table_value, heading_value, column_value, IsWhole, AxisValue, range_axis, default_labels, column_of_value, blocks_value, default_seen, table_column, AreColumnsOf, headings_value, labels_value, Refuses, columns_name_part},
   label_methods.{proofs.IndexingLaws.{labelled, headings_seen}, specs.Levels.{row_labels}},
-  std.{proofs.{Common.{arith, ◌≡◌, ◌∙◌, refl, ap, sym, ℕ, Bool, true, false, ◌&&◌, List, [], ◌∷◌, ◌++◌, map, length, All, Option, None, if◌then◌else◌}, lemmas.List.{length-map, length-append, map-append, FromFn.{length-map-range_with_len}, Elements.{All-append}}}, specs.{Prelude.{IsSome}, List.{list_all}}},
-  cell_core.specs.declared.{cell.Label.{Label}, code.Code.TheVariants.{WrongKind}, grid.Shape.TheVariants.{Frame}},
-  meaning.specs.{Text.{Text}, Cell.{CellValue, LabelValue, AreGiven}, Fault.{then_value}},
-  column_core.specs.{Blocks.{CellBlock}, Columns.{CellColumn}},
-  table_meaning.specs.{Settled.{IsSettled}, Table.{ColumnOf, NumberedTable, Table, table_value, heading_value, column_value}, Valid.{IsWhole}},
-  multi_index.specs.Axes.{AxisValue, range_axis},
-  form_meaning.specs.Finish.{default_labels, column_of_value},
   select_meaning.specs.Select.{shown_as},
   group_meaning.specs.{Rows.{GroupsValue}, Reductions.{group_sizes}},
   method_meaning.specs.Groups.{keys_of, groups_of, headings_of, grouped_rows, group_answer},
   group_by.specs.{declared.ops.GroupOp.{GroupOp}, Operations.{reduction_of}},
-  form_parts.{specs.Makes.{blocks_value}, proofs.LabelLaws.{default_seen}},
-  frame_store.{specs.{Parts.{table_column, AreColumnsOf}, Shown.{headings_value, labels_value, Refuses}}, proofs.Settling.{columns_name_part}},
   selections.specs.Selected.{headings_at},
   group_forms.{specs.{declared.{columns.ColumnCall.TheVariants.{Reduced}, grouping.Grouping.{Grouping}, values.Values.{Values}}, Columns.{takes_at, made_at, AreBlocks}, Grouped.{grouping_seen, values_seen}, Tables.{HasHeadings, IsAxis, group_labels, group_names, group_headings, group_keys}}, proofs.{ColumnLaws.{if_taken, each_is, boxed, one_more_block, one_more_value}, KeyLaws.{key_labels_settled}, ShownLaws.{IsMade}, RowLaws.{headings_are, own_settled}}},
 }

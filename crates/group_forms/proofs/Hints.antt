@@ -1,7 +1,7 @@
 -- Laws that the goals of functions want, by the name of the first that does.
 use Rattle.{
+  form_parts.proofs.Common.{length-map, err_from_is_err_and},
   group_forms.proofs.{KeyLaws.{if_ok, codes_counted}, GroupLaws.{keys_axis, numbers_axis, group_headings_settled, group_labelled}, RowLaws.{own_settled, rows_by_row}, ShownLaws.{frame_repeated, frame_beyond, frame_shows}},
-  std.proofs.lemmas.{List.{length-map}, Result.{err_from_is_err_and}},
   label_methods.proofs.IndexingLaws.{labelled},
   selections.proofs.HeadingLaws.{different},
 }

@@ -1,14 +1,11 @@
 -- The groups of a frame's rows are those of the rows with their texts.
 use Rattle.{
-  std.{proofs.{Common.{arith, ◌≡◌, ◌∙◌, refl, ap, sym, zero-add, ℕ, ◌+◌, ◌<◌, List, [], ◌∷◌, ◌++◌, map, length, take, slice_index_or, All, Some}, Math.ListN.{get_or-map}, lemmas.{List.{length-map, map-append, take_more, FromFn.{length-range_with_len, get_or-map-range_with_len}}, Option.{get_or_from_slice_get}}}, specs.Prelude.{slice_get, Result, Ok, Err, IfOk}},
-  cell_core.specs.{Texts.{AreDistinct}, declared.cell.Label.{Label}},
-  meaning.specs.{Text.{Text}, Cell.{na_cell, datum, label_datum}, Operator.{cell_label}},
-  table_meaning.specs.{Settled.{IsSettled}, Table.{NumberedTable, Table, column_at, table_value, tuple_value}},
+  form_parts.proofs.Common.{arith, ◌≡◌, ◌∙◌, refl, ap, sym, ℕ, ◌+◌, ◌<◌, List, [], ◌∷◌, ◌++◌, map, length, take, slice_index_or, All, Some, get_or-map, length-map, map-append, take_more, length-range_with_len, get_or-map-range_with_len, get_or_from_slice_get, slice_get, Result, Ok, Err, IfOk, AreDistinct, Label, Text, na_cell, datum, label_datum, cell_label, IsSettled, NumberedTable, Table, column_at, table_value, tuple_value, label_of, tuple_by_number, tuples_settled, labels_value, settled_by},
+  meaning.proofs.Common.{zero-add},
   row_keys.specs.Keys.{same_tuple, place_among},
   factorize.{specs.{Keys.{seen_rules}, declared.factor.KeyGroups.{KeyGroups}}, proofs.GroupLaws.{rows_inside, tuples_there}},
   group_meaning.{specs.{Keys.{tuple_rules, group_keys, group_codes}, Rows.{GroupsValue}}, proofs.{ListLaws.{map_on}, SeenLaws.{keys_seen, codes_seen}}},
-  form_parts.{specs.Labels.{label_of}, proofs.RowLaws.{tuple_by_number, tuples_settled}},
-  frame_store.{specs.{Parts.{AreRowsOf}, Shown.{labels_value}}, proofs.Settling.{settled_by}},
+  frame_store.specs.Parts.{AreRowsOf},
   selections.{specs.Across.{cell_across}, proofs.AnswerLaws.{column_seen}},
   label_methods.{specs.Levels.{row_labels}, proofs.IndexingLaws.{all_rows, tuples_seen}},
   key_columns.proofs.KeyLaws.{numbered_keys},

@@ -1,15 +1,8 @@
 -- Tables that have the rows of the frame.
 use Rattle.{
-  std.{proofs.{Common.{arith, ◌≡◌, ℕ, Bool, false, List, [], ◌∷◌, ◌++◌, map, length, Option, None, Result}, lemmas.List.{length-map, FromFn.{length-map-range_with_len}}}, specs.List.{list_all}},
-  cell_core.specs.declared.{cell.Label.{Label}, code.Code.TheVariants.{WrongKind}},
-  meaning.specs.{Text.{Text}, Cell.{CellValue, AreGiven}, Fault.{FaultValue, then_value}},
-  column_core.specs.{Blocks.{CellBlock}, Columns.{CellColumn}},
-  table_meaning.specs.{Settled.{IsSettled}, Table.{ColumnOf, NumberedTable, Table, table_value, column_value}, Value.{Entry}},
-  form_meaning.specs.Finish.{column_of_value},
+  form_parts.proofs.Common.{arith, ◌≡◌, ℕ, Bool, false, List, [], ◌∷◌, ◌++◌, map, length, Option, None, Result, length-map, length-map-range_with_len, list_all, Label, WrongKind, Text, CellValue, AreGiven, FaultValue, then_value, CellBlock, CellColumn, IsSettled, ColumnOf, NumberedTable, Table, table_value, column_value, Entry, column_of_value, blocks_value, headings_value, Refuses, headings_part},
   group_meaning.specs.{Rows.{GroupsValue}, Reductions.{group_places}},
   method_meaning.specs.Groups.{headings_of, same_rows, group_answer},
-  form_parts.specs.Makes.{blocks_value},
-  frame_store.{specs.Shown.{headings_value, Refuses}, proofs.Settling.{headings_part}},
   selections.specs.Selected.{headings_at},
   label_methods.proofs.IndexingLaws.{headings_seen, headings_settled},
   group_forms.{specs.{declared.{columns.ColumnCall.{ColumnCall}, grouping.Grouping.{Grouping}, values.Values.{Values}}, Columns.{takes_at, made_at, rows_made, AreBlocks, row_call_of, IsByRow}, Grouped.{grouping_seen, values_seen}, Tables.{HasHeadings}}, proofs.ColumnLaws.{if_taken, each_is, boxed, one_more_block, one_more_value}},

@@ -1,15 +1,7 @@
 -- New tables, and what is tested before they are made.
 use Rattle.{
-  std.proofs.Common.{◌≡◌, refl, arith, ℕ, Bool, true, false, List, map, length, All, Option, None, Result, Ok, Err},
-  cell_core.specs.{Texts.{AreDistinct}, declared.{code.Code.TheVariants.{Limit}, cell.Label.{Label}, grid.Shape.TheVariants.{Frame}}},
-  meaning.specs.{Text.{Text}, Cell.{AreGiven}, Fault.{FaultValue}},
-  column_core.specs.Blocks.{CellBlock},
-  multi_index.specs.Axes.{AxisValue},
-  table_meaning.specs.{Settled.{IsSettled}, Table.{NumberedTable, Table, table_value, heading_value}, Value.{Entry, table}},
-  form_meaning.specs.Finish.{within_limits},
+  form_parts.proofs.Common.{◌≡◌, refl, arith, ℕ, Bool, true, false, List, map, length, All, Option, None, Result, Ok, Err, AreDistinct, Limit, Label, Frame, Text, AreGiven, FaultValue, CellBlock, AxisValue, IsSettled, NumberedTable, Table, table_value, heading_value, Entry, table, within_limits, blocks_value, OpFault, Refused, NoMemory, HeadingList, block_column, table_of, headings_value, Makes, table_settled, columns_settled},
   select_meaning.specs.Select.{shown_as},
-  form_parts.specs.Makes.{blocks_value},
-  frame_store.{specs.{declared.fault.OpFault.{OpFault, TheVariants.{Refused, NoMemory}}, Parts.{HeadingList, block_column, table_of}, Shown.{headings_value, Makes}}, proofs.Settling.{table_settled, columns_settled}},
   selections.{specs.Headings.{NamesRepeated, repeated_heading}, proofs.{HeadingLaws.{repeated_seen}, RefusalLaws.{repeated_settled}}},
   label_methods.proofs.TableLaws.{limited_within},
   group_forms.specs.Tables.{shape_if, name_if, headings_if, shown_if, HasHeadings, MayShow, IsAxis},

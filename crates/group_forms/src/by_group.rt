@@ -21,10 +21,10 @@ use crate::keys::{groups_of, key_axis};
 use crate::kinds::all_taken;
 use crate::values::Values;
 use cell_core::{Code, Grid, Label, NoMemory, Places, TextDict};
+use factorize::Groups;
 use frame_store::{Blocks, ObjRef, OpFault, Table};
 use group_by::{GroupOp, group_size};
 use multi_index::Axis;
-use row_groups::Groups;
 use selections::headings_at;
 use std::alloc::Global;
 

@@ -3,7 +3,7 @@ ghost use Rattle.std.specs.Prelude.{◌≡◌, List, slice_get, Some};
 ghost use Rattle.std.specs.Option.{option_map};
 ghost use Rattle.meaning.specs.Text.{Text};
 ghost use Rattle.meaning.specs.Cell.{datum, text_of};
-ghost use Rattle.form_meaning.specs.Binding as plain;
+ghost use Rattle.call_meaning.specs.Binding as plain;
 ghost use Rattle.method_meaning.specs.Groups as meant;
 ghost use Rattle.form_parts.specs.Makes.{MakesBy};
 ghost use Rattle.group_by.specs.Operations.{reduction_of};
@@ -12,8 +12,8 @@ ghost use Rattle.frame_store.specs.World.{world, arguments_in, AreKnownArguments
 ghost use Rattle.signatures.specs.Bound.{given_in, stands_at};
 ghost use Rattle.group_forms.specs.Calls.{call_of, call_seen, IsTransform};
 
+use call_meaning::{Accepted, Choices, Omitted, Parameter, ParameterName};
 use cell_core::{Cell, Code, Reason, TextDict, TextId};
-use form_meaning::{Form, Listed, Omitted, Parameter, ParameterName};
 use frame_store::{Named, OpFault, Store};
 use group_by::GroupOp;
 use label_methods::no_attribute;
@@ -67,9 +67,9 @@ fn transform_parameters() -> &'static [Parameter]
 {
     &[Parameter {
         name: ParameterName::Name,
-        form: Form::Text,
+        accepted: Accepted::Text,
         omitted: Omitted::Required,
-        listed: Listed::Any,
+        listed: Choices::Any,
     }]
 }
 

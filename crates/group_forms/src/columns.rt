@@ -9,9 +9,9 @@ ghost use Rattle.group_forms.specs.Columns.{takes, column_made, made_at, rows_ma
 
 use cell_core::{NoMemory, Places, TextDict};
 use column_core::{ColRef, Column};
+use factorize::Groups;
 use frame_store::{Blocks, ObjRef};
 use group_by::{GroupFault, GroupOp, group_cumsum, group_reduce, group_transform};
-use row_groups::Groups;
 use std::alloc::Global;
 
 // What is made of a column by groups: a cell for each group, or one for each row.

@@ -9,8 +9,8 @@ ghost use Rattle.selections.specs.Selected.{as_it_is};
 ghost use Rattle.label_methods.specs.Named.{first_in, NamesColumns};
 ghost use Rattle.group_forms.specs.Grouped.{grouping_seen, HasKeys, AreKeys};
 
+use call_meaning::{Method, OtherMethod};
 use cell_core::{Code, Places, TextDict};
-use form_meaning::{Method, OtherMethod};
 use frame_store::{Named, ObjId, OpFault, Store};
 use label_methods::named_places;
 use signatures::{Bound, bind, parameters};

@@ -1,6 +1,9 @@
 -- Lists whose elements are seen otherwise, and tests that agree on elements.
-use Rattle.align_meaning.proofs.SeenLaws.{filter_map}
-use Rattle.std.{proofs.{Common.{◌≡◌, ◌+◌, refl, Bool, not, cond, List, [], ◌∷◌, map, filter, All, Some, None, nat_lt}, lemmas.List.{length-map, Elements.{All-head, All-tail}}}, specs.List.{position, position_or_len}}
+use Rattle.{
+  meaning.proofs.Common.{◌≡◌, ◌+◌, refl, Bool, not, cond, List, [], ◌∷◌, map, filter, All, Some, None, nat_lt, length-map, All-head, All-tail, position_or_len},
+  align_meaning.proofs.SeenLaws.{filter_map},
+  std.specs.List.{position},
+}
 pub use Rattle.std.proofs.lemmas.Simd.{map-map as map_map}
 
 module _ {X : Type 0} (P : X → Type 0) where

@@ -1,7 +1,6 @@
 -- Groups are the same where keys are seen otherwise, as tuples with their texts.
 use Rattle.{
-  std.proofs.{Common.{◌≡◌, ◌∙◌, ap, refl, Bool, true, false, not, cond, List, [], ◌∷◌, map, filter, All}, lemmas.{Simd.{map-map}, List.Elements.{All-head, All-tail, All-filter}}},
-  meaning.specs.Reduce.{distinct},
+  meaning.proofs.Common.{◌≡◌, ◌∙◌, ap, refl, Bool, true, false, not, cond, List, [], ◌∷◌, map, filter, All, map-map, All-head, All-tail, All-filter, distinct},
   sorting.specs.Sorting.{in_order},
   align_meaning.proofs.{OrderLaws.{all_distinct, all_in_order, in_order_map}, SeenLaws.{filter_map, distinct_map}},
   group_meaning.{specs.Keys.{KeyRules, is_kept, ordered_if, group_keys, group_of, group_codes}, proofs.ListLaws.{map_on, position_seen}},

@@ -1,7 +1,6 @@
 -- Keys of one level on both sides.
 use Rattle.{
-  std.proofs.{Common.{◌≡◌, ◌∙◌, ◌++◌, refl, sym, List, [], ◌∷◌, length, All}, lemmas.List.Elements.{All-append, All-head}},
-  cell_core.specs.declared.cell.Label.{Label},
+  meaning.proofs.Common.{◌≡◌, ◌∙◌, ◌++◌, refl, sym, List, [], ◌∷◌, length, All, All-append, All-head, Label},
   multi_index.specs.Axes.{HaveLevels},
   factorize.specs.Keys.{levels_of},
 }

@@ -1,8 +1,6 @@
 -- The places of a range: by the number of a label, and by the numbers of two bounds.
 use Rattle.{
-  std.{proofs.{Common.{◌≡◌, ◌∙◌, ap, sym, refl, arith, rules, ℕ, zero, suc, ◌+◌, ◌-◌, ◌<◌, ◌≤◌, ℤ, pos, negsuc, Bool, true, false, not, cond, List, [], ◌∷◌, length, slice_index_or, Some, min, nat_lt, map}, lemmas.{Bool.Decides.{nat_tests}, List.FromFn.{get_or-map-range_with_len}}}, specs.{Prelude.{unsigned_abs, int_lt as lt_z}, Bool.{Decides}, List.{range_with_len}, Ordering.{is_lt}, declared.cmp.Ordering.TheVariants.{Less, Equal, Greater}}},
-  cell_core.specs.{declared.cell.Label.{Label}, Grids.{place_from}},
-  meaning.specs.Text.{Text},
+  meaning.proofs.Common.{◌≡◌, ◌∙◌, ap, sym, refl, arith, rules, ℕ, zero, suc, ◌+◌, ◌-◌, ◌<◌, ◌≤◌, ℤ, pos, negsuc, Bool, true, false, not, cond, List, [], ◌∷◌, length, slice_index_or, Some, min, nat_lt, map, nat_tests, get_or-map-range_with_len, unsigned_abs, int_lt as lt_z, Decides, range_with_len, is_lt, Less, Equal, Greater, Label, place_from, Text},
   pick_meaning.{specs.{Rows.{rows_where, rows_of, rows_between}, Slices.{goes_on_in_order, is_in_order}}, proofs.RowLaws.{rows_in_interval}},
   index_core.{specs.{Labels.{same_number, order_in}, Ranges.{number_label, range_labels}, Splits.{IsSplitAt, BeginsAt, EndsAt}}, proofs.RangeLaws.{length-range_labels}},
 }

@@ -1,7 +1,6 @@
 -- The labels of a range, one by one.
 use Rattle.{
-  std.{specs.Prelude.{◌≡◌, ℕ, ◌<◌, List, length, slice_get, Some}, proofs.{Common.{arith}, lemmas.{List.FromFn.{length-map-range_with_len, get_or-map-range_with_len}, Option.{slice_get-get_or}}}},
-  cell_core.specs.declared.cell.Label.{Label},
+  meaning.proofs.Common.{◌≡◌, ℕ, ◌<◌, List, length, slice_get, Some, arith, length-map-range_with_len, get_or-map-range_with_len, slice_get-get_or, Label},
   index_core.specs.Ranges.{number_label, range_labels},
 }
 

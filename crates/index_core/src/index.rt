@@ -19,11 +19,11 @@ use std::marker::Model;
 /// A list of labels. Labels may repeat.
 #[derive(Drop)]
 pub struct Index {
-    labels: Kept,
+    labels: IndexLabels,
 }
 
 #[derive(Drop)]
-enum Kept {
+enum IndexLabels {
     Below(usize),
     Listed(Vec<Label>),
 }
@@ -48,7 +48,7 @@ impl Index {
         ensures { IfOk result (λ index. index ≡ range_labels n) }
     {
         Ok(Index {
-            labels: Kept::Below(n),
+            labels: IndexLabels::Below(n),
         })
     }
 
@@ -58,7 +58,7 @@ impl Index {
     {
         let copied = labels.to_vec(alloc)?;
         Ok(Index {
-            labels: Kept::Listed(copied),
+            labels: IndexLabels::Listed(copied),
         })
     }
 
@@ -67,7 +67,7 @@ impl Index {
         ensures { result ≡ labels.items }
     {
         Index {
-            labels: Kept::Listed(labels),
+            labels: IndexLabels::Listed(labels),
         }
     }
 
@@ -76,8 +76,8 @@ impl Index {
         ensures { IfOk result (λ index. index ≡ self.now) }
     {
         let labels = match &self.labels {
-            Kept::Below(n) => Kept::Below(*n),
-            Kept::Listed(labels) => Kept::Listed(labels.to_vec(alloc)?),
+            IndexLabels::Below(n) => IndexLabels::Below(*n),
+            IndexLabels::Listed(labels) => IndexLabels::Listed(labels.to_vec(alloc)?),
         };
         Ok(Index { labels })
     }
@@ -87,8 +87,8 @@ impl Index {
         ensures { result ≡ length self.now }
     {
         match &self.labels {
-            Kept::Below(n) => *n,
-            Kept::Listed(labels) => labels.len(),
+            IndexLabels::Below(n) => *n,
+            IndexLabels::Listed(labels) => labels.len(),
         }
     }
 
@@ -99,8 +99,8 @@ impl Index {
         ensures { slice_get self.now place ≡ Some result }
     {
         match &self.labels {
-            Kept::Below(_) => Label::Int(place as i64),
-            Kept::Listed(labels) => labels[place],
+            IndexLabels::Below(_) => Label::Int(place as i64),
+            IndexLabels::Listed(labels) => labels[place],
         }
     }
 
@@ -110,7 +110,7 @@ impl Index {
         ensures { Decides result (self.now ≡ other.now) }
     {
         match (&self.labels, &other.labels) {
-            (Kept::Below(m), Kept::Below(n)) => m == n,
+            (IndexLabels::Below(m), IndexLabels::Below(n)) => m == n,
             _ => self.same_places(other),
         }
     }
@@ -153,8 +153,8 @@ impl Index {
         ensures { PicksBy as_it_is result (rows_of_key same_number self.now label) }
     {
         match &self.labels {
-            Kept::Below(n) => ranges::places_of(alloc, *n, label),
-            Kept::Listed(labels) => listed::places_of(alloc, labels, label),
+            IndexLabels::Below(n) => ranges::places_of(alloc, *n, label),
+            IndexLabels::Listed(labels) => listed::places_of(alloc, labels, label),
         }
     }
 
@@ -178,8 +178,8 @@ impl Index {
         ensures below { IfOk result (λ rows. AreRowsBelow rows (length self.now)) }
     {
         match &self.labels {
-            Kept::Below(n) => Ok(ranges::slice_of(*n, from, to)),
-            Kept::Listed(labels) => listed::slice_of(dict, labels, from, to),
+            IndexLabels::Below(n) => Ok(ranges::slice_of(*n, from, to)),
+            IndexLabels::Listed(labels) => listed::slice_of(dict, labels, from, to),
         }
     }
 
@@ -188,8 +188,8 @@ impl Index {
         ensures { IfOk result (λ unique. unique ≡ all_differ same_number self.now) }
     {
         match &self.labels {
-            Kept::Below(_) => Ok(true),
-            Kept::Listed(labels) => listed::all_differ(alloc, labels),
+            IndexLabels::Below(_) => Ok(true),
+            IndexLabels::Listed(labels) => listed::all_differ(alloc, labels),
         }
     }
 
@@ -198,8 +198,8 @@ impl Index {
         ensures { result ≡ is_in_order (order_in dict.now) self.now }
     {
         match &self.labels {
-            Kept::Below(_) => true,
-            Kept::Listed(labels) => listed::is_sorted(dict, labels),
+            IndexLabels::Below(_) => true,
+            IndexLabels::Listed(labels) => listed::is_sorted(dict, labels),
         }
     }
 
@@ -208,8 +208,8 @@ impl Index {
         ensures { IfOk result (λ rows. rows ≡ self.now) }
     {
         match &self.labels {
-            Kept::Below(n) => Ok(LabelRows::of_range(*n)),
-            Kept::Listed(labels) => LabelRows::of_labels(alloc, labels),
+            IndexLabels::Below(n) => Ok(LabelRows::of_range(*n)),
+            IndexLabels::Listed(labels) => LabelRows::of_labels(alloc, labels),
         }
     }
 }

@@ -1,7 +1,6 @@
 -- Answers and refusals that are handed on.
 use Rattle.{
-  std.{proofs.{Common.{◌≡◌, ◌∙◌, sym, arith, ℕ, ◌<◌, true, false, List, [], ◌∷◌, All, Some, Result, Ok, Err, length, refl, map, slice_index_or}, lemmas.List.{get_or-map}}, specs.{Prelude.{IfOk, slice_get}, Cmp.Lexicographic.{pointwise}}},
-  cell_core.specs.declared.cell.Label.{Label},
+  meaning.proofs.Common.{◌≡◌, ◌∙◌, sym, arith, ℕ, ◌<◌, true, false, List, [], ◌∷◌, All, Some, Result, Ok, Err, length, refl, map, slice_index_or, get_or-map, IfOk, slice_get, pointwise, Label},
   index_core.specs.Labels.{same_number},
   multi_index.{specs.Axes.{HaveLevels, single_tuples}, proofs.{PickLaws.{rows_seen}, TupleLaws.{only_label_is}}},
   pick_meaning.{specs.{Faults.{PickFault, not_there, pick_seen}, Keys.{Pick}, Labels.{unless_none, rows_of_key}, Leading.{leads}, Rows.{rows_where, are_some}}, proofs.RowLaws.{some_there, rows_where-same}},

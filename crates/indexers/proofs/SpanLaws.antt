@@ -1,7 +1,6 @@
 -- Rows at equal distances.
 use Rattle.{
-  std.{proofs.{Common.{◌≡◌, sym, subst, refl, arith, ℕ, zero, suc, ◌+◌, ◌-◌, ◌≤◌, ℤ, pos, negsuc, true, false, List, [], ◌∷◌, ◌++◌, map}, lemmas.{Bool.Decides.{nat_tests}, List.FromFn.{map-range_with_len_more}}}, specs.{Prelude.{unsigned_abs, int_lt, ◌≢◌}, Int.{div_ceil}, List.{range_with_len}}},
-  cell_core.specs.Grids.{AreRowsBelow},
+  meaning.proofs.Common.{◌≡◌, sym, subst, refl, arith, ℕ, zero, suc, ◌+◌, ◌-◌, ◌≤◌, ℤ, pos, negsuc, true, false, List, [], ◌∷◌, ◌++◌, map, nat_tests, map-range_with_len_more, unsigned_abs, int_lt, ◌≢◌, div_ceil, range_with_len, AreRowsBelow},
   index_core.proofs.NumberLaws.{run_rows},
   pick_meaning.{specs.Rows.{rows_of}, proofs.PositionLaws.{forward_below, backward_below}},
 }

@@ -1,8 +1,6 @@
 -- Masks, and labels of which none stands twice, with the texts themselves; and a slice that goes back.
 use Rattle.{
-  std.{proofs.Common.{◌≡◌, refl, arith, ℕ, suc, negsuc, zero, Bool, List, [], ◌∷◌, map, All, Some, None, Ok}, specs.{List.{list_any}, Cmp.Lexicographic.{pointwise}}},
-  cell_core.specs.{Texts.{AreDistinct, IsGivenLabel}, Values.{datum, label_datum}, declared.cell.{Cell.{Cell}, Label.{Label}}},
-  meaning.specs.Text.{Text},
+  meaning.proofs.Common.{◌≡◌, refl, arith, ℕ, suc, negsuc, zero, Bool, List, [], ◌∷◌, map, All, Some, None, Ok, list_any, pointwise, AreDistinct, IsGivenLabel, datum, label_datum, Cell, Label, Text},
   pick_meaning.{specs.{Faults.{pick_seen}, Labels.{all_differ}, Masks.{is_kept, masked_rows}, Positions.{backward, position_slice}}, proofs.SeenLaws.{pointwise-map, masked_rows-map}},
   index_core.{specs.Labels.{same_number}, proofs.TextLaws.{same_text, number_alike}},
   indexers.specs.Masks.{is_true},

@@ -1,12 +1,7 @@
 -- The keys of rows by columns are the labels that the cells of the rows are.
 use Rattle.{
-  std.{proofs.{Common.{arith, ◌≡◌, refl, ℕ, ◌+◌, List, [], ◌∷◌, ◌++◌, map, take, length, slice_get, All, Some}, lemmas.{List.{length-map, map-append, take_more, Elements.{All-push}}, Option.{get_or_from_slice_get, slice_get_within}}}, specs.List.{range_with_len}},
-  cell_core.specs.declared.cell.Label.{Label},
-  column_core.specs.Columns.{CellColumn},
+  form_parts.proofs.Common.{arith, ◌≡◌, refl, ℕ, ◌+◌, List, [], ◌∷◌, ◌++◌, map, take, length, slice_get, All, Some, length-map, map-append, take_more, All-push, get_or_from_slice_get, slice_get_within, range_with_len, Label, CellColumn, NumberedTable, column_at, label_of, table_column},
   factorize.specs.Keys.{row_key, column_keys},
-  table_meaning.specs.Table.{NumberedTable, column_at},
-  form_parts.specs.Labels.{label_of},
-  frame_store.specs.Parts.{table_column},
   selections.specs.Across.{cell_across},
 }
 

@@ -1,6 +1,6 @@
 -- Left b a a with right a c a, and what is found of them.
 use Rattle.{
-  std.proofs.Common.{◌≡◌, ◌==◌, [], ◌∷◌, Some, None, Ok, Err, nat_lt, refl},
+  meaning.proofs.Common.{◌≡◌, ◌==◌, [], ◌∷◌, Some, None, Ok, Err, nat_lt, refl},
   align_meaning.specs.{Faults.{duplicate_labels}, Joins.{outer}, Targets.{reindexed}},
 }
 

@@ -22,7 +22,7 @@ pub struct Joined {
 
 /// The same with a row that carries the tuple, of both sides together, in place of the tuple.
 #[derive(Drop)]
-pub(crate) struct Entries {
+pub(crate) struct JoinedRows {
     pub rows: Vec<usize>,
     pub left: Vec<Option<usize>>,
     pub right: Vec<Option<usize>>,
@@ -30,7 +30,7 @@ pub(crate) struct Entries {
 
 // Adds an entry.
 fn push_entry(
-    out: &mut Entries,
+    out: &mut JoinedRows,
     key: usize,
     left: Option<usize>,
     right: Option<usize>,
@@ -45,7 +45,7 @@ fn push_entry(
 
 // Adds a left row, or a gap, with each right row; those of the right are counted from `first` on.
 fn push_left(
-    out: &mut Entries,
+    out: &mut JoinedRows,
     key: usize,
     left: Option<usize>,
     rights: &[usize],
@@ -65,7 +65,7 @@ fn push_left(
 
 // Adds each left row of a key with each right row of it.
 fn push_key(
-    out: &mut Entries,
+    out: &mut JoinedRows,
     key: usize,
     lefts: &[usize],
     rights: &[usize],
@@ -91,12 +91,12 @@ pub(crate) fn entries_of_runs(
     runs: &[Run],
     rows: &[usize],
     size: usize,
-) -> Result<Entries, NoMemory>
+) -> Result<JoinedRows, NoMemory>
     requires { total runs.now ≤ length rows.now }
     ensures { IfOk result (λ made. entries_seen made
         ≡ lists_of (run_entries count runs.now rows.now)) }
 {
-    let mut out = Entries {
+    let mut out = JoinedRows {
         rows: Vec::with_capacity(alloc, size)?,
         left: Vec::with_capacity(alloc, size)?,
         right: Vec::with_capacity(alloc, size)?,

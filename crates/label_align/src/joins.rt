@@ -13,7 +13,7 @@ ghost use Rattle.label_align.specs.Runs.{AreGivenTuples};
 use crate::axes::axis_of_rows;
 use crate::both::{BothSides, rows_in_order};
 use crate::fault::AlignFault;
-use crate::joined::{Entries, Joined, entries_of_runs};
+use crate::joined::{Joined, JoinedRows, entries_of_runs};
 use crate::runs::{runs_of, size_of_runs};
 use cell_core::{Gaps, TextDict};
 use multi_index::Axis;
@@ -32,7 +32,11 @@ fn levels_of_both(a: &Axis, b: &Axis) -> usize
 
 // The rows of both sides joined: put in order, and cut into runs that carry one tuple.
 #[tactic(auto, using(crate::proofs::Hints::joined_rows))]
-fn joined_rows(alloc: Global, dict: &TextDict, both: &BothSides<'_>) -> Result<Entries, AlignFault>
+fn joined_rows(
+    alloc: Global,
+    dict: &TextDict,
+    both: &BothSides<'_>,
+) -> Result<JoinedRows, AlignFault>
     requires alike { HaveLevels both.now.levels (tuples_of both.now) }
     requires given { AreGivenTuples dict.now (tuples_of both.now) }
     ensures inside { IfOk result (λ made.
@@ -80,7 +84,7 @@ pub fn outer(alloc: Global, dict: &TextDict, a: &Axis, b: &Axis) -> Result<Joine
         right: b,
         levels: levels_of_both(a, b),
     };
-    let Entries { rows, left, right } = joined_rows(alloc, dict, &both)?;
+    let JoinedRows { rows, left, right } = joined_rows(alloc, dict, &both)?;
     let axis = axis_of_rows(alloc, dict, &both, &rows)?;
     Ok(Joined {
         axis,

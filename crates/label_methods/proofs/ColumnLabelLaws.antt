@@ -1,11 +1,6 @@
 -- The labels of columns as labels of rows.
 use Rattle.{
-  std.proofs.{Common.{arith, ◌≡◌, pos, List, [], ◌∷◌, map, length, Option, unwrap_or}, lemmas.List.Elements.{All-map}},
-  cell_core.specs.declared.cell.Label.{Label},
-  meaning.specs.{Text.{Text}, Cell.{LabelValue, int}},
-  multi_index.specs.Axes.{HaveLevels},
-  table_meaning.specs.Table.{heading_value, tuple_value},
-  frame_store.specs.Shown.{labels_value, headings_value},
+  form_parts.proofs.Common.{arith, ◌≡◌, pos, List, [], ◌∷◌, map, length, Option, unwrap_or, All-map, Label, Text, LabelValue, int, HaveLevels, heading_value, tuple_value, labels_value, headings_value},
   column_core.proofs.CellRows.{map-map},
   label_methods.specs.Labels.{column_tuple},
 }

@@ -1,10 +1,9 @@
 -- Laws that the goals of functions want, by the name of the first that does.
 use Rattle.{
+  form_parts.proofs.Common.{get_or_from_slice_get, length-map, err_from_is_err_and, single_on},
   label_methods.proofs.{ResetLaws.{renumbered_beyond, range_rows, reset_refused, reset_some, reset_made, parts_repeated, parts_beyond}, LevelMoveLaws.{section_missing, section_beyond, swapped_seen, swapped_settled, dropped_seen, level_stays, dropped_settled}, IndexingLaws.{rows_alike, single_column}, ReindexLaws.{own_labels_given, columns_refused, columns_repeated, columns_beyond, rows_made, rows_whole, one_more_column, one_more_single, whole_under}},
   selections.proofs.{RefusalLaws.{no_key_settled}, PlaceLaws.{place_passed}, PickedLaws.{places_inside}},
   pick_meaning.proofs.InsideLaws.{rows_inside},
-  std.proofs.lemmas.{Option.{get_or_from_slice_get}, List.{length-map}, Result.{err_from_is_err_and}},
-  form_parts.proofs.GapLaws.{single_on},
 }
 
 pub ruleset renumber = (renumbered_beyond, range_rows)

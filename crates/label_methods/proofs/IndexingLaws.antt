@@ -1,15 +1,9 @@
 -- Columns as the labels of the rows.
 use Rattle.{
-  std.{proofs.{Common.{zero, suc, ◌≡◌, refl, sym, arith, ℕ, ◌+◌, ◌<◌, ◌≤◌, true, false, List, [], ◌∷◌, ◌++◌, map, length, take, get_or, slice_index_or, All, Option, Some, None, Ok, Err}, Math.ListN.{get_or-map}, lemmas.{Bool.Decides.{nat_tests}, List.{length-map, map-append, take_more, ext_get_or, FromFn.{length-range_with_len, length-map-range_with_len, get_or-map-range_with_len}, Elements.{All-map}}, Option.{get_or_from_slice_get}}}, specs.{Prelude.{filter, slice_get, IsSome}, List.{range_with_len}}},
-  cell_core.specs.{Texts.{AreDistinct}, declared.{cell.{Cell.{Cell}, Label.{Label}}, grid.Shape.TheVariants.{Frame}}},
+  form_parts.proofs.Common.{zero, suc, ◌≡◌, refl, sym, arith, ℕ, ◌+◌, ◌<◌, ◌≤◌, true, false, List, [], ◌∷◌, ◌++◌, map, length, take, get_or, slice_index_or, All, Option, Some, None, Ok, Err, get_or-map, nat_tests, length-map, map-append, take_more, length-range_with_len, length-map-range_with_len, get_or-map-range_with_len, All-map, get_or_from_slice_get, filter, slice_get, IsSome, range_with_len, AreDistinct, Cell, Label, Frame, na_cell, datum, limit, cell_label, Text, AxisValue, HaveLevels, single_tuples, IsSettled, ColumnOf, NumberedTable, Table, column_at, table_value, heading_value, tuple_value, column_value, IsWhole, within_limits, limited, unless_repeated, heading_at, label_of, OpFault, Refused, NoMemory, HeadingList, AreColumnsOf, table_with, labels_value, headings_value, Makes, settled_by, headings_part},
+  meaning.proofs.Common.{ext_get_or},
   column_core.proofs.CellRows.{map-map},
-  meaning.specs.{Cell.{na_cell, datum}, Fault.{limit}, Operator.{cell_label}, Text.{Text}},
-  multi_index.specs.Axes.{AxisValue, HaveLevels, single_tuples},
-  table_meaning.specs.{Settled.{IsSettled}, Table.{ColumnOf, NumberedTable, Table, column_at, table_value, heading_value, tuple_value, column_value}, Valid.{IsWhole}},
-  form_meaning.specs.{Finish.{within_limits, limited, unless_repeated}, Select.{heading_at}},
-  form_parts.specs.Labels.{label_of},
   method_meaning.specs.{Rows.{cells_by_row, places_besides}, Levels.{on_levels, indexed_by, index_set}},
-  frame_store.{specs.{declared.fault.OpFault.{OpFault, TheVariants.{Refused, NoMemory}}, Parts.{HeadingList, AreColumnsOf, table_with}, Shown.{labels_value, headings_value, Makes}}, proofs.Settling.{settled_by, headings_part}},
   selections.{specs.{Across.{cell_across}, Headings.{NamesRepeated, repeated_heading}, Selected.{heading_of, headings_at}}, proofs.{AnswerLaws.{column_seen}, HeadingLaws.{repeated_seen, different}, PickedLaws.{one_more_place}, KeyLaws.{label_seen}, PlanLaws.{only_place}, PlaceLaws.{heading_seen}, RefusalLaws.{repeated_settled}}},
   label_methods.{specs.Levels.{row_labels}, proofs.{RowLaws.{cells_in, by_rows}, NamedLaws.{is_other, others_meant}}},
 }

@@ -1,15 +1,10 @@
 -- The labels of a level as the cells of a column, row by row.
 use Rattle.{
-  std.{proofs.{Common.{subst, ◌≡◌, ℕ, zero, suc, ◌+◌, ◌<◌, List, [], ◌∷◌, ◌++◌, map, drop, length, slice_index_or, slice_get, Option, Some, append-nil, arith, append_assoc, Result, Ok, Err}, Math.Seq.{drop-cons}, lemmas.{List.{length-map, map-append, FromFn.{length-range_with_len, get_or-range_with_len}}, Option.{get_or_from_slice_get}}}, specs.{Prelude.{Result, Ok, Err, unwrap_or}, List.{range_with_len}, Option.{option_and_then}}},
-  cell_core.specs.declared.cell.{Cell.{Cell}, Kind.{Kind, TheVariants.{Int64}}, Label.{Label, TheVariants.{Na}}},
-  meaning.specs.{Text.{Text}, Cell.{CellValue, datum}, Fault.{FaultValue}},
-  column_core.specs.{Blocks.{CellBlock}, Columns.{CellColumn}},
-  multi_index.specs.Axes.{AxisValue, label_at},
-  table_meaning.specs.Table.{ColumnOf},
-  form_meaning.specs.{Finish.{try_all}, Set.{first_kind}},
-  form_parts.specs.Makes.{MakesBy, blocks_value},
-  frame_store.specs.{Parts.{single_block, table_column}, Shown.{cells_value}, declared.fault.OpFault.{OpFault}},
-  label_methods.{specs.{Columns.{seen_column, with_front}, LevelColumns.{cell_of, level_cells, held_after, held_column, GetsCell, RefusesCell, level_column, level_columns}}, proofs.Lists.{drop_next, drop_all}},
+  form_parts.proofs.Common.{subst, ◌≡◌, ℕ, zero, suc, ◌+◌, ◌<◌, List, [], ◌∷◌, ◌++◌, map, drop, length, slice_index_or, slice_get, Option, Some, append-nil, arith, append_assoc, Result, Ok, Err, drop-cons, length-map, map-append, length-range_with_len, get_or-range_with_len, get_or_from_slice_get, unwrap_or, range_with_len, Cell, Kind, Int64, Label, Text, CellValue, datum, FaultValue, CellBlock, CellColumn, AxisValue, ColumnOf, try_all, first_kind, MakesBy, blocks_value, single_block, table_column, cells_value, OpFault, drop-length as drop_all},
+  std.specs.Option.{option_and_then},
+  cell_core.specs.declared.cell.Label.TheVariants.{Na},
+  multi_index.specs.Axes.{label_at},
+  label_methods.{specs.{Columns.{seen_column, with_front}, LevelColumns.{cell_of, level_cells, held_after, held_column, GetsCell, RefusesCell, level_column, level_columns}}, proofs.Lists.{drop_next}},
 }
 
 -- one item more is made

@@ -1,11 +1,8 @@
 -- Names of levels that an argument is.
 use Rattle.{
-  std.proofs.Common.{arith, ◌≡◌, ℕ, List, [], ◌∷◌, ◌++◌, Option, None, option_map},
-  cell_core.specs.declared.cell.Label.{Label},
-  meaning.specs.{Operator.{cell_label}, Text.{Text}},
-  table_meaning.specs.{Table.{heading_value}, Value.{Given, scalar_in, list_in}, Settled.{IsSettled}},
+  form_parts.proofs.Common.{arith, ◌≡◌, ℕ, List, [], ◌∷◌, ◌++◌, Option, None, Label, cell_label, Text, heading_value, Given, scalar_in, list_in, IsSettled, Tables, arguments_of, headings_value},
+  meaning.proofs.Common.{option_map},
   method_meaning.specs.Levels.{names_in},
-  frame_store.specs.{Objects.{Tables}, Arguments.{arguments_of}, Shown.{headings_value}},
   signatures.specs.{Bound.{stands_at}, declared.bound.Bound.{Bound}},
 }
 

@@ -1,5 +1,5 @@
 -- What is left of a list behind a place.
-use Rattle.std.proofs.Common.{◌≡◌, ℕ, zero, suc, List, [], ◌∷◌, drop, Some, slice_get}
+use Rattle.form_parts.proofs.Common.{◌≡◌, ℕ, zero, suc, List, [], ◌∷◌, drop, Some, slice_get}
 pub use Rattle.std.proofs.Math.Seq.{drop-length as drop_all}
 
 -- the item at a place and those after it

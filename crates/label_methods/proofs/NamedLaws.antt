@@ -1,10 +1,7 @@
 -- Columns that an argument names, and a frame without them.
 use Rattle.{
-  std.{proofs.{Common.{◌≡◌, append-nil, refl, arith, ℕ, ◌+◌, ◌<◌, Bool, true, false, nat_eq, List, [], ◌∷◌, length, take, set, slice_get, All, Some, Result}, lemmas.{Bool.Decides.{nat_tests}, List.{length-map, length-set, take_more, get_or-set_same, get_or-set_other, Elements.{All-filter, filter-append}, Folds.{list_any-append}}, Option.{get_or_from_slice_get}}}, specs.{Prelude.{not, filter}, List.{list_any, range_with_len}}},
-  meaning.specs.{Text.{Text}, Fault.{FaultValue}},
-  table_meaning.specs.Table.{NumberedTable, Table, table_value},
+  form_parts.proofs.Common.{◌≡◌, append-nil, refl, arith, ℕ, ◌+◌, ◌<◌, Bool, true, false, nat_eq, List, [], ◌∷◌, length, take, set, slice_get, All, Some, Result, nat_tests, length-map, length-set, take_more, get_or-set_same, get_or-set_other, All-filter, filter-append, list_any-append, get_or_from_slice_get, not, filter, list_any, range_with_len, Text, FaultValue, NumberedTable, Table, table_value, OpFault},
   method_meaning.specs.Rows.{all_places, places_besides},
-  frame_store.specs.declared.fault.OpFault.{OpFault},
   selections.proofs.PickedLaws.{one_more_place, places_inside},
   label_methods.specs.Named.{FindsPlaces, AreMarks},
 }

@@ -1,17 +1,9 @@
 -- The rows, or the columns, of the labels in a list, and tables under another axis.
 use Rattle.{
-  std.{proofs.{Common.{◌≡◌, ◌∙◌, refl, arith, ℕ, zero, suc, ◌+◌, ◌<◌, true, false, List, [], ◌∷◌, ◌++◌, map, length, take, replicate, slice_index_or, All, Option, Some, None, Result, Ok, Err, set, get_or}, lemmas.{List.{length-map, length-replicate, map-append, take_more, take_more_set, Elements.{All-map}}, Option.{get_or_from_slice_get}}}, specs.{Borrow.{Bor}, Prelude.{IsSome, slice_get}, List.{range_with_len}}},
-  cell_core.specs.{Texts.{AreDistinct}, declared.{cell.{Cell.{Cell, TheVariants.{Na}}, Label.{Label}}, grid.Shape.{Shape, TheVariants.{Frame}}}},
-  column_core.{specs.{Blocks.{CellBlock}, Columns.{CellColumn}, Moves.{IsPlaceOf}}, proofs.CellRows.{map-map}},
-  meaning.specs.{Cell.{LabelValue, na_cell, datum}, Fault.{FaultValue, limit}, Text.{Text}},
-  multi_index.specs.Axes.{AxisValue, HaveLevels, nameless_axis},
-  align_meaning.specs.{Faults.{met_rows}, Targets.{reindexed}},
-  table_meaning.specs.{Settled.{IsSettled}, Table.{NumberedTable, Table, table_value, heading_value, tuple_value, column_value, no_column, ColumnOf, column_at}, Valid.{IsWhole}, Change.{with_labels}},
-  form_meaning.specs.{Finish.{within_limits, limited, unless_repeated}, Infix.{same_tuple, on_rows}},
-  form_parts.{specs.Makes.{MakesBy}, proofs.{GapLaws.{on_rows_seen}, TableMade.{refused_on}}},
+  form_parts.proofs.Common.{◌≡◌, ◌∙◌, refl, arith, ℕ, zero, suc, ◌+◌, ◌<◌, true, false, List, [], ◌∷◌, ◌++◌, map, length, take, replicate, slice_index_or, All, Option, Some, None, Result, Ok, Err, set, get_or, length-map, length-replicate, map-append, take_more, take_more_set, All-map, get_or_from_slice_get, Bor, IsSome, slice_get, range_with_len, AreDistinct, Cell, Na, Label, Shape, Frame, CellBlock, CellColumn, IsPlaceOf, LabelValue, na_cell, datum, FaultValue, limit, Text, AxisValue, HaveLevels, nameless_axis, met_rows, reindexed, IsSettled, NumberedTable, Table, table_value, heading_value, tuple_value, column_value, no_column, ColumnOf, column_at, IsWhole, with_labels, within_limits, limited, unless_repeated, same_tuple, on_rows, MakesBy, on_rows_seen, refused_on, items_of, Tables, HeadingList, columns_of, headings_of, table_column, table_with, labels_value, headings_value, columns_value, Makes, IsKnownTable, Item, OpFault, Refused, NoMemory, settled_by, headings_part},
+  column_core.proofs.CellRows.{map-map},
   select_meaning.specs.{Keys.{whole_items}, Select.{row_name}},
   method_meaning.specs.Reindex.{rows_at, rows_reindexed, column_or_missing, columns_at, columns_reindexed},
-  frame_store.{specs.{Arguments.{items_of}, Objects.{Tables}, Parts.{HeadingList, columns_of, headings_of, table_column, table_with}, Shown.{labels_value, headings_value, columns_value, Makes}, World.{IsKnownTable}, declared.{arguments.Item.{Item}, fault.OpFault.{OpFault, TheVariants.{Refused, NoMemory}}}}, proofs.Settling.{settled_by, headings_part}},
   selections.{specs.Headings.{NamesRepeated, repeated_heading}, proofs.{AnswerLaws.{column_seen}, HeadingLaws.{repeated_seen, different}, RefusalLaws.{repeated_settled}, PickedLaws.{list_is}}},
   label_methods.{specs.{Labels.{column_tuple}, Reindexed.{heading_of, list_lent}}, proofs.ColumnLabelLaws.{tuples_seen}},
 }

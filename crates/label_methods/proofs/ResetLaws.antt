@@ -1,17 +1,12 @@
 -- The levels of a table as columns of a frame, and the frame that they become with its columns.
 use Rattle.{
-  std.{proofs.{Common.{◌≡◌, refl, ℕ, pos, ◌+◌, ◌<◌, not, nat_eq, Bool, true, false, List, [], ◌∷◌, ◌++◌, map, take, drop, length, slice_index_or, slice_get, All, Option, Some, None, if◌then◌else◌, append_assoc, append-nil, add-one, arith, ◌∙◌, sym, subst, Result, Ok, Err, length-append}, Math.{ListN.{get_or-map}, Seq.{drop-cons}}, lemmas.{Bool.Decides.{nat_tests}, List.{length-map, map-append, take_more, Elements.{All-append, All-nil, All-map}, FromFn.{length-range_with_len, length-map-range_with_len}}, Option.{get_or_from_slice_get, slice_get_within}}}, specs.{Prelude.{unwrap_or, codes, IsSome, IfOk}, List.{list_any, range_with_len}}},
-  cell_core.specs.{Texts.{with_text, AreDistinct}, declared.{cell.{Label.{Label, TheVariants.{Na}}, TextId.{TextId}, Cell.{Cell}}, grid.Shape.TheVariants.{Frame}}},
-  column_core.{specs.{Blocks.{CellBlock}, Columns.{CellColumn}}, proofs.CellRows.{map-map}},
-  meaning.specs.{Text.{Text}, Cell.{LabelValue, int, text, label_datum, IsLonger, CellValue, na, datum}, Fault.{FaultValue, limit, then_value}},
-  table_meaning.specs.{Settled.{IsSettled}, Table.{NumberedTable, Table, table_value, heading_value, column_at, ColumnOf, tuple_value, column_value}, Change.{with_labels}, Valid.{IsWhole}, Value.{Entry}},
-  form_meaning.specs.{Finish.{same_heading, within_limits, limited, finished, unless_repeated, default_labels, try_all}, Set.{list_column}},
+  form_parts.proofs.Common.{◌≡◌, refl, ℕ, pos, ◌+◌, ◌<◌, not, nat_eq, Bool, true, false, List, [], ◌∷◌, ◌++◌, map, take, drop, length, slice_index_or, slice_get, All, Option, Some, None, if◌then◌else◌, append_assoc, append-nil, add-one, arith, ◌∙◌, sym, subst, Result, Ok, Err, get_or-map, drop-cons, nat_tests, length-map, map-append, take_more, All-append, All-nil, All-map, length-range_with_len, length-map-range_with_len, get_or_from_slice_get, slice_get_within, unwrap_or, codes, IsSome, IfOk, list_any, range_with_len, AreDistinct, Label, TextId, Cell, Frame, CellBlock, CellColumn, Text, LabelValue, int, label_datum, IsLonger, CellValue, na, datum, FaultValue, limit, then_value, IsSettled, NumberedTable, Table, table_value, heading_value, column_at, ColumnOf, tuple_value, column_value, with_labels, IsWhole, Entry, same_heading, within_limits, limited, finished, unless_repeated, default_labels, try_all, list_column, block_column, single_block, table_column, IsSingle, HeadingList, axis_of, table_of, headings_value, labels_value, columns_value, cells_value, Makes, OpFault, Refused, NoMemory, settled_later, seen_later, settled_by, headings_part, level_names_part, cell_settled, columns_given, columns_name_part, columns_settled, table_settled, AxisValue, range_axis, MakesBy, blocks_value, AreColumns, default_seen, refused_on},
+  meaning.proofs.Common.{length-append, with_text, text},
+  cell_core.specs.declared.cell.Label.TheVariants.{Na},
+  column_core.proofs.CellRows.{map-map},
   method_meaning.specs.{Levels.{numbered_label, nameless_label, label_cell, level_labels, levels_reset, renumbered}, Methods.{as_frame}},
-  frame_store.{specs.{Parts.{block_column, single_block, table_column, IsSingle, HeadingList, axis_of, table_of}, Shown.{headings_value, labels_value, columns_value, cells_value, Makes}, declared.fault.OpFault.{OpFault, TheVariants.{Refused, NoMemory}}}, proofs.Settling.{settled_later, seen_later, settled_by, headings_part, level_names_part, cell_settled, columns_given, columns_name_part, columns_settled, table_settled}},
   selections.{proofs.{PlaceLaws.{heading_settled, label_settled as label_settled_by}, HeadingLaws.{repeated_seen, different}, RefusalLaws.{repeated_settled}}, specs.Headings.{NamesRepeated, repeated_heading}},
   label_methods.specs.{Labels.{column_tuple}, Resets.{frame_heading, frame_headings, reset_headings, reset_columns, reset_frame}, LevelColumns.{cell_of}},
-  multi_index.specs.Axes.{AxisValue, range_axis},
-  form_parts.{specs.Makes.{MakesBy, blocks_value, AreColumns}, proofs.{LabelLaws.{default_seen}, TableMade.{refused_on}}},
 }
 use Rattle.cell_core.specs.declared.cell.Cell.TheVariants as cell
 use Rattle.cell_core.specs.declared.cell.Label.TheVariants as label

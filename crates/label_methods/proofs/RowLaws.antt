@@ -1,9 +1,7 @@
 -- The cells of rows.
 use Rattle.{
-  std.proofs.Common.{◌≡◌, ℕ, List, map, length, slice_index_or},
+  form_parts.proofs.Common.{◌≡◌, ℕ, List, map, length, slice_index_or, CellValue, na_cell, tabulate, Table, column_at},
   column_core.proofs.CellRows.{map-map},
-  meaning.specs.{Cell.{CellValue, na_cell}, Column.{tabulate}},
-  table_meaning.specs.Table.{Table, column_at},
   method_meaning.specs.Rows.{cells_by_row},
 }
 

@@ -1,10 +1,6 @@
 -- The scalars of a list from a part on.
 use Rattle.{
-  std.{proofs.{Common.{◌≡◌, ◌<◌, ◌+◌, ℕ, List, length, drop, get_or, Option, arith}, Math.Seq.{drop-cons}}, specs.Option.{option_map}},
-  cell_core.specs.declared.cell.Cell.{Cell},
-  meaning.specs.{Text.{Text}, Cell.{datum}},
-  table_meaning.specs.Value.{scalar_in},
-  frame_store.specs.{Objects.{Tables}, Arguments.{item_of}, declared.arguments.Item.{Item}},
+  form_parts.proofs.Common.{◌≡◌, ◌<◌, ◌+◌, ℕ, List, length, drop, get_or, Option, arith, drop-cons, option_map, Cell, Text, datum, scalar_in, Tables, item_of, Item},
   signatures.{proofs.ScalarLaws.{cells_of_more}, specs.Scalars.{scalars, with_cell}},
 }
 

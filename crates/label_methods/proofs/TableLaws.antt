@@ -1,9 +1,5 @@
 -- Tables within the limits.
-use Rattle.{
-  std.proofs.Common.{◌≡◌, true, length, Ok},
-  table_meaning.specs.{Table.{Table}, Value.{table}},
-  form_meaning.specs.Finish.{within_limits, limited},
-}
+use Rattle.form_parts.proofs.Common.{◌≡◌, true, length, Ok, Table, table, within_limits, limited}
 
 -- a table within the limits
 pub limited_within : (t : Table) (rows columns : Rattle.std.specs.Prelude.ℕ) → length t.labels ≡ rows → length t.columns ≡ columns → within_limits rows columns ≡ true → limited t ≡ Ok (table t)

@@ -6,7 +6,7 @@ use Rattle.meaning.specs.Fault.{FaultValue}
 use Rattle.table_meaning.specs.Settled.{IsSettled}
 use Rattle.table_meaning.specs.Table.{NumberedTable}
 use Rattle.table_meaning.specs.Value.{Given}
-use Rattle.form_meaning.specs.Binding.{HasNoText}
+use Rattle.call_meaning.specs.Binding.{HasNoText}
 use Rattle.form_parts.specs.Makes.{MakesBy}
 use Rattle.frame_store.specs.declared.fault.OpFault.{OpFault}
 use Rattle.frame_store.specs.Arguments.{arguments_of}

@@ -4,7 +4,7 @@ ghost use Rattle.meaning.specs.Text.{Text as OneText};
 ghost use Rattle.table_meaning.specs.Settled.{IsSettled};
 ghost use Rattle.table_meaning.specs.Table.{table_value};
 ghost use Rattle.table_meaning.specs.Valid.{IsWhole};
-ghost use Rattle.form_meaning.specs.Binding.{HasNoText};
+ghost use Rattle.call_meaning.specs.Binding.{HasNoText};
 ghost use Rattle.form_meaning.specs.Finish.{limited};
 ghost use Rattle.method_meaning.specs.Levels as meant;
 ghost use Rattle.frame_store.specs.Objects.{Tables};

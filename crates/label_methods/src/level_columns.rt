@@ -1,7 +1,6 @@
 // Levels of the rows as columns.
-ghost use Rattle.std.specs.Prelude.{◌≡◌, ◌<◌, ◌∷◌, List, length, All, unwrap_or, IfOk, IfErr, OnOk};
+ghost use Rattle.std.specs.Prelude.{◌≡◌, ◌<◌, List, length, All, IfOk, IfErr, OnOk};
 ghost use Rattle.meaning.specs.Text.{Text as OneText};
-ghost use Rattle.meaning.specs.Cell.{CellValue, datum};
 ghost use Rattle.form_meaning.specs.Set as set;
 ghost use Rattle.form_parts.specs.Makes.{MakesBy, blocks_value};
 ghost use Rattle.frame_store.specs.Parts.{IsSingle};
@@ -11,6 +10,7 @@ ghost use Rattle.label_methods.specs.LevelColumns as levels;
 
 use cell_core::{Cell, Code, Kind, Label};
 use column_core::Column;
+use form_parts::present_kind;
 use frame_store::{Blocks, OpFault};
 use multi_index::Axis;
 use std::alloc::Global;
@@ -24,19 +24,6 @@ pub fn cell_of(label: Label) -> Cell
         Label::Int(number) => Cell::Int(number),
         Label::Bool(truth) => Cell::Bool(truth),
         Label::Text(id) => Cell::Text(id),
-    }
-}
-
-// The kind of a cell that is present.
-fn present_kind(cell: Cell) -> Option<Kind>
-    ensures { (texts : List OneText) (rest : List CellValue)
-        → set.first_kind (datum texts cell ∷ rest) ≡ unwrap_or result (set.first_kind rest) }
-{
-    match cell {
-        Cell::Int(_) => Some(Kind::Int64),
-        Cell::Bool(_) => Some(Kind::Boolean),
-        Cell::Text(_) => Some(Kind::Text),
-        Cell::Na => None,
     }
 }
 

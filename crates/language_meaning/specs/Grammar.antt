@@ -4,7 +4,7 @@ use Rattle.std.specs.List.{list_any}
 use Rattle.meaning.specs.Text.{Text, same_text}
 use Rattle.language_meaning.specs.Token.{Token, word, int, text, op, mark, Mark, equals, dot, comma, colon, tilde, open_paren, close_paren, open_bracket, close_bracket, open_brace, close_brace}
 use Rattle.language_meaning.specs.Tree as tree
-use Rattle.language_meaning.specs.Tree.{Binary, add, sub, mul, floor_div, mod_, eq, ne, lt, le, gt, ge, and, or, xor, Accessor, loc, iloc, at, iat, Expr, Step, Sub, OptionalSub, OptionalArg, OptionalExpr, Arg, ArgList, Args, ArgPairs, Form, name, literal, unary, binary, after, len, make, paren, item, access, method, group, rolling, expanding, key, span, no_sub, some_sub, no_arg, some_arg, no_expr, some_expr, expr, many, row, table, nothing, no_args, more_args, no_named, more_named, no_pairs, more_pairs, import_pandas, bind, put, drop_name, drop_column, print}
+use Rattle.language_meaning.specs.Tree.{Binary, add, sub, mul, floor_div, mod_, eq, ne, lt, le, gt, ge, and, or, xor, Accessor, loc, iloc, at, iat, Expr, Step, Sub, OptionalSub, OptionalArg, OptionalExpr, Arg, ArgList, Args, ArgPairs, Action, name, literal, unary, binary, after, len, make, paren, item, access, method, group, rolling, expanding, key, span, no_sub, some_sub, no_arg, some_arg, no_expr, some_expr, expr, many, row, table, nothing, no_args, more_args, no_named, more_named, no_pairs, more_pairs, import_pandas, bind, put, drop_name, drop_column, print}
 use Rattle.language_meaning.specs.Depth.{depth, arg_depth}
 
 -- the words that are no names
@@ -198,20 +198,20 @@ SpellsEnd end ts =
     ⊎ (ts ≡ mark comma ∷ word (codes "end") ∷ mark equals ∷ text end ∷ mark close_paren ∷ [])
 
 -- the tokens of a statement
-abbrev pub SpellsForm : Form → List Token → Type 0
-SpellsForm import_pandas ts = ts ≡ word (codes "import") ∷ word (codes "pandas") ∷ word (codes "as") ∷ word (codes "pd") ∷ []
-SpellsForm (bind n x) ts = (vs : List Token) × (ts ≡ word n ∷ mark equals ∷ vs) × IsName n × SpellsExpr x 0 vs []
-SpellsForm (put x s a) ts =
+abbrev pub SpellsAction : Action → List Token → Type 0
+SpellsAction import_pandas ts = ts ≡ word (codes "import") ∷ word (codes "pandas") ∷ word (codes "as") ∷ word (codes "pd") ∷ []
+SpellsAction (bind n x) ts = (vs : List Token) × (ts ≡ word n ∷ mark equals ∷ vs) × IsName n × SpellsExpr x 0 vs []
+SpellsAction (put x s a) ts =
     (vs : List Token) × (begins_minus ts ≡ false) × IsTarget s × SpellsExpr (after x s) 7 ts (mark equals ∷ vs) × SpellsArg a vs []
-SpellsForm (drop_name n) ts = (ts ≡ word (codes "del") ∷ word n ∷ []) × IsName n
-SpellsForm (drop_column n x) ts = (vs : List Token) × (ts ≡ word (codes "del") ∷ word n ∷ mark open_bracket ∷ vs) × IsName n × SpellsExpr x 0 vs (mark close_bracket ∷ [])
-SpellsForm (print x end) ts = (vs ws : List Token) × (ts ≡ word (codes "print") ∷ mark open_paren ∷ vs) × SpellsExpr x 0 vs ws × SpellsEnd end ws
+SpellsAction (drop_name n) ts = (ts ≡ word (codes "del") ∷ word n ∷ []) × IsName n
+SpellsAction (drop_column n x) ts = (vs : List Token) × (ts ≡ word (codes "del") ∷ word n ∷ mark open_bracket ∷ vs) × IsName n × SpellsExpr x 0 vs (mark close_bracket ∷ [])
+SpellsAction (print x end) ts = (vs ws : List Token) × (ts ≡ word (codes "print") ∷ mark open_paren ∷ vs) × SpellsExpr x 0 vs ws × SpellsEnd end ws
 
 abbrev pub most_depth : ℕ
 most_depth = 32
 
 -- No form in it is deeper than the limit. A setting's target, its object with its last step, is one form.
-abbrev pub IsShallow : Form → Type 0
+abbrev pub IsShallow : Action → Type 0
 IsShallow import_pandas = Unit {0}
 IsShallow (bind n x) = depth x ≤ most_depth
 IsShallow (put x s a) = (depth (after x s) ≤ most_depth) × (arg_depth a ≤ most_depth)

@@ -70,18 +70,18 @@ mutual
     no_pairs : ArgPairs
     more_pairs : Literal → Arg → ArgPairs → ArgPairs
 
-pub data Form : Type 0 where
-  import_pandas : Form
-  bind : Text → Expr → Form
-  put : Expr → Step → Arg → Form
-  drop_name : Text → Form
-  drop_column : Text → Expr → Form
-  print : Expr → Text → Form
+pub data Action : Type 0 where
+  import_pandas : Action
+  bind : Text → Expr → Action
+  put : Expr → Step → Arg → Action
+  drop_name : Text → Action
+  drop_column : Text → Expr → Action
+  print : Expr → Text → Action
 
 -- a statement, with the line of its first token, counted from 1
 pub record Statement : Type 0 where
   pub line : ℕ
-  pub form : Form
+  pub action : Action
 
 -- the parts of a list, as the tree holds them
 abbrev pub arg_list : List Arg → ArgList

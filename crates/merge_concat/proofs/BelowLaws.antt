@@ -1,13 +1,47 @@
--- Columns one below the other.
+-- Values behind values, as cells.
 use Rattle.{
-  std.{proofs.{Common.{◌≡◌, ◌-◌, ◌<◌, ◌≤◌, ℕ, Bool, true, false, cond, List, [], ◌∷◌, length, map, take, drop, slice_index_or, refl, arith, Option, Some, None, Ok, Err, nat_lt, lt-ltb, le-ltb}, lemmas.{Bool.{and_parts}, List.{map-append, length-map, take_rest, Concat.{length-flat_map}}}}, specs.List.{list_all, flat_map, All}},
-  cell_core.specs.declared.cell.{Kind.{Kind}, Label.{Label}},
-  meaning.specs.{Cell.{CellValue, datum}, Column.{ColumnValue}},
-  column_core.specs.Columns.{CellColumn, column_value},
+  meaning.proofs.Common.{◌≡◌, ◌+◌, ◌-◌, ℕ, zero, suc, Bool, false, List, [], ◌∷◌, ◌++◌, length, take, replicate, map, refl, arith, Option, None, append_assoc, ◌<◌, ◌≤◌, true, cond, drop, slice_index_or, Some, Ok, Err, nat_lt, take_all, map-append, length-map, take_rest, map-range_with_len_more, length-flat_map, list_all-map, and_parts, same_from_decides, range_with_len, list_all, flat_map, Bor, Decides, pointwise, Cell, Na, Kind, Label, tabulate, ColumnValue, CellValue, datum},
+  std.{proofs.{Common.{lt-ltb, le-ltb}, lemmas.Option.{cond_some}}, specs.List.{All}},
+  column_core.{specs.{Lanes.{IsPushed}, Columns.{CellColumn, column_value}}, proofs.{ColumnLaws.{length-tabulate}, CellRows.{pushed_column}}},
+  merge_concat.specs.{Growing.{cells_of_values}, declared.parts.Part.{Part}, Parts.{part_kind, part_column, kind_of_all, cells_below, count_below}, Axes.{tuples_of_each}},
   align_meaning.specs.Joins.{most_rows},
-  join_meaning.specs.Concat.{mixed_kinds, too_large, same_kind, column_below, rows_concatenated},
-  merge_concat.specs.{declared.parts.Part.{Part}, Parts.{part_kind, part_column, kind_of_all, cells_below, count_below}},
+  join_meaning.specs.Concat.{mixed_kinds, too_large, same_kind, column_below, rows_concatenated, are_equal},
+  multi_index.specs.Axes.{AxisValue},
+  row_keys.specs.Keys.{same_tuple},
+  label_align.proofs.SameLaws.{tuples_decide},
 }
+
+next_numbers : {C : Type 0} (f g : ℕ → C) → ((k : ℕ) → f (suc k) ≡ g k) → (a n : ℕ) → map f (range_with_len (a + 1) n) ≡ map g (range_with_len a n)
+next_numbers f g _ a zero = refl
+next_numbers f g same a (suc n) = grind (arith, next_numbers f g same (a + 1) n)
+
+-- a list that is made longer by one item again and again
+pub resized : {X : Type 0} (xs : List X) (x : X) (n m count : ℕ) → m ≡ length xs → n ≡ m + count → take n xs ++ replicate (n - m) x ≡ xs ++ replicate count x
+resized = grind (arith, take_all)
+
+module _ {T : Type 0} (cell : Option T → Cell) where
+  -- the cells of values behind values stand behind theirs
+  pub cells_append : (v w : List T) (p q : List Bool) → length p ≡ length v → cells_of_values cell (v ++ w) (p ++ q) ≡ cells_of_values cell v p ++ cells_of_values cell w q
+  cells_append [] w [] q e = refl
+  cells_append [] w (b ∷ p) q e = search
+  cells_append (x ∷ v) w [] q e = search
+  cells_append (x ∷ v) w (b ∷ p) q e = grind (arith, next_numbers, cells_append v w p q (omega (arith, e)))
+
+  -- missing ones
+  pub cells_missing : cell None ≡ Na → (n : ℕ) (blank : T) → cells_of_values cell (replicate n blank) (replicate n false) ≡ replicate n Na
+  cells_missing _ zero _ = refl
+  cells_missing missing (suc n) blank = grind (arith, next_numbers, cells_missing missing n blank)
+
+  -- how many rows there are
+  pub rows_counted : (values : List T) (present : List Bool) → length (cells_of_values cell values present) ≡ length values
+  rows_counted = search length-tabulate
+
+  -- one row more
+  pub one_row_more : (kind : Kind) (old : List Cell) (values values' : List T) (present present' : List Bool) (row : ℕ → Option T) (k : ℕ) → IsPushed values present (row k) values' present'
+      → cells_of_values cell values present ≡ old ++ tabulate k (λ j. cell (row j)) → cells_of_values cell values' present' ≡ old ++ tabulate (k + 1) (λ j. cell (row j))
+  one_row_more kind old values values' present present' row k pushed before = grind (arith, pushed_column kind cell values present (row k) values' present' (cell (row k)) pushed refl, append_assoc old (tabulate k (λ j. cell (row j))) (cell (row k) ∷ []), map-range_with_len_more (λ j. cell (row j)) 0 k k (omega arith))
+
+-- Columns one below the other.
 
 -- the kind of all parts, where the first one is told
 module _ (missing : Kind) where
@@ -23,14 +57,11 @@ module _ (missing : Kind) where
   all_at_kind _ [] all = grind arith
   all_at_kind kind (part ∷ parts) all = grind (arith, all_at_kind kind parts, and_parts)
 
-  some_kind : (b : Bool) (k kind : Kind) → cond b (Some k) None ≡ Some kind → (b ≡ true) × (k ≡ kind)
-  some_kind = grind arith
-
   -- each part is of the kind, or missing
   pub parts_at_kind : (kind : Kind) (parts : List Part) → kind_of_all missing parts ≡ Some kind → All (λ part. part_kind kind part ≡ kind) parts
   parts_at_kind _ [] e = grind arith
   parts_at_kind _ (part ∷ parts) e =
-      let told = some_kind (list_all (alike (part_kind missing part)) parts) _ _ e in
+      let told = cond_some (list_all (alike (part_kind missing part)) parts) _ _ e in
       grind (arith, all_at_kind)
 
   module _ (texts : List (List ℕ)) where
@@ -72,3 +103,17 @@ module _ (missing : Kind) where
 
       pub is_made : (column : CellColumn) → count_below parts ≤ most_rows → column ≡ record { kind = kind; cells = cells_below parts } → rows_concatenated {K = List Label} (map value_of parts) ≡ Ok (column_value texts column)
       is_made _ few is = cc (within false (le-ltb most_rows (count_below parts) few))
+
+-- Axes that all have the labels of the first.
+
+-- whether an axis has the labels of another
+abbrev pub has_labels_of : Bor AxisValue → Bor AxisValue → Bool
+has_labels_of first other = pointwise same_tuple first.now.tuples other.now.tuples
+
+pub labels_told : (a b : List (List Label)) (told : Bool) → Decides told (a ≡ b) → pointwise same_tuple a b ≡ told
+labels_told = search (same_from_decides, tuples_decide)
+
+pub equal_told : (axes : List (Bor AxisValue)) (first : Bor AxisValue) (told : Bool) → 1 ≤ length axes → first ≡ slice_index_or axes 0 first → list_all (has_labels_of first) (take (length axes - 1) (drop 1 axes)) ≡ told
+    → are_equal same_tuple (tuples_of_each axes) ≡ told
+equal_told [] = search
+equal_told (axis ∷ axes) = grind (arith, list_all-map (pointwise same_tuple axis.now.tuples) (λ a. a.now.tuples) axes, take_rest (axis ∷ axes) 1)

@@ -1,7 +1,7 @@
 -- Laws that the goals of functions want, by the name of the first that does.
 use Rattle.{
-  merge_concat.proofs.{AxisLaws.{one_level, level_more, no_level, lists_of_axes, keys_counted, keyed, tuples_there}, UnitedLaws.{different_at, told_at, none_more}, JoinLaws.{few_left, few_right, refused_left, refused_right}, CountLaws.{too_many, length-outer, few_enough, length-from}, CodeLaws.{bucket_there}},
-  std.proofs.{lemmas.{List.{length-map, take_all, FromFn.{get_or-map-range_with_len}}, Simd.{map-map}}, Common.{nat_eq}},
+  meaning.proofs.Common.{length-map, take_all, get_or-map-range_with_len, map-map, nat_eq},
+  merge_concat.proofs.{UnitedLaws.{one_level, level_more, no_level, lists_of_axes, keys_counted, keyed, tuples_there, different_at, told_at, none_more}, JoinLaws.{few_left, few_right, refused_left, refused_right, too_many, length-outer, few_enough, length-from, bucket_there}},
   row_keys.proofs.RecodeLaws.{firsts_inside},
   label_align.proofs.SameLaws.{tuple_decides, tuple_laws},
   column_core.proofs.CellRows.{range-same},

@@ -1,14 +1,8 @@
-pub mod PairLaws
 pub mod CountLaws
 pub mod CodeLaws
-pub mod KnownLaws
-pub mod OftenLaws
 pub mod GrowLaws
 pub mod BelowLaws
-pub mod JoiningLaws
 pub mod JoinLaws
-pub mod EqualLaws
-pub mod AxisLaws
-pub mod UnitedLaws
 pub mod ExchangeLaws
+pub mod UnitedLaws
 pub mod Hints

@@ -9,11 +9,11 @@ ghost use Rattle.merge_concat.specs.Parts.{part_kind, part_cells};
 
 use crate::parts::Part;
 use cell_core::{NoMemory, TextId};
-use column_core::{Borrowed, ColRef, Dense, Lane, Owned, Value};
+use column_core::{Borrowed, ColRef, Dense, Element, Lane, Owned};
 use std::alloc::Global;
 
 /// A value of a kind, of which rows grow by borrowed cells of that kind.
-pub(crate) trait Grows: Value {
+pub(crate) trait Grows: Element {
     /// Behind the rows those of the cells.
     fn with_cells(rows: Owned<Self>, cells: &ColRef<'_>) -> Result<Owned<Self>, NoMemory>
         requires { cells.now.kind ≡ Self.kind }
@@ -61,7 +61,7 @@ impl Grows for TextId {
 }
 
 // No rows, with room for so many.
-pub(crate) fn with_room<T: Value>(alloc: Global, count: usize) -> Result<Owned<T>, NoMemory>
+pub(crate) fn with_room<T: Element>(alloc: Global, count: usize) -> Result<Owned<T>, NoMemory>
     ensures { IfOk result (λ rows. cells_of_rows T.cell rows ≡ []) }
 {
     let values = Vec::with_capacity(alloc, count)?;
@@ -71,7 +71,7 @@ pub(crate) fn with_room<T: Value>(alloc: Global, count: usize) -> Result<Owned<T
 
 // Behind the rows those of values that lie side by side: two slices are copied.
 #[tactic(auto, using(crate::proofs::GrowLaws::cells_append))]
-fn with_side<T: Value>(rows: Owned<T>, side: &Dense<'_, T>) -> Result<Owned<T>, NoMemory>
+fn with_side<T: Element>(rows: Owned<T>, side: &Dense<'_, T>) -> Result<Owned<T>, NoMemory>
     ensures { IfOk result (λ more. cells_of_rows T.cell more
         ≡ cells_of_rows T.cell rows
         ++ cells_of_values T.cell side.now.values.now side.now.present.now) }
@@ -86,7 +86,7 @@ fn with_side<T: Value>(rows: Owned<T>, side: &Dense<'_, T>) -> Result<Owned<T>, 
 }
 
 // Behind the rows those of a lane, row by row.
-fn with_rows<T: Value>(mut rows: Owned<T>, lane: &Lane<'_, T>) -> Result<Owned<T>, NoMemory>
+fn with_rows<T: Element>(mut rows: Owned<T>, lane: &Lane<'_, T>) -> Result<Owned<T>, NoMemory>
     ensures { IfOk result (λ more. cells_of_rows T.cell more
         ≡ cells_of_rows T.cell rows ++ cells_of_lane T.cell lane.now) }
 {
@@ -98,7 +98,7 @@ fn with_rows<T: Value>(mut rows: Owned<T>, lane: &Lane<'_, T>) -> Result<Owned<T
 
 // Behind the rows those of a lane.
 #[tactic(auto, using(crate::proofs::Hints::with_lane))]
-fn with_lane<T: Value>(rows: Owned<T>, lane: &Lane<'_, T>) -> Result<Owned<T>, NoMemory>
+fn with_lane<T: Element>(rows: Owned<T>, lane: &Lane<'_, T>) -> Result<Owned<T>, NoMemory>
     ensures { IfOk result (λ more. cells_of_rows T.cell more
         ≡ cells_of_rows T.cell rows ++ cells_of_lane T.cell lane.now) }
 {
@@ -109,7 +109,7 @@ fn with_lane<T: Value>(rows: Owned<T>, lane: &Lane<'_, T>) -> Result<Owned<T>, N
 }
 
 // Behind the rows so many without values.
-fn with_missing<T: Value>(rows: Owned<T>, count: usize) -> Result<Owned<T>, NoMemory>
+fn with_missing<T: Element>(rows: Owned<T>, count: usize) -> Result<Owned<T>, NoMemory>
     requires { length rows.values.items + count ≤ 2 ^ 26 }
     ensures { IfOk result (λ more. cells_of_rows T.cell more
         ≡ cells_of_rows T.cell rows ++ replicate count cell.Na) }

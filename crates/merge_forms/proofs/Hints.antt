@@ -1,8 +1,8 @@
 -- Laws that the goals of functions want, by the name of the first that does.
 use Rattle.{
-  std.proofs.lemmas.List.{drop_all, append-nil, map-append, length-map},
+  meaning.proofs.Common.{drop_all, append-nil},
+  form_parts.proofs.Common.{map-append, length-map, single_on},
   merge_forms.proofs.{TableLaws.{one_more_in_range}, KeyLaws.{all_count, key_met, key_place, key_passed, no_key}},
-  form_parts.proofs.GapLaws.{single_on},
   selections.proofs.PickedLaws.{places_inside},
 }
 

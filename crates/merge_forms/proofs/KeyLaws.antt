@@ -1,25 +1,23 @@
 -- Calls of `merge`, the columns of two frames whose cells are the keys, and the labels of all columns beside one another.
 use Rattle.{
-  std.{proofs.{lemmas.{List.{append_assoc, drop_more, get_or_default, map-append, take_more, length-map, Folds.{list_any_at, list_any_none, list_any-append}, Sums.{position_or_len_is}}, Option.{same_Some, get_or_from_slice_get, slice_get_within}, Bool.{and_parts, Decides.{nat_tests}}}, Common.{rules, ◌≡◌, ◌+◌, ◌<◌, ◌≤◌, sym, ℕ, true, false, nat_eq, List, length, slice_get, slice_index_or, Some, arith, refl, Bool, ◌||◌, [], ◌∷◌, ◌++◌, map, take, Option, if◌then◌else◌, ◌∙◌, ap, zero, suc, ◌&&◌, filter, drop, None, Result, Ok, Err, nat_lt, ⊎_elim, option_map}, Math.ListN.{get_or-map}}, specs.{List.{position_or_len, list_any, range_with_len}, Prelude.{codes, filter_map, IfSome}}},
-  frame_store.{specs.{World.{IsKnownTable, World, entry_in, AreKnownArguments}, Shown.{headings_value, cells_value, Makes}, Parts.{table_column}, declared.{arguments.{Chain.{Chain, TheVariants.{Plain}}, Named.{Named}, Value.{Value, TheVariants.{Object}}}, fault.OpFault.{OpFault}, object.ObjId.{ObjId}}, Arguments.{object_value, shape_at}, Objects.{Tables}}, proofs.Settling.{settled_later, seen_later, headings_part}},
+  form_parts.proofs.Common.{drop_more, get_or_default, map-append, take_more, length-map, list_any_at, list_any_none, list_any-append, same_Some, get_or_from_slice_get, slice_get_within, and_parts, nat_tests, rules, ◌≡◌, ◌+◌, ◌<◌, ◌≤◌, sym, ℕ, true, false, nat_eq, List, length, slice_get, slice_index_or, Some, arith, refl, Bool, ◌||◌, [], ◌∷◌, ◌++◌, map, take, Option, if◌then◌else◌, ◌∙◌, ap, zero, suc, ◌&&◌, filter, drop, None, Result, Ok, Err, nat_lt, get_or-map, position_or_len, list_any, range_with_len, codes, filter_map, IfSome, IsKnownTable, World, entry_in, AreKnownArguments, headings_value, cells_value, Makes, table_column, Named, Value, Object, OpFault, ObjId, object_value, Tables, settled_later, seen_later, headings_part, Label, Cell, Kind, Shape, Frame, AreDistinct, IsLonger, Text, LabelValue, datum, label_datum, CellValue, cell_label, FaultValue, bad_value, limit, then_value, IsSettled, NumberedTable, Table, table_value, heading_value, column_at, Entry, cell, Given, GivenList, NamedGiven, one, no_given, more_given, object_in, kind_itself, heading_at, cells_of, try_all, same_kind, on, CellColumn, MakesBy},
+  meaning.{proofs.Common.{position_or_len_is, ⊎_elim, option_map}, specs.Fault.{key_kinds}},
+  std.proofs.lemmas.List.{append_assoc},
+  frame_store.specs.{declared.arguments.Chain.{Chain, TheVariants.{Plain}}, Arguments.{shape_at}},
   method_meaning.specs.{Merge.{is_key, MergeKeys, suffixed_heading, right_places, kinds_at, are_same_kinds, merged_rows, how_named, validate_in, merge_result}, Rows.{all_places, places_besides}, Levels.{label_cell}, Calls.{is_merge, merge_call, chain_result, call_result}},
   indexmap.specs.IndexSet.{insert_key},
-  cell_core.specs.{declared.{cell.{Label.{Label}, Cell.{Cell}, Kind.{Kind}}, grid.Shape.{Shape, TheVariants.{Frame}}}, Texts.{AreDistinct, IsLonger}},
-  meaning.specs.{Text.{Text}, Cell.{LabelValue, datum, label_datum, CellValue}, Operator.{cell_label}, Fault.{FaultValue, bad_value, key_kinds, limit, then_value}},
-  table_meaning.{specs.{Settled.{IsSettled}, Table.{NumberedTable, Table, table_value, heading_value, column_at}, Value.{Entry, cell, Given, GivenList, NamedGiven, one, no_given, more_given, object_in}}, proofs.KindLaws.{kind_is, kind_itself}},
-  form_meaning.{specs.{Select.{heading_at, cells_of}, Finish.{try_all, same_kind}, declared.{Method.{Method, TheVariants.{Other}}, OtherMethod.TheVariants.{Merge}, Parameter.{Parameter}}, Signature.{method_names, method_named, fits_shape, parameters_of, needed, optional}, Binding.{each, is_scalar, count_of, takes, text_in}, Make.{on}}, proofs.ShapeLaws.{named_fits, of_frame}},
+  table_meaning.proofs.KindLaws.{kind_is},
+  call_meaning.{specs.{declared.{Method.{Method, TheVariants.{Other}}, OtherMethod.TheVariants.{Merge}, Parameter.{Parameter}}, Signature.{method_names, method_named, fits_shape, parameters_of, needed, optional}, Binding.{each, is_scalar, count_of, takes, text_in}}, proofs.ShapeLaws.{named_fits, of_frame}},
   selections.{specs.{Headings.{same_heading}, Selected.{heading_of, headings_at}}, proofs.{HeadingLaws.{heading_decides, same_seen, head_settled, rest_settled}, PlaceLaws.{heading_seen, heading_settled}, AnswerLaws.{column_seen}, PickedLaws.{list_is}}},
   label_methods.{proofs.IndexingLaws.{headings_seen, headings_settled}, specs.{LevelColumns.{cell_of}, Chains.{chain_in}}},
   merge_forms.specs.{Headings.{AreAmong, label_beside, merged_headings}, declared.keys.MergeKeys.{MergeKeys as NumberedKeys}, Keys.{keys_value, cell_labels, keys_told, keys_checked, kinds_of, AreMergeKeys, keys_seen, labels_on}, Calls.{is_plain, merge_of, IsMergeCall}},
-  column_core.specs.Columns.{CellColumn},
   join_meaning.specs.declared.{How.{How}, Validate.{Validate}},
-  form_parts.specs.Makes.{MakesBy},
   signatures.{specs.{Bound.{given_in, stands_at, IsBound}, declared.bound.Bound.{Bound as BoundArguments}}, proofs.RuleLaws.{filled}},
 }
 use Rattle.form_meaning.specs.Finish as finish
-use Rattle.form_meaning.specs.declared.ParameterName.TheVariants as name
-use Rattle.form_meaning.specs.declared.Form.TheVariants as form
-use Rattle.form_meaning.specs.declared.Omitted.TheVariants as omitted
+use Rattle.call_meaning.specs.declared.ParameterName.TheVariants as name
+use Rattle.call_meaning.specs.declared.Accepted.TheVariants as accepted
+use Rattle.call_meaning.specs.declared.Omitted.TheVariants as omitted
 
 abbrev Headings : Type 0
 Headings = List (Option Label)
@@ -212,7 +210,7 @@ merge_is_of_frame shape name is = by _ refl is
 pub is_call : (w : World) (ps : List Parameter) (args : List Named) (b : BoundArguments) → ps ≡ parameters_of (Other Merge) → AreKnownArguments w args → IsBound w ps args (Ok b) → IsMergeCall w b
 is_call = grind (arith, filled, slice_get)
 
-frame_taken : (g : Given) (t : Table) → takes (needed name.Right form.Frame) g ≡ true → Some t ≡ object_in g → t.shape ≡ Frame
+frame_taken : (g : Given) (t : Table) → takes (needed name.Right accepted.Frame) g ≡ true → Some t ≡ object_in g → t.shape ≡ Frame
 frame_taken = grind arith
 
 -- a label at least is named, if any
@@ -221,7 +219,7 @@ scalars_count no_given _ = refl
 scalars_count (more_given (one (cell c)) rest) all = ap suc (scalars_count rest all) ∙ omega arith
 scalars_count _ all = cc
 
-labels_taken : (g : Given) → takes (optional name.On form.SomeLabels omitted.None) g ≡ true → IfSome (labels_on g) (λ labels. 1 ≤ length labels)
+labels_taken : (g : Given) → takes (optional name.On accepted.SomeLabels omitted.None) g ≡ true → IfSome (labels_on g) (λ labels. 1 ≤ length labels)
 labels_taken = grind (arith, nat_tests, and_parts, scalars_count, length-map)
 
 pub labels_some : (w : World) (b : BoundArguments) → IsMergeCall w b → IfSome (labels_on (stands_at w.tables w.texts b 2)) (λ labels. 1 ≤ length labels)

@@ -1,22 +1,13 @@
 -- The columns of joined rows, and the frame of them.
 use Rattle.{
-  std.{proofs.{lemmas.{List.{drop_more, length-map, map-append, take_more, length-append, FromFn.{map-range_with_len_more, length-map-range_with_len}, Elements.{All-map, All-append, All-filter}}, Option.{slice_get_within, get_or_from_slice_get}, Bool.Decides.{nat_tests}}, Common.{◌≡◌, ◌∙◌, ◌+◌, ap, refl, sym, arith, ℕ, suc, false, List, [], ◌∷◌, ◌++◌, map, take, drop, length, slice_get, All, Option, Some, None, append_assoc, nat_eq, Result, filter, ◌^◌, ◌<◌, subst, true, slice_index_or, Ok, Err}, Math.ListN.{get_or-map}}, specs.{List.{range_with_len, position_or_len}, Prelude.{IfSome, IsSome}}},
+  form_parts.proofs.Common.{drop_more, length-map, map-append, take_more, length-append, map-range_with_len_more, length-map-range_with_len, All-map, All-append, All-filter, slice_get_within, get_or_from_slice_get, nat_tests, ◌≡◌, ◌∙◌, ◌+◌, ap, refl, sym, arith, ℕ, suc, false, List, [], ◌∷◌, ◌++◌, map, take, drop, length, slice_get, All, Option, Some, None, append_assoc, nat_eq, Result, filter, ◌^◌, ◌<◌, subst, true, slice_index_or, Ok, Err, get_or-map, range_with_len, position_or_len, IfSome, IsSome, on_rows_seen, default_seen, map-map as map_map, Cell, Na, Label, Limit, Frame, AreDistinct, IsLonger, Text, CellValue, na_cell, datum, LabelValue, FaultValue, fault_of, IsSettled, ColumnOf, Table, column_at, column_value, NumberedTable, table_value, heading_value, Entry, IsWhole, columns_value, headings_value, Makes, IsKnownTable, OpFault, Refused, NoMemory, HeadingList, columns_of, table_of, table_settled, settled_later, seen_later, columns_part, CellBlock, AxisValue, range_axis, within_limits, limited, unless_repeated, default_labels, common_name, heading_at},
   selections.{proofs.{AnswerLaws.{column_seen}, HeadingLaws.{repeated_seen}, RefusalLaws.{repeated_settled}}, specs.Headings.{NamesRepeated, repeated_heading}},
-  form_parts.proofs.{GapLaws.{on_rows_seen}, LabelLaws.{default_seen}},
-  group_meaning.proofs.ListLaws.{map_map},
-  cell_core.specs.{declared.{cell.{Cell.{Cell, TheVariants.{Na}}, Label.{Label}}, code.Code.TheVariants.{Limit}, grid.Shape.TheVariants.{Frame}}, Texts.{AreDistinct, IsLonger}},
-  meaning.specs.{Text.{Text}, Cell.{CellValue, na_cell, datum, LabelValue}, Fault.{FaultValue}, FaultOf.{fault_of}},
   join_meaning.specs.{Pairs.{Pair}, declared.{How.{How}, Validate.{Validate}}},
-  table_meaning.specs.{Settled.{IsSettled}, Table.{ColumnOf, Table, column_at, column_value, NumberedTable, table_value, heading_value}, Value.{Entry}, Valid.{IsWhole}},
-  frame_store.{specs.{Shown.{columns_value, headings_value, Makes}, World.{IsKnownTable}, declared.fault.OpFault.{OpFault, TheVariants.{Refused, NoMemory}}, Parts.{HeadingList, columns_of, table_of}}, proofs.Settling.{table_settled, settled_later, seen_later, columns_part}},
   method_meaning.specs.{Rows.{all_places}, Merge.{MergeKeys, is_key, right_key, right_places, key_cell, left_column, column_of_side, suffixed_heading, merged, merged_rows}},
   merge_forms.specs.{Columns.{key_cell_at, key_cells, column_on, joined_or_left, left_column_on, merged_columns}, declared.keys.MergeKeys.{MergeKeys as NumberedKeys}, Keys.{keys_value, AreMergeKeys}, Rows.{MeetsBy, AreRowsMet, repeated_in, pairs_in}, Headings.{merged_headings}},
   label_methods.proofs.{NamedLaws.{is_other, others_meant}, TableLaws.{limited_within}},
   sorting.proofs.RankLaws.{below_range},
-  column_core.specs.Blocks.{CellBlock},
-  multi_index.specs.Axes.{AxisValue, range_axis},
   merge_concat.specs.{declared.pairs.Pairs.{Pairs}, Pairs.{ArePairs}},
-  form_meaning.specs.{Finish.{within_limits, limited, unless_repeated, default_labels}, Infix.{common_name}, Select.{heading_at}},
   frame_methods.proofs.RenameLaws.{frame_heads},
 }
 use Rattle.method_meaning.specs.Merge as meant

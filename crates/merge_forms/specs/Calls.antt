@@ -1,10 +1,10 @@
 -- Calls of `merge`.
 use Rattle.std.specs.Prelude.{◌≡◌, ℕ, Bool, true, false, slice_get, Option, Some, None, if◌then◌else◌}
 use Rattle.table_meaning.specs.Settled.{IsSettled}
-use Rattle.form_meaning.specs.declared.Method.TheVariants.{Other}
-use Rattle.form_meaning.specs.declared.OtherMethod.TheVariants.{Merge}
-use Rattle.form_meaning.specs.declared.Parameter.{Parameter}
-use Rattle.form_meaning.specs.Signature.{parameters_of, method_named}
+use Rattle.call_meaning.specs.declared.Method.TheVariants.{Other}
+use Rattle.call_meaning.specs.declared.OtherMethod.TheVariants.{Merge}
+use Rattle.call_meaning.specs.declared.Parameter.{Parameter}
+use Rattle.call_meaning.specs.Signature.{parameters_of, method_named}
 use Rattle.method_meaning.specs.Calls.{is_merge}
 use Rattle.frame_store.specs.declared.arguments.Chain.{Chain}
 use Rattle.frame_store.specs.declared.arguments.Chain.TheVariants.{Plain, Group, Rolling, Expanding}

@@ -1,7 +1,7 @@
 // `merge` of a frame by its name, and every other method.
 ghost use Rattle.std.specs.Prelude.{◌≡◌, true};
 ghost use Rattle.cell_core.specs.declared.grid.Shape.TheVariants.{Frame};
-ghost use Rattle.form_meaning.specs.Signature as signature;
+ghost use Rattle.call_meaning.specs.Signature as signature;
 ghost use Rattle.method_meaning.specs.Calls as meant;
 ghost use Rattle.frame_store.specs.Arguments.{object_value, shape_at, IsLive, IsLiveObject};
 ghost use Rattle.frame_store.specs.Objects.{tables};
@@ -10,8 +10,8 @@ ghost use Rattle.label_methods.specs.Chains.{chain_in};
 ghost use Rattle.merge_forms.specs.Calls.{is_plain, merge_of};
 
 use crate::merging::merged;
+use call_meaning::{Method, OtherMethod};
 use cell_core::{Grid, Shape, TextDict};
-use form_meaning::{Method, OtherMethod};
 use form_parts::placed;
 use frame_store::{Chain, Named, NamedList, ObjId, OpFault, Store, Value};
 use signatures::{bind, method_named, parameters};

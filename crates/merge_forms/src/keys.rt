@@ -5,7 +5,7 @@ ghost use Rattle.cell_core.specs.declared.grid.Shape.TheVariants.{Frame};
 ghost use Rattle.meaning.specs.Text.{Text};
 ghost use Rattle.table_meaning.specs.Settled.{IsSettled};
 ghost use Rattle.table_meaning.specs.Table.{table_value};
-ghost use Rattle.form_meaning.specs.Binding as plain;
+ghost use Rattle.call_meaning.specs.Binding as plain;
 ghost use Rattle.method_meaning.specs.Merge as meant;
 ghost use Rattle.form_parts.specs.Makes.{MakesBy};
 ghost use Rattle.frame_store.specs.Objects.{Tables};

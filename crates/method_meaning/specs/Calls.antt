@@ -4,11 +4,11 @@ use Rattle.meaning.specs.Text.{Text}
 use Rattle.meaning.specs.Fault.{FaultValue, no_attribute, not_built}
 use Rattle.table_meaning.specs.Table.{Table}
 use Rattle.table_meaning.specs.Value.{Entry, cell, table, Given, NamedGiven}
-use Rattle.form_meaning.specs.declared.Method.{Method}
-use Rattle.form_meaning.specs.declared.Method.TheVariants.{Other}
-use Rattle.form_meaning.specs.declared.OtherMethod.TheVariants.{Merge}
-use Rattle.form_meaning.specs.Signature.{parameters_of, method_named}
-use Rattle.form_meaning.specs.Binding.{bound_of, on_bound}
+use Rattle.call_meaning.specs.declared.Method.{Method}
+use Rattle.call_meaning.specs.declared.Method.TheVariants.{Other}
+use Rattle.call_meaning.specs.declared.OtherMethod.TheVariants.{Merge}
+use Rattle.call_meaning.specs.Signature.{parameters_of, method_named}
+use Rattle.call_meaning.specs.Binding.{bound_of, on_bound}
 use Rattle.method_meaning.specs.Groups.{grouped_result}
 use Rattle.method_meaning.specs.Methods.{answer_for, is_built}
 use Rattle.method_meaning.specs.Merge.{merge_result}

@@ -14,9 +14,9 @@ use Rattle.align_meaning.specs.Targets.{rows_of_targets}
 use Rattle.join_meaning.specs.Concat.{column_below, united, are_equal, repeated_on_any, first_axis, labels_under}
 use Rattle.table_meaning.specs.Table.{ColumnOf, Table, column_at}
 use Rattle.table_meaning.specs.Value.{Entry, Given, GivenList, NamedGiven, no_given, more_given, list_in, object_in}
-use Rattle.form_meaning.specs.declared.Function.TheVariants as function
-use Rattle.form_meaning.specs.Signature.{function_parameters}
-use Rattle.form_meaning.specs.Binding.{bound_of, on_bound, whole_in, truth_in, text_in}
+use Rattle.call_meaning.specs.declared.Function.TheVariants as function
+use Rattle.call_meaning.specs.Signature.{function_parameters}
+use Rattle.call_meaning.specs.Binding.{bound_of, on_bound, whole_in, truth_in, text_in}
 use Rattle.form_meaning.specs.Finish.{limited, finished, default_labels, same_heading, value_of_column, column_of_value, missing_column, try_all}
 use Rattle.form_meaning.specs.Infix.{same_tuple, common_name, on_rows}
 use Rattle.form_meaning.specs.Make.{on}

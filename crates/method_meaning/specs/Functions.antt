@@ -3,9 +3,9 @@ use Rattle.std.specs.Prelude.{ℕ, Bool, true, false, List, Option, Some, Result
 use Rattle.meaning.specs.Text.{Text}
 use Rattle.meaning.specs.Fault.{FaultValue}
 use Rattle.table_meaning.specs.Value.{Entry, NamedGiven}
-use Rattle.form_meaning.specs.declared.Function.{Function}
-use Rattle.form_meaning.specs.declared.Function.TheVariants.{Concat}
-use Rattle.form_meaning.specs.Signature.{function_named}
+use Rattle.call_meaning.specs.declared.Function.{Function}
+use Rattle.call_meaning.specs.declared.Function.TheVariants.{Concat}
+use Rattle.call_meaning.specs.Signature.{function_named}
 use Rattle.method_meaning.specs.Concat.{concat_call}
 use Rattle.method_meaning.specs.Readers.{make_with}
 

@@ -9,13 +9,13 @@ use Rattle.meaning.specs.Operator.{cell_label}
 use Rattle.meaning.specs.Fault.{FaultValue, no_attribute, wrong_kind, bad_value, argument, limit, then_value}
 use Rattle.table_meaning.specs.Table.{ColumnOf, Table, column_at}
 use Rattle.table_meaning.specs.Value.{Entry, cell, table, Given, GivenList, NamedGiven, scalar_in, list_in}
-use Rattle.form_meaning.specs.declared.Method.TheVariants.{Other}
-use Rattle.form_meaning.specs.declared.OtherMethod.TheVariants.{Groupby}
-use Rattle.form_meaning.specs.declared.Parameter.{Parameter}
-use Rattle.form_meaning.specs.declared.ParameterName.TheVariants as name
-use Rattle.form_meaning.specs.declared.Form.TheVariants as form
-use Rattle.form_meaning.specs.Signature.{needed, parameters_of}
-use Rattle.form_meaning.specs.Binding.{Bound, not_taken, not_listed, bound, bound_of, each, is_scalar, truth_in, text_in}
+use Rattle.call_meaning.specs.declared.Method.TheVariants.{Other}
+use Rattle.call_meaning.specs.declared.OtherMethod.TheVariants.{Groupby}
+use Rattle.call_meaning.specs.declared.Parameter.{Parameter}
+use Rattle.call_meaning.specs.declared.ParameterName.TheVariants as name
+use Rattle.call_meaning.specs.declared.Accepted.TheVariants as accepted
+use Rattle.call_meaning.specs.Signature.{needed, parameters_of}
+use Rattle.call_meaning.specs.Binding.{Bound, not_taken, not_listed, bound, bound_of, each, is_scalar, truth_in, text_in}
 use Rattle.form_meaning.specs.Finish.{finished, default_labels, value_of_column, column_of_value, made_column, try_all}
 use Rattle.form_meaning.specs.Select.{column_place, column_places, heading_at, labels_of}
 use Rattle.form_meaning.specs.Make.{on}
@@ -163,7 +163,7 @@ reduction_named t =
 
 -- what `transform` is told: the name of a reduction
 abbrev pub transform_parameters : List Parameter
-transform_parameters = needed name.Name form.Text ∷ []
+transform_parameters = needed name.Name accepted.Text ∷ []
 
 abbrev pub transform_of : Option GroupReduction → Result GroupCall FaultValue
 transform_of None = Err (bad_value argument)

@@ -14,7 +14,7 @@ use Rattle.join_meaning.specs.declared.Validate.{Validate}
 use Rattle.join_meaning.specs.Pairs.{Pair, RepeatedKey, repeated_key, key_pairs}
 use Rattle.table_meaning.specs.Table.{ColumnOf, Table, column_at}
 use Rattle.table_meaning.specs.Value.{Entry, Given, nothing, object_in}
-use Rattle.form_meaning.specs.Binding.{text_in}
+use Rattle.call_meaning.specs.Binding.{text_in}
 use Rattle.form_meaning.specs.Finish.{finished, default_labels, same_heading, same_kind}
 use Rattle.form_meaning.specs.Infix.{same_tuple, tuple_before, common_name}
 use Rattle.form_meaning.specs.Make.{on}

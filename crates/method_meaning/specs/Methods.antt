@@ -17,16 +17,16 @@ use Rattle.meaning.specs.Cumulate.{Cumulation, cumulate_column}
 use Rattle.meaning.specs.Fault.{FaultValue, wrong_kind, bad_value, no_columns, not_built, then_value}
 use Rattle.table_meaning.specs.Table.{ColumnOf, Table, column_at}
 use Rattle.table_meaning.specs.Value.{Entry, cell, Given, nothing, scalar_in, list_in, dict_in}
-use Rattle.form_meaning.specs.declared.Method.{Method}
-use Rattle.form_meaning.specs.declared.Method.TheVariants as method
-use Rattle.form_meaning.specs.declared.ColumnMethod.TheVariants as column_method
-use Rattle.form_meaning.specs.declared.SummaryMethod.{SummaryMethod}
-use Rattle.form_meaning.specs.declared.SummaryMethod.TheVariants as summary_method
-use Rattle.form_meaning.specs.declared.RowMethod.TheVariants as row_method
-use Rattle.form_meaning.specs.declared.LevelMethod.TheVariants as level_method
-use Rattle.form_meaning.specs.declared.LabelMethod.TheVariants as label_method
-use Rattle.form_meaning.specs.declared.TableMethod.TheVariants as table_method
-use Rattle.form_meaning.specs.Binding.{is_scalar, same_label, whole_in, truth_in}
+use Rattle.call_meaning.specs.declared.Method.{Method}
+use Rattle.call_meaning.specs.declared.Method.TheVariants as method
+use Rattle.call_meaning.specs.declared.ColumnMethod.TheVariants as column_method
+use Rattle.call_meaning.specs.declared.SummaryMethod.{SummaryMethod}
+use Rattle.call_meaning.specs.declared.SummaryMethod.TheVariants as summary_method
+use Rattle.call_meaning.specs.declared.RowMethod.TheVariants as row_method
+use Rattle.call_meaning.specs.declared.LevelMethod.TheVariants as level_method
+use Rattle.call_meaning.specs.declared.LabelMethod.TheVariants as label_method
+use Rattle.call_meaning.specs.declared.TableMethod.TheVariants as table_method
+use Rattle.call_meaning.specs.Binding.{is_scalar, same_label, whole_in, truth_in}
 use Rattle.form_meaning.specs.Finish.{limited, finished, value_of_column, fault_of_column, made_column, try_all, with_columns, same_kind, across_columns}
 use Rattle.form_meaning.specs.Select.{cells_of}
 use Rattle.form_meaning.specs.Make.{on, kind_given, pairs_in}

@@ -8,13 +8,13 @@ use Rattle.meaning.specs.Fault as fault
 use Rattle.meaning.specs.Fault.{FaultValue, wrong_kind, bad_value, argument, cast, no_records, long_row, limit}
 use Rattle.table_meaning.specs.Table.{Table}
 use Rattle.table_meaning.specs.Value.{Entry, cell, table, Given, GivenPairs, NamedGiven, one, no_entries, more_entries, dict_in}
-use Rattle.form_meaning.specs.declared.Function.{Function}
-use Rattle.form_meaning.specs.declared.Function.TheVariants as function
-use Rattle.form_meaning.specs.Signature.{function_parameters, function_named}
-use Rattle.form_meaning.specs.Binding.{Bound, not_taken, not_listed, bound, bound_of, on_bound, text_in}
+use Rattle.call_meaning.specs.declared.Function.{Function}
+use Rattle.call_meaning.specs.declared.Function.TheVariants as function
+use Rattle.call_meaning.specs.Signature.{function_parameters, function_named}
+use Rattle.call_meaning.specs.Binding.{Bound, not_taken, not_listed, bound, bound_of, on_bound, text_in}
 use Rattle.form_meaning.specs.Finish.{default_labels}
 use Rattle.form_meaning.specs.Make.{kind_named}
-use Rattle.form_meaning.specs.Functions.{make_result}
+use Rattle.call_meaning.specs.Functions.{make_result}
 use Rattle.csv_meaning.specs.CsvRead.{CsvValue, CsvRefusal, not_utf8, no_record, long_record, not_of_kind, beyond_limits, columns_of_file}
 
 abbrev pub reads_file : Option Function → Bool

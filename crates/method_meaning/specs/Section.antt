@@ -7,7 +7,7 @@ use Rattle.pick_meaning.specs.Labels.{unless_none}
 use Rattle.pick_meaning.specs.Rows.{rows_where}
 use Rattle.table_meaning.specs.Table.{Table}
 use Rattle.table_meaning.specs.Value.{Entry}
-use Rattle.form_meaning.specs.Binding.{same_label}
+use Rattle.call_meaning.specs.Binding.{same_label}
 use Rattle.form_meaning.specs.Finish.{limited}
 use Rattle.select_meaning.specs.Keys.{found_pick}
 use Rattle.select_meaning.specs.Select.{rows_taken}

@@ -1,7 +1,7 @@
 -- One more level, first or last.
 use Rattle.{
-  std.proofs.{Common.{◌≡◌, ap, refl, arith, ℕ, zero, suc, ◌+◌, ◌-◌, ◌<◌, ◌≤◌, Bool, true, false, List, [], ◌∷◌, ◌++◌, length, take, set, replicate, slice_index_or}, Math.Seq.{set-append_seam, take-append_seam, take-append-add}, lemmas.List.{append_assoc, length_push, take_more, length-take-le, Elements.{All-cons, All-head, All-tail}}},
-  cell_core.specs.declared.cell.Label.{Label},
+  meaning.proofs.Common.{◌≡◌, ap, refl, arith, ℕ, zero, suc, ◌+◌, ◌-◌, ◌<◌, ◌≤◌, Bool, true, false, List, [], ◌∷◌, ◌++◌, length, take, set, replicate, slice_index_or, take-append_seam, length_push, take_more, length-take-le, All-cons, All-head, All-tail, Label},
+  std.proofs.{Math.Seq.{set-append_seam, take-append-add}, lemmas.List.{append_assoc}},
   multi_index.specs.Axes.{HaveLevels, with_one, first_of, tuples_with},
 }
 

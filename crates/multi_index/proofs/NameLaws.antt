@@ -1,7 +1,7 @@
 -- The names of an axis among the four that it has room for.
 use Rattle.{
-  std.{specs.Prelude.{◌≡◌, ℕ, ◌<◌, ◌≤◌, List, length, take, slice_set, Option}, proofs.{Common.{ap, arith}, lemmas.List.{length-take}, Math.Seq.{take-set-lt}}},
-  cell_core.specs.declared.cell.Label.{Label},
+  meaning.proofs.Common.{◌≡◌, ℕ, ◌<◌, ◌≤◌, List, length, take, slice_set, Option, ap, arith, length-take, Label},
+  std.proofs.Math.Seq.{take-set-lt},
   multi_index.specs.Axes.{AxisValue, with_name},
 }
 

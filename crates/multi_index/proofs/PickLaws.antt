@@ -1,9 +1,8 @@
 -- What one level answers, as the answer of an axis.
 use Rattle.{
-  std.{proofs.Common.{arith, ◌≡◌, List, [], ◌∷◌, length, Option, Some, Result, Err}, specs.{Prelude.{slice_get}, Option.{option_map}}},
-  cell_core.specs.declared.cell.Label.{Label},
+  meaning.proofs.Common.{arith, ◌≡◌, List, [], ◌∷◌, length, Option, Some, Result, Err, slice_get, Label, Text},
+  std.specs.Option.{option_map},
   index_core.specs.{Labels.{same_number, order_in}, declared.fault.IndexFault.{IndexFault}},
-  meaning.specs.Text.{Text},
   pick_meaning.{specs.{Faults.{PickFault, pick_seen}, Labels.{rows_of_key}, Leading.{leads, leading_cmp}, Slices.{label_slice}}, proofs.SeenLaws.{single_rows, single_slice}},
   multi_index.{specs.{Axes.{single_tuples}, Picks.{PicksOr, axis_fault}}, proofs.TupleLaws.{only_label_is}},
 }

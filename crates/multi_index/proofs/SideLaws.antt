@@ -1,7 +1,8 @@
 -- Labels of tuples, one more at a time.
 use Rattle.{
-  std.{proofs.{Common.{arith, ◌≡◌, ◌∙◌, ℕ, ◌+◌, ◌<◌, ◌≤◌, List, [], ◌∷◌, ◌++◌, map, take, set, length, ap, Some, slice_index_or}, lemmas.{List.{take_more, take_all, take_more_set, map_more, append_assoc}, Option.{slice_get-get_or, get_or_from_slice_get}}}, specs.Prelude.{slice_get}},
-  cell_core.specs.declared.cell.Label.{Label, TheVariants.{Na}},
+  meaning.proofs.Common.{arith, ◌≡◌, ◌∙◌, ℕ, ◌+◌, ◌<◌, ◌≤◌, List, [], ◌∷◌, ◌++◌, map, take, set, length, ap, Some, slice_index_or, take_more, take_all, take_more_set, map_more, slice_get-get_or, get_or_from_slice_get, slice_get, Label},
+  std.proofs.lemmas.List.{append_assoc},
+  cell_core.specs.declared.cell.Label.TheVariants.{Na},
   multi_index.specs.Axes.{AxisValue, label_at},
 }
 pub use Rattle.multi_index.proofs.SameTuples.{tuple_there}

@@ -1,7 +1,7 @@
 -- The tuples of an axis.
 use Rattle.{
-  std.{specs.Prelude.{◌≡◌, ℕ, ◌+◌, ◌<◌, List, [], ◌∷◌, ◌++◌, length, take, slice_get, slice_index_or, Some, All}, proofs.{Common.{refl, arith, suc}, lemmas.{List.{take_more, map-append, get_or-map, length-map, Elements.{All-map}}, Option.{get_or_from_slice_get}}}},
-  cell_core.specs.declared.cell.Label.{Label, TheVariants.{Na}},
+  meaning.proofs.Common.{◌≡◌, ℕ, ◌+◌, ◌<◌, List, [], ◌∷◌, ◌++◌, length, take, slice_get, slice_index_or, Some, All, refl, arith, suc, take_more, map-append, get_or-map, length-map, All-map, get_or_from_slice_get, Label},
+  cell_core.specs.declared.cell.Label.TheVariants.{Na},
   index_core.specs.Labels.{labels_at},
   multi_index.specs.Axes.{HaveLevels, single_tuples, tuples_at},
 }

@@ -24,13 +24,13 @@ use std::marker::Model;
 #[derive(Drop)]
 pub struct Axis {
     alloc: Global,
-    rows: Kept,
+    rows: AxisRows,
     names: [Option<Label>; 4],
     levels: usize,
 }
 
 #[derive(Drop)]
-enum Kept {
+enum AxisRows {
     Single(Index),
     Listed(Tuples),
 }
@@ -57,7 +57,7 @@ impl Axis {
         let index = Index::range(alloc, n)?;
         Ok(Axis {
             alloc,
-            rows: Kept::Single(index),
+            rows: AxisRows::Single(index),
             names: [None; 4],
             levels: 1,
         })
@@ -76,9 +76,9 @@ impl Axis {
         ensures { IfOk result (λ axis. axis ≡ nameless_axis tuples.now levels) }
     {
         let rows = if levels == 1 {
-            Kept::Single(single_level(alloc, tuples)?)
+            AxisRows::Single(single_level(alloc, tuples)?)
         } else {
-            Kept::Listed(copy_of(alloc, tuples)?)
+            AxisRows::Listed(copy_of(alloc, tuples)?)
         };
         Ok(Axis {
             alloc,
@@ -94,7 +94,7 @@ impl Axis {
     {
         Axis {
             alloc,
-            rows: Kept::Single(Index::from_vec(labels)),
+            rows: AxisRows::Single(Index::from_vec(labels)),
             names: [None; 4],
             levels: 1,
         }
@@ -105,8 +105,8 @@ impl Axis {
         ensures { IfOk result (λ axis. axis ≡ self.now) }
     {
         let rows = match &self.rows {
-            Kept::Single(index) => Kept::Single(index.copy(alloc)?),
-            Kept::Listed(tuples) => Kept::Listed(copy_of(alloc, tuples)?),
+            AxisRows::Single(index) => AxisRows::Single(index.copy(alloc)?),
+            AxisRows::Listed(tuples) => AxisRows::Listed(copy_of(alloc, tuples)?),
         };
         let names = self.names;
         Ok(Axis {
@@ -122,8 +122,8 @@ impl Axis {
         ensures { result ≡ length self.now.tuples }
     {
         match &self.rows {
-            Kept::Single(index) => index.len(),
-            Kept::Listed(tuples) => tuples.len(),
+            AxisRows::Single(index) => index.len(),
+            AxisRows::Listed(tuples) => tuples.len(),
         }
     }
 
@@ -144,8 +144,8 @@ impl Axis {
         ensures { label_at self.now row level ≡ Some result }
     {
         match &self.rows {
-            Kept::Single(index) => index.label(row),
-            Kept::Listed(tuples) => tuples.at(row).at(level),
+            AxisRows::Single(index) => index.label(row),
+            AxisRows::Listed(tuples) => tuples.at(row).at(level),
         }
     }
 
@@ -164,7 +164,7 @@ impl Axis {
         ensures { Decides result (self.now.tuples ≡ other.now.tuples) }
     {
         match (&self.rows, &other.rows) {
-            (Kept::Single(a), Kept::Single(b)) => a.same_labels(b),
+            (AxisRows::Single(a), AxisRows::Single(b)) => a.same_labels(b),
             _ => self.same_rows(other),
         }
     }
@@ -219,8 +219,8 @@ impl Axis {
         ensures { IfOk result (λ axis. axis ≡ taken_axis self.now places.now) }
     {
         let rows = match &self.rows {
-            Kept::Single(index) => Kept::Single(index.take(alloc, places)?),
-            Kept::Listed(tuples) => Kept::Listed(taken(alloc, tuples, places)?),
+            AxisRows::Single(index) => AxisRows::Single(index.take(alloc, places)?),
+            AxisRows::Listed(tuples) => AxisRows::Listed(taken(alloc, tuples, places)?),
         };
         Ok(Axis {
             alloc,
@@ -236,8 +236,8 @@ impl Axis {
         ensures { single_tuples result.now ≡ self.now.tuples }
     {
         match &self.rows {
-            Kept::Single(index) => index,
-            Kept::Listed(_) => unreachable!(),
+            AxisRows::Single(index) => index,
+            AxisRows::Listed(_) => unreachable!(),
         }
     }
 
@@ -249,9 +249,9 @@ impl Axis {
         ensures { IfOk result (λ axis. axis ≡ at_levels self.now order.now) }
     {
         let rows = if order.len() == 1 {
-            Kept::Single(Index::from_vec(labels_of(alloc, self, order[0])?))
+            AxisRows::Single(Index::from_vec(labels_of(alloc, self, order[0])?))
         } else {
-            Kept::Listed(tuples_of(alloc, self, order)?)
+            AxisRows::Listed(tuples_of(alloc, self, order)?)
         };
         Ok(Axis {
             alloc,
@@ -321,7 +321,7 @@ impl Axis {
         let tuples = tuples_with(alloc, self, labels, outer)?;
         Ok(Axis {
             alloc,
-            rows: Kept::Listed(tuples),
+            rows: AxisRows::Listed(tuples),
             names: names_with(self, outer),
             levels: levels + 1,
         })
@@ -338,8 +338,8 @@ impl Axis {
         ensures { PicksBy as_it_is result (leading_rows self.now leading.now) }
     {
         match &self.rows {
-            Kept::Single(labels) => single_places(alloc, labels, leading),
-            Kept::Listed(tuples) => listed::places_of(alloc, tuples, leading),
+            AxisRows::Single(labels) => single_places(alloc, labels, leading),
+            AxisRows::Listed(tuples) => listed::places_of(alloc, tuples, leading),
         }
     }
 
@@ -366,8 +366,8 @@ impl Axis {
         ensures below { IfOk result (λ rows. AreRowsBelow rows (length self.now.tuples)) }
     {
         match &self.rows {
-            Kept::Single(labels) => single_slice(self.alloc, dict, labels, from, to),
-            Kept::Listed(tuples) => listed::slice_of(dict, tuples, from, to),
+            AxisRows::Single(labels) => single_slice(self.alloc, dict, labels, from, to),
+            AxisRows::Listed(tuples) => listed::slice_of(dict, tuples, from, to),
         }
     }
 }

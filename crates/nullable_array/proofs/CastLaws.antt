@@ -1,8 +1,7 @@
 -- The numbers that texts are.
 use Rattle.{
-  std.{proofs.{Common.{◌≡◌, ℕ, zero, suc, ◌<◌, true, List, [], ◌∷◌, slice_index, arith, ℤ, Option, Some, None, option_map, FitsSigned, w64}, lemmas.{Bool.{lt-ltb, ltb-true, eqb-true}, Str.{IsUtf8-from_ascii, Parse.{IsNumeralModel, numerals_by_value, tells_all_ascii_digits}}}}, specs.Str.{all_ascii_digits, IsAscii, IsUtf8, Parse.{IsNumeral, digits_value, without_leading_sign, signed_digits_value}}},
-  cell_core.specs.declared.cell.{TextId.{TextId}, Kind.TheVariants.{Int64, Boolean}},
-  meaning.specs.{Cell.{datum, text_of}, Cast.{numeral_value, whole_number, truth_value, truth_of_number, cast_cell}},
+  meaning.{proofs.Common.{◌≡◌, ℕ, zero, suc, ◌<◌, true, List, [], ◌∷◌, slice_index, arith, ℤ, Option, Some, None, option_map, FitsSigned, w64, lt-ltb, ltb-true, eqb-true, IsUtf8-from_ascii, IsNumeralModel, numerals_by_value, IsAscii, IsUtf8, digits_value, TextId, Int64, Boolean, datum, text_of, cast_cell}, specs.Cast.{numeral_value, whole_number, truth_value, truth_of_number}},
+  std.{proofs.lemmas.Str.Parse.{tells_all_ascii_digits}, specs.Str.{all_ascii_digits, Parse.{IsNumeral, without_leading_sign, signed_digits_value}}},
   column_core.specs.Columns.{number_cell, truth_cell, text_cell},
   nullable_array.specs.Casts.{partial_cast},
 }

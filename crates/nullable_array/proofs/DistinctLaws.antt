@@ -1,9 +1,9 @@
 -- The different values, seen one after another, are the different cells.
 use Rattle.{
-  std.{proofs.{Common.{◌≡◌, ℕ, ◌<◌, Bool, true, false, not, List, [], ◌∷◌, ◌++◌, length, map, refl, ap, sym, ◌∙◌, append_assoc, append-nil, arith, Option, Some, None, Result, IfOk, fold}, lemmas.{List.{length-map, Elements.{filter-append}}, Map.Text.{is_eq-slice_cmp}, Bool.Decides.{same_from_decides}, Slice.Eq.{bytes_eq-Decides}}, Math.Bool.{beq}}, specs.{List.{AllByRecursion, filter, list_any}, Cmp.{IsEquivalence, Lexicographic.{slice_cmp}}, Ordering.{is_eq, int_cmp, int_eq, bool_cmp, nat_cmp}, Prelude.{ℤ, nat_eq}}},
+  meaning.proofs.Common.{◌≡◌, ℕ, ◌<◌, Bool, true, false, not, List, [], ◌∷◌, ◌++◌, length, map, refl, ap, sym, ◌∙◌, append_assoc, arith, Option, Some, None, Result, IfOk, fold, length-map, filter-append, same_from_decides, bytes_eq-Decides, beq, AllByRecursion, list_any, IsEquivalence, slice_cmp, is_eq, int_cmp, int_eq, bool_cmp, nat_cmp, ℤ, nat_eq, Cell, Int64, TextId, na_cell, datum, text_of, AreDistinct, AreGiven, tabulate, is_present, same_cell, distinct, distinct_count},
+  std.{proofs.{Common.{append-nil}, lemmas.Map.Text.{is_eq-slice_cmp}}, specs.List.{filter}},
   indexmap.specs.IndexSet.{insert_key},
-  cell_core.specs.declared.cell.{Cell.{Cell}, Kind.TheVariants.{Int64, Text as string}, TextId.{TextId}},
-  meaning.specs.{Cell.{na_cell, datum, text_of, AreDistinct, AreGiven}, Column.{tabulate}, Reduce.{is_present, same_cell, distinct, distinct_count}},
+  cell_core.specs.declared.cell.Kind.TheVariants.{Text as string},
   column_core.specs.Columns.{CellColumn, column_value, column_with, number_cell, text_cell},
   nullable_array.{specs.{Folds.{folded}, Distincts.{present_values}}, proofs.FoldLaws.{values_folded, values_given, cells_present}},
 }

@@ -1,8 +1,8 @@
 -- What is gathered from rows is what is gathered from their cells.
 use Rattle.{
-  std.{proofs.{Common.{◌≡◌, ℕ, zero, suc, ◌+◌, ◌<◌, Bool, true, false, not, ◌||◌, ◌&&◌, List, [], ◌∷◌, length, map, refl, ap, arith, ℤ, pos, ◌+ℤ◌, Option, Some, None, Ok, fold}, Math.Bool.{beq}, lemmas.List.{Elements.{recursion_from_All}, Folds.{fold-map}, FromFn.{map-range_with_len_more}, Sums.{fold_push}}}, specs.{Int.{int_wrap, w64}, List.{AllByRecursion, range_with_len}, declared.cmp.Ordering.{Ordering}, Ordering.{int_cmp, bool_cmp, nat_cmp}, Cmp.Lexicographic.{slice_cmp}}},
-  cell_core.specs.declared.cell.{Cell.{Cell, TheVariants.{Int, Bool as truth}}, Kind.TheVariants.{Text as string}, TextId.{TextId}},
-  meaning.specs.{Cell.{CellValue, na_cell, int_cell, truth_cell as truth_value_cell, datum, text_of, IsGiven, AreGiven}, Column.{tabulate}, Reduce.{is_present, present, lesser, greater, number_in, is_true, reduction_cell, reduction_takes, reduce_column}, Operator.{cell_cmp}},
+  meaning.{proofs.Common.{◌≡◌, ℕ, zero, suc, ◌+◌, ◌<◌, Bool, true, false, not, ◌||◌, ◌&&◌, List, [], ◌∷◌, length, map, refl, ap, arith, ℤ, pos, ◌+ℤ◌, Option, Some, None, Ok, fold, beq, recursion_from_All, fold-map, map-range_with_len_more, int_wrap, AllByRecursion, range_with_len, Ordering, int_cmp, bool_cmp, nat_cmp, slice_cmp, Cell, Int, TextId, CellValue, na_cell, int_cell, truth_cell as truth_value_cell, datum, text_of, IsGiven, AreGiven, tabulate, is_present, present, number_in, reduction_cell}, specs.{Reduce.{lesser, greater, is_true, reduction_takes, reduce_column}, Operator.{cell_cmp}}},
+  std.{proofs.lemmas.List.Sums.{fold_push}, specs.Int.{w64}},
+  cell_core.specs.declared.cell.{Cell.TheVariants.{Bool as truth}, Kind.TheVariants.{Text as string}},
   nullable_array.specs.{declared.ops.Reduction.{Reduction, TheVariants.{Sum, Min, Max, Any, All, Count}}, Distincts.{present_values}, Folds.{step_row, folded, sum_step, one_of_truth, is_not_zero, least_step, greatest_step, reduction_of}},
   column_core.{specs.Columns.{column_value, column_with, number_cell, truth_cell, text_cell}, proofs.CellRows.{map-map}},
 }

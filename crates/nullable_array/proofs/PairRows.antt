@@ -1,6 +1,6 @@
 -- Rows that are pushed one after another.
 use Rattle.{
-  std.proofs.{Common.{◌≡◌, ℕ, zero, suc, ◌+◌, ◌<◌, Bool, List, [], ◌∷◌, ◌++◌, length, slice_get, refl, arith, Option, Some, is_some, unwrap_or, inl, inr}, lemmas.Bool.{cases_eq}, Math.{ListN.{get_or-append}, Seq.{get_or-append_seam}}},
+  meaning.proofs.Common.{◌≡◌, ℕ, zero, suc, ◌+◌, ◌<◌, Bool, List, [], ◌∷◌, ◌++◌, length, slice_get, refl, arith, Option, Some, is_some, unwrap_or, inl, inr, cases_eq, get_or-append, get_or-append_seam},
   column_core.specs.Rows.{flagged, AreWritten},
   nullable_array.specs.Pairs.{AreFlagged, AreValued},
 }

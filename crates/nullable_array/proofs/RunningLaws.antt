@@ -1,8 +1,7 @@
 -- What is gathered at each row is the cumulation of the cells.
 use Rattle.{
-  std.{proofs.{Common.{◌≡◌, ℕ, zero, suc, ◌+◌, Bool, true, List, map, refl, sym, ap, arith, ℤ, pos, ◌+ℤ◌, Option, Some, None, unwrap_or, Ok}, lemmas.List.FromFn.{map-range_with_len_more}}, specs.{Int.{int_wrap, w64}, Ordering.{int_cmp}, List.{range_with_len}}},
-  cell_core.specs.declared.cell.{Cell.{Cell}, Kind.{Kind, TheVariants.{Int64, Boolean}}},
-  meaning.specs.{Cell.{CellValue, na_cell, datum}, Column.{tabulate}, Reduce.{reduction_cell, is_present, number_in}, Cumulate.{running, unless_missing, cumulation_cell, cumulation_takes, cumulate_column}},
+  meaning.proofs.Common.{◌≡◌, ℕ, zero, suc, ◌+◌, Bool, true, List, map, refl, sym, ap, arith, ℤ, pos, ◌+ℤ◌, Option, Some, None, unwrap_or, Ok, map-range_with_len_more, int_wrap, int_cmp, range_with_len, Cell, Kind, Int64, Boolean, CellValue, na_cell, datum, tabulate, reduction_cell, is_present, number_in, running, unless_missing, cumulation_cell, cumulation_takes, cumulate_column},
+  std.specs.Int.{w64},
   column_core.{specs.Columns.{CellColumn, column_value, column_with, number_cell, truth_cell}, proofs.CellRows.{map-map}},
   nullable_array.{specs.{declared.ops.{Cumulation.{Cumulation}, Reduction.TheVariants.{Min, Max}}, Folds.{folded, sum_step, running_step, running_row, one_of_truth, least_step, greatest_step, cumulation_of}}, proofs.FoldLaws.{folded_more, folded_seen, numbers_reduced}},
 }

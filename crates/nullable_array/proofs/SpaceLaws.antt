@@ -1,7 +1,7 @@
 -- Laws of the spaces at the ends of a text.
 use Rattle.{
-  std.proofs.{Common.{◌≡◌, ◌≤◌, [], ◌∷◌, length, refl, arith}, lemmas.List.{length-reverse, reverse-reverse}},
-  meaning.specs.{Text.{Text}, Cast.{after_spaces, without_spaces}},
+  meaning.{proofs.Common.{◌≡◌, ◌≤◌, [], ◌∷◌, length, refl, arith, Text, after_spaces}, specs.Cast.{without_spaces}},
+  std.proofs.lemmas.List.{length-reverse, reverse-reverse},
 }
 
 no_longer : (t : Text) → length (after_spaces t) ≤ length t

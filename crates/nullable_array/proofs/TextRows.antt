@@ -1,8 +1,8 @@
 -- Laws of the texts of rows.
 use Rattle.{
-  std.proofs.{Common.{◌≡◌, ℕ, ◌+◌, ◌<◌, List, ◌++◌, length, take, slice_set, arith, append_assoc, Bool, Option, is_some, unwrap_or, inl, inr}, Math.ListN.{get_or-append}, lemmas.{Bool.{cases_eq}, List.{length-append, take_at}}},
-  cell_core.specs.declared.cell.{TextId.{TextId}, Kind.TheVariants.{Text as string}},
-  meaning.specs.{Cell.{text_of, AreGiven, IsLonger}, Column.{tabulate}},
+  meaning.proofs.Common.{◌≡◌, ℕ, ◌+◌, ◌<◌, List, ◌++◌, length, take, slice_set, arith, append_assoc, Bool, Option, is_some, unwrap_or, inl, inr, get_or-append, cases_eq, take_at, TextId, text_of, AreGiven, IsLonger, tabulate},
+  std.proofs.lemmas.List.{length-append},
+  cell_core.specs.declared.cell.Kind.TheVariants.{Text as string},
   column_core.{specs.{Lanes.{option_at}, Columns.{CellColumn, text_cell, text_value, column_value, column_with}, Rows.{IsTextRow, AreTexts}}, proofs.{ColumnLaws.{given-tabulate}, CellRows.{map-map, range-same}, RowsMade.{option-set_same, option-set_other}}},
 }
 

@@ -15,7 +15,7 @@ use crate::pairs::{PairOp, Side, by_sides};
 use crate::texts::{Decimal, TruthWord, text_column};
 use cell_core::{Kind, TextDict, TextId};
 use column_core::{
-    Borrowed, ColRef, Column, Lane, Nothing, Plain, RowFault, RowOp, Source, Value, by_rows,
+    Borrowed, ColRef, Column, Element, Lane, Nothing, Plain, RowFault, RowOp, Source, by_rows,
     copied_lane,
 };
 use std::alloc::Global;

@@ -13,7 +13,7 @@ use crate::folds::{Fold, Greatest, Least, next, one_if, sum};
 use crate::ops::{ArrayFault, Cumulation};
 use crate::orders::ByNumber;
 use cell_core::NoMemory;
-use column_core::{Borrowed, ColRef, Column, Lane, Owned, Source, Value};
+use column_core::{Borrowed, ColRef, Column, Element, Lane, Owned, Source};
 use std::alloc::Global;
 
 /// At each row the sum, the least or the greatest of the present cells up to it; NA stays and is passed over. A sum
@@ -135,7 +135,7 @@ fn kept<U: Copy>(is_present: bool, so_far: Option<U>) -> Option<U>
 }
 
 // The same as a column.
-fn run<T, U: Value, F: Fold<T, Option<U>>, A: Source<T>>(
+fn run<T, U: Element, F: Fold<T, Option<U>>, A: Source<T>>(
     alloc: Global,
     fold: &F,
     a: &A,

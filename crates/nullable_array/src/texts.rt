@@ -9,7 +9,7 @@ ghost use Rattle.column_core.specs.Columns.{text_value, column_value};
 ghost use Rattle.column_core.specs.Rows.{text_if, IsTextRow, AreTexts};
 
 use cell_core::{NoMemory, TextDict, TextId};
-use column_core::{Column, Owned, Source, Value};
+use column_core::{Column, Element, Owned, Source};
 use itoa::Buffer;
 use std::alloc::{AllocError, Global};
 

@@ -1,6 +1,7 @@
 -- What keys pick lies within the axis, and what a label, a slice and a mask pick is in order.
 use Rattle.{
-  std.{proofs.{Common.{◌≡◌, refl, arith, ℕ, suc, ◌+◌, ◌<◌, ◌≤◌, Bool, true, false, List, [], ◌∷◌, ◌++◌, length, All, Option, Some, Result, Ok, if◌then◌else◌}, lemmas.List.{Elements.{All-nil, All-append, All-head}, FromFn.{length-range_with_len, get_or-range_with_len}}}, specs.{Cmp.{IsTotalOrder, Lexicographic.{pointwise}}, List.Sorted.{IsStrictlyIncreasing}, Ordering.{is_lt, is_eq}, declared.cmp.Ordering.{Ordering}}},
+  meaning.proofs.Common.{◌≡◌, refl, arith, ℕ, suc, ◌+◌, ◌<◌, ◌≤◌, Bool, true, false, List, [], ◌∷◌, ◌++◌, length, All, Option, Some, Result, Ok, if◌then◌else◌, All-nil, All-append, All-head, length-range_with_len, get_or-range_with_len, IsTotalOrder, pointwise, is_lt, is_eq, Ordering},
+  std.specs.List.Sorted.{IsStrictlyIncreasing},
   pick_meaning.{specs.{Faults.{PickFault, then_pick}, Rows.{rows_where, rows_between}, Labels.{rows_of_key, rows_of_keys}, Slices.{sorted_slice, one_row, row_of_bound, end_row, label_slice, slice_on}, Masks.{kept_by_label, masked_rows}}, proofs.OrderLaws.{below_too}},
 }
 

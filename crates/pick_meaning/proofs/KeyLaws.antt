@@ -1,6 +1,6 @@
 -- What a key of `loc` picks is the same where labels are seen otherwise, and lies within the axis.
 use Rattle.{
-  std.{proofs.{Common.{◌≡◌, ◌∙◌, ap, subst, refl, arith, ℕ, suc, ◌<◌, Bool, ◌&&◌, List, [], ◌∷◌, length, map, All, Ok}, lemmas.List.{length-map, FromFn.{length-range_with_len, get_or-range_with_len}}}, specs.declared.cmp.Ordering.{Ordering}},
+  meaning.proofs.Common.{◌≡◌, ◌∙◌, ap, subst, refl, arith, ℕ, suc, ◌<◌, Bool, ◌&&◌, List, [], ◌∷◌, length, map, All, Ok, length-map, length-range_with_len, get_or-range_with_len, Ordering},
   pick_meaning.{specs.{Faults.{then_pick, pick_seen}, Leading.{leads, leading_cmp}, Labels.{rows_of_key, rows_of_keys}, Slices.{slice_on}, Keys.{LabelKey, all_rows, one_key, each_key, between, key_seen, PlaceKey, one_place, each_place, place_slice, Pick, listed_pick, sliced_pick, key_pick, picked_by_label, picked_by_place}}, proofs.{SeenLaws.{then_seen, rows_of_key-map, rows_of_keys-map, slice_on-map}, InsideLaws.{went_on, ok_same, key_inside, keys_inside, slice_on_inside}, PositionLaws.{at_inside, rows_at_inside, slice_below, spaced_inside}}},
 }
 

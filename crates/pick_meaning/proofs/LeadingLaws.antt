@@ -1,6 +1,6 @@
 -- How leading labels of tuples in order stand to a bound.
 use Rattle.{
-  std.{proofs.Common.{rules, arith, ◌≡◌, refl, true, false, List, [], ◌∷◌}, specs.{Cmp.{IsTotalOrder}, Ordering.{is_lt, is_gt}, declared.cmp.Ordering.{Ordering, TheVariants.{Less, Greater}}}},
+  meaning.proofs.Common.{rules, arith, ◌≡◌, refl, true, false, List, [], ◌∷◌, IsTotalOrder, is_lt, is_gt, Ordering, Less, Greater},
   pick_meaning.specs.Leading.{leading_cmp},
 }
 

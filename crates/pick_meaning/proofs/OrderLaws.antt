@@ -1,6 +1,7 @@
 -- Lists in order.
 use Rattle.{
-  std.{proofs.{Common.{◌≡◌, refl, arith, ℕ, zero, suc, ◌+◌, ◌-◌, ◌<◌, ◌≤◌, Bool, true, false, not, ◌&&◌, List, [], ◌∷◌, length, drop, slice_index_or}, lemmas.{Cmp.{upto}, List.{drop_more, length-drop}}}, specs.{Cmp.{IsTotalOrder}, List.Sorted.{IsSortedBy}, Ordering.{is_lt, is_gt}, declared.cmp.Ordering.{Ordering}}},
+  meaning.proofs.Common.{◌≡◌, refl, arith, ℕ, zero, suc, ◌+◌, ◌-◌, ◌<◌, ◌≤◌, Bool, true, false, not, ◌&&◌, List, [], ◌∷◌, length, drop, slice_index_or, drop_more, length-drop, IsTotalOrder, is_lt, is_gt, Ordering},
+  std.{proofs.lemmas.Cmp.{upto}, specs.List.Sorted.{IsSortedBy}},
   pick_meaning.specs.Slices.{goes_on_in_order, is_in_order},
 }
 

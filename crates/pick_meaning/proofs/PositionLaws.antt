@@ -1,8 +1,7 @@
 -- Slices by positions lie within the rows, and `::-1` taken twice is all rows in order.
 use Rattle.{
-  std.{proofs.{Common.{◌≡◌, ◌∙◌, ap, sym, arith, ℕ, zero, suc, ◌+◌, ◌-◌, ◌*◌, ◌<◌, ◌≤◌, ℤ, pos, negsuc, List, [], ◌∷◌, map, length, All, Option, Some, Result, Ok, slice_index_or}, Math.Nat.{mul-le-mul_left}, lemmas.{Bool.{cases_lt, Decides.{nat_tests}}, List.{same_lists, length-map, get_or-map, FromFn.{length-range_with_len, get_or-range_with_len, length-map-range_with_len, get_or-map-range_with_len}}}}, specs.{Int.{div_ceil}, List.{range_with_len}}},
-  cell_core.specs.{declared.grid.Rows.{Rows}, Grids.{place_from, AreRowsBelow}},
-  meaning.specs.Place.{place_of},
+  meaning.{proofs.Common.{◌≡◌, ◌∙◌, ap, sym, arith, ℕ, zero, suc, ◌+◌, ◌-◌, ◌*◌, ◌<◌, ◌≤◌, ℤ, pos, negsuc, List, [], ◌∷◌, map, length, All, Option, Some, Result, Ok, slice_index_or, cases_lt, nat_tests, same_lists, length-map, get_or-map, length-range_with_len, get_or-range_with_len, length-map-range_with_len, get_or-map-range_with_len, div_ceil, range_with_len, Rows, place_from, AreRowsBelow}, specs.Place.{place_of}},
+  std.proofs.Math.Nat.{mul-le-mul_left},
   pick_meaning.{specs.{Faults.{PickFault}, Rows.{rows_of}, Positions.{row_or_fault, row_at, rows_at, rows_before, rows_through, bound_or, forward, backward, slice_with_step}}, proofs.InsideLaws.{went_on, ok_same}},
 }
 

@@ -1,6 +1,6 @@
 -- Laws of lists of rows.
 use Rattle.{
-  std.{proofs.{Common.{◌≡◌, ◌∙◌, ap, refl, arith, ℕ, zero, suc, ◌+◌, ◌-◌, ◌<◌, ◌≤◌, Bool, true, false, List, [], ◌∷◌, ◌++◌, length, take, map, slice_index_or, All, Ok, if◌then◌else◌}, lemmas.List.{take_more, length-take-le, append-nil, map-id}}, specs.List.{range_with_len}},
+  meaning.proofs.Common.{◌≡◌, ◌∙◌, ap, refl, arith, ℕ, zero, suc, ◌+◌, ◌-◌, ◌<◌, ◌≤◌, Bool, true, false, List, [], ◌∷◌, ◌++◌, length, take, map, slice_index_or, All, Ok, if◌then◌else◌, take_more, length-take-le, append-nil, map-id, range_with_len},
   pick_meaning.specs.{Rows.{rows_where, are_some}, Labels.{unless_none}},
 }
 

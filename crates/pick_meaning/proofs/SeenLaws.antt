@@ -1,6 +1,7 @@
 -- Keys pick the same rows where labels are seen otherwise: with their texts, or as tuples of one label.
 use Rattle.{
-  std.{proofs.{Common.{◌≡◌, refl, arith, ℕ, suc, ◌+◌, Bool, ◌&&◌, List, [], ◌∷◌, map, All, Option, Result, if◌then◌else◌}, lemmas.List.{length-map}}, specs.{Option.{option_map}, Ordering.{is_eq, ordering_then}, declared.cmp.Ordering.{Ordering, TheVariants.{Equal}}, Cmp.Lexicographic.{pointwise}}},
+  meaning.proofs.Common.{◌≡◌, refl, arith, ℕ, suc, ◌+◌, Bool, ◌&&◌, List, [], ◌∷◌, map, All, Option, Result, if◌then◌else◌, length-map, is_eq, ordering_then, Ordering, Equal, pointwise},
+  std.specs.Option.{option_map},
   pick_meaning.{specs.{Faults.{PickFault, then_pick, pick_seen}, Leading.{leads, leading_cmp}, Labels.{rows_of_key, rows_of_keys}, Slices.{goes_on_in_order, is_in_order, reaches, stays_within, sorted_slice, row_of_bound, first_row, end_row, label_slice, unfound_slice, slice_on}, Masks.{cell_of_label, kept_by_label, masked_rows}}, proofs.RowLaws.{rows_where-map}},
 }
 

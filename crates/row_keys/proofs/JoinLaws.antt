@@ -1,7 +1,7 @@
 -- Keys of two sides, numbered together, have the same partners as their codes.
 use Rattle.{
-  std.{proofs.{Common.{◌≡◌, ◌==◌, Bool, true, ℕ, List, [], ◌++◌, ◌<◌, length, slice_index_or, map, sym, arith}, lemmas.List.{Folds.{list_any-append, list_any_at}, FromFn.{get_or-map-range_with_len}, Elements.{All-map}}}, specs.{List.{list_any, All}, Cmp.{IsEquivalence}}},
-  meaning.specs.Reduce.{distinct},
+  meaning.proofs.Common.{◌≡◌, ◌==◌, Bool, true, ℕ, List, [], ◌++◌, ◌<◌, length, slice_index_or, map, sym, arith, list_any-append, list_any_at, get_or-map-range_with_len, All-map, list_any, IsEquivalence, distinct},
+  std.specs.List.{All},
   row_keys.{specs.{Keys.{place_among}, Buckets.{buckets_of}}, proofs.KeyLaws.{place_tells, distinct_has, position_in}},
   pick_meaning.{specs.Rows.{rows_where}, proofs.RowLaws.{rows_where-map}},
 }

@@ -1,7 +1,7 @@
 -- A key's place among the distinct keys tells the key.
 use Rattle.{
-  std.{proofs.{Common.{◌≡◌, ◌<◌, ◌==◌, Bool, true, false, not, cond, ℕ, List, [], ◌∷◌, ◌++◌, refl, length, slice_index_or, arith}, lemmas.{Bool.{false≢true, Decides.{nat_tests}}, List.{Sums.{passes_at_first}, Folds.{list_any_at}, Elements.{filter-append}}, Map.Views.{any-filter_same}}}, specs.{List.{position_or_len, list_any, All}, Cmp.{IsEquivalence}}},
-  meaning.specs.Reduce.{distinct},
+  meaning.proofs.Common.{◌≡◌, ◌<◌, ◌==◌, Bool, true, false, not, cond, ℕ, List, [], ◌∷◌, ◌++◌, refl, length, slice_index_or, arith, false≢true, nat_tests, passes_at_first, list_any_at, filter-append, position_or_len, list_any, IsEquivalence, distinct},
+  std.{proofs.lemmas.Map.Views.{any-filter_same}, specs.List.{All}},
   row_keys.specs.Keys.{place_among},
 }
 

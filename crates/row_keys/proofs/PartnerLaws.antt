@@ -1,7 +1,7 @@
 -- The codes of two sides that are numbered together, and the partners of a key by its code.
 use Rattle.{
-  std.{proofs.{Common.{◌≡◌, ◌<◌, ◌++◌, ℕ, List, map, take, drop, length, arith, All}, lemmas.{List.{map-append, take_at, drop_at, length-map, FromFn.{length-map-range_with_len}}, Simd.{map-map}}}, specs.Cmp.{IsEquivalence, Lexicographic.{lists_equiv}}},
-  cell_core.specs.{declared.cell.Label.{Label}, contracts.cell.LabelEq.TheImpl.Laws.{laws-law}},
+  meaning.proofs.Common.{◌≡◌, ◌<◌, ◌++◌, ℕ, List, map, take, drop, length, arith, All, map-append, take_at, length-map, length-map-range_with_len, map-map, IsEquivalence, lists_equiv, Label, laws-law},
+  std.proofs.lemmas.List.{drop_at},
   multi_index.proofs.LevelLaws.{maps_alike},
   row_keys.{specs.{Keys.{same_tuple, codes_of, first_rows}, Buckets.{buckets_of}, Partners.{rows_with, rows_coded, AreCodesBelow}}, proofs.{KeyLaws.{position_in}, JoinLaws.{rank, count, IsKnown, left_known, right_known, codes_below, bucket_of_key}}},
 }

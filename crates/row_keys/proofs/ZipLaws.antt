@@ -1,5 +1,8 @@
 -- Two lists side by side.
-use Rattle.std.{proofs.{Common.{◌≡◌, ◌<◌, ℕ, List, map, length, slice_index_or, slice_get, Some, min, arith}, lemmas.{List.{get_or-map, length-map}, Option.{slice_get-get_or, get_or_from_slice_get}, Slice.Zip.{length-zip, get_or-zip}}}, specs.List.{zip}}
+use Rattle.{
+  meaning.proofs.Common.{◌≡◌, ◌<◌, ℕ, List, map, length, slice_index_or, slice_get, Some, min, arith, get_or-map, length-map, slice_get-get_or, get_or_from_slice_get, zip},
+  std.proofs.lemmas.Slice.Zip.{length-zip, get_or-zip},
+}
 
 module _ {A B : Type 0} (a : List A) (b : List B) where
   pub length_zip : length (zip a b) ≡ min (length a) (length b)

@@ -1,7 +1,6 @@
 -- Evaluations one after the other.
 use Rattle.{
-  std.{proofs.Common.{rules, arith, ◌≡◌, Bool, List, Some, None, refl, ◌∙◌}, specs.Prelude.{Result, Ok, Err, IfOk, IfErr, IsErrAnd}},
-  meaning.specs.{Text.{Text}, Fault.{FaultValue}},
+  meaning.proofs.Common.{rules, arith, ◌≡◌, Bool, List, Some, None, refl, ◌∙◌, Result, Ok, Err, IfOk, IfErr, IsErrAnd, Text, FaultValue},
   table_meaning.specs.Value.{Entry, Given},
   frame_store.specs.{declared.{arguments.{Value.{Value}, Argument.{Argument}}, fault.OpFault.{OpFault}}, Objects.{Tables}, World.{World, Keeps, IsKnown, IsKnownValue, IsKnownArgument, argument_in, entry_in, Forms}},
   script_meaning.specs.{Reading.{Files, Reads, at_once, gives, then_read}, State.{State}, Expression.{value_of_name, where_named}},

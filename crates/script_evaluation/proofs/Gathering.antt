@@ -1,7 +1,7 @@
 -- Lists whose parts are evaluated one after the other.
 use Rattle.{
-  std.{proofs.Common.{arith, ◌≡◌, ℕ, zero, suc, ◌+◌, ◌≤◌, List, [], ◌∷◌, Some, drop, length, slice_get, ◌∙◌, drop_of_length-le}, specs.Prelude.{Result, Ok, Err, IsErrAnd}},
-  meaning.specs.Text.{Contents},
+  meaning.proofs.Common.{arith, ◌≡◌, ℕ, zero, suc, ◌+◌, ◌≤◌, List, [], ◌∷◌, Some, drop, length, slice_get, ◌∙◌, Result, Ok, Err, IsErrAnd, Contents},
+  std.proofs.Common.{drop_of_length-le},
   script_meaning.specs.{Reading.{Files, Reads, gives}, State.{State}},
   script_evaluation.specs.Evaluates.{Moment, Evaluates},
   outside_io.specs.Files.{Serves},

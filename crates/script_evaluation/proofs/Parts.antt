@@ -1,12 +1,10 @@
 -- Lists of parts, pairs and arguments that grow by one.
 use mathlib.Core.Former.{Count}
 use Rattle.{
-  std.proofs.Common.{arith, ◌≡◌, List, [], ◌∷◌, ◌++◌, refl, append_assoc},
+  meaning.proofs.Common.{arith, ◌≡◌, List, [], ◌∷◌, ◌++◌, refl, append_assoc, Label, Text, cell_label, label_datum},
   language_meaning.specs.Tree.{arg_list, named_args, arg_pairs},
   script_meaning.specs.Expression.{cell_of, parts_of, part_of, pairs_of, given_of},
   script_evaluation.proofs.Gathering.{ReadsParts},
-  cell_core.specs.declared.cell.Label.{Label},
-  meaning.specs.{Text.{Text}, Operator.{cell_label}, Cell.{label_datum}},
   table_meaning.specs.{Settled.{IsSettled}, Value.{GivenList, GivenPairs, NamedGiven, no_given, more_given, no_entries, more_entries}},
   frame_store.{specs.{Objects.{Tables}, Arguments.{item_of, items_of, argument_of, entries_of, named_of, arguments_of, IsLiveItem, IsLiveRow, AreLiveItems, IsLiveArgument, AreLiveEntries, AreLivePairs, AreLive}, declared.arguments.{Argument.{Argument, Table, Table', Row_of-Entries-pairs-2, end_of-Entries-pairs-2, more_of-Entries-pairs-2, items-the_row-Entries-pairs-2, items_hidden-the_row-Entries-pairs-2-0}, Item.{Item, Row, Row', Row_of-Item, end_of-Item, more_of-Item, items-the_row-Item, items_hidden-the_row-Item-0}, Items.{Items}, Entries.{Entries}, Named.{Named}}, World.{World, IsKnownItem, AreKnownItems, IsKnownArgument, AreKnownPairs, AreKnownArguments, IsKnownSubscript}}, proofs.RowLaws.{item_of-Row, argument_of-Table}},
 }

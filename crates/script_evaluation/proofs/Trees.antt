@@ -1,6 +1,6 @@
 -- Trees, as their parts.
 use Rattle.{
-  std.proofs.Common.{◌≡◌, ℕ, zero, suc, ◌≤◌, List, [], ◌∷◌, slice_get, Option, Some, max, arith},
+  meaning.proofs.Common.{◌≡◌, ℕ, zero, suc, ◌≤◌, List, [], ◌∷◌, slice_get, Option, Some, max, arith},
   script_tree.specs.{declared.{literal.Accessor.{Accessor}, tree.{Sub.{Sub}, Arg.{Arg}, Expr.{Expr}}}, View.{step_of, sub_of, accessor_of, optional_arg}},
   script_evaluation.specs.Parts.{optional_sub, optional_expr},
 }

@@ -7,8 +7,8 @@ use Rattle.meaning.specs.Fault.{FaultValue, no_name, no_attribute, not_built}
 use Rattle.language_meaning.specs.Tree as tree
 use Rattle.language_meaning.specs.Tree.{Expr, Step, Sub, OptionalSub, OptionalArg, OptionalExpr, Arg, ArgList, Args, ArgPairs}
 use Rattle.table_meaning.specs.Value.{Entry, cell, Given, GivenList, GivenPairs, GivenSub, NamedGiven, nothing, one, row, many, entries, no_given, more_given, no_entries, more_entries, key_given, span_given}
-use Rattle.form_meaning.specs.declared.Function.TheVariants.{ReadCsv}
-use Rattle.form_meaning.specs.Signature.{function_named}
+use Rattle.call_meaning.specs.declared.Function.TheVariants.{ReadCsv}
+use Rattle.call_meaning.specs.Signature.{function_named}
 use Rattle.form_meaning.specs.Infix.{infix_result, sign_result}
 use Rattle.form_meaning.specs.Select.{length_result}
 use Rattle.select_meaning.specs.Select.{Way, plain, through, select_result}

@@ -78,7 +78,7 @@ after_reading r line go = after_answer r.fetches r.answer line go
 -- the statements in order, up to the first fault
 abbrev pub statements_result : Files → State → List Statement → RunResult
 statements_result files s [] = record { steps = []; ending = finished }
-statements_result files s (st ∷ rest) = after_reading (statement_result files s st.form) st.line (λ s'. statements_result files s' rest)
+statements_result files s (st ∷ rest) = after_reading (statement_result files s st.action) st.line (λ s'. statements_result files s' rest)
 
 abbrev pub usage_line : Text
 usage_line = codes "usage: pdscript [--stats] [--demo N | SCRIPT] [NAME=PATH ..]\n"

@@ -47,7 +47,7 @@ entry_text (table t) = table_text_of t
 abbrev pub assigned : Entry → Target → Given → Result Table FaultValue
 assigned v target g = assign_result v target.way target.first target.second g
 
-abbrev pub statement_result : Files → State → tree.Form → Reading Answer
+abbrev pub statement_result : Files → State → tree.Action → Reading Answer
 statement_result files s tree.import_pandas = at_once (done s [] false)
 statement_result files s (tree.bind x e) = then_answer (value_of files s e) (λ v. at_once (done (with_value s x (named_by e) v) [] false))
 statement_result files s (tree.put x step a) =

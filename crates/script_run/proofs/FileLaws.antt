@@ -1,8 +1,7 @@
 -- What a run means by the file that its path holds.
 use Rattle.{
-  std.{proofs.Common.{◌≡◌, ◌≤◌, ◌<◌, ℕ, List, [], ◌∷◌, length, Option, Some, None, refl, arith, codes, ◌⊎◌}, specs.{Prelude.{IfSome}, FinMap.{get}}},
+  meaning.proofs.Common.{◌≡◌, ◌≤◌, ◌<◌, ℕ, List, [], ◌∷◌, length, Option, Some, None, refl, arith, codes, ◌⊎◌, IfSome, get, Text, Contents},
   outside_io.{specs.{Count.{HasRisen}, Sink.{appended, AppendsFront}}, proofs.Appended.{appended-nil}},
-  meaning.specs.Text.{Text, Contents},
   language_meaning.specs.{Tree.{Statement}, Script.{most_bytes}},
   script_meaning.specs.{Reading.{Files}, State.{no_names}, Run.{RunResult, RunWords, IsScriptResult, IsFileResult, IsWordsResult, fetched, statements_result, with_line, too_large_line, syntax_line, not_found_line, syntax, usage}},
   script_syntax.specs.Parsed.{IsTheScript, IsTheSyntaxLine},

@@ -1,7 +1,7 @@
 -- What statements answer.
 use Rattle.{
-  std.{proofs.Common.{arith, ◌≡◌, ℕ, Bool, true, false, nat_eq, List, [], ◌∷◌, Option, Some, None, refl, sym, ◌∙◌, ap, IsSome}, specs.Prelude.{if◌then◌else◌, Result, Ok, Err, OnErr, IsErrAnd, ⊤}},
-  meaning.specs.{Text.{Text, Contents, same_text}, Fault.{FaultValue}},
+  meaning.proofs.Common.{arith, ◌≡◌, ℕ, Bool, true, false, nat_eq, List, [], ◌∷◌, Option, Some, None, refl, sym, ◌∙◌, ap, IsSome, if◌then◌else◌, Result, Ok, Err, IsErrAnd, ⊤, Text, Contents, same_text, FaultValue},
+  std.specs.Prelude.{OnErr},
   table_meaning.specs.Table.{Table},
   frame_store.{specs.{Shown.{table_in}, declared.{object.ObjId.{ObjId}, arguments.{Value.{Value, TheVariants.{Object}}, Argument.{Argument, TheVariants.{Nothing}}}, fault.OpFault.{OpFault}}, World.{World, objects_of, entry_in, Keeps, Sets}}, proofs.Settling.{seen_later}},
   script_meaning.specs.{State.{State}, Reading.{Files, Reading, Reads, at_once}, Statement.{Answer, with_value, done, refused, then_answer, set_answer, is_chained, statement_result}},
@@ -55,8 +55,8 @@ performs_both _ _ _ _ _ serves p h = search (goes_both, stuck_both, spends_both)
 pub record Answers (paths : List FileName) (meant : Files → State → Reading Answer) (old new : Moment) (r : Result Outcome StepFault) : Type 0 where
   pub told : (held : Contents) → Performs (state_in new.work) (world_of new.work).texts (files_in paths held) old.files new.files (meant (files_in paths held) (state_in old.work)) r
 
-pub answers : (form : tree.Form) {paths : List FileName} {old new : Moment} {r : Result Outcome StepFault} → Answers paths (λ files s. statement_result files s form) old new r
-    → (held : Contents) → Performs (state_in new.work) (world_of new.work).texts (files_in paths held) old.files new.files (statement_result (files_in paths held) (state_in old.work) form) r
+pub answers : (action : tree.Action) {paths : List FileName} {old new : Moment} {r : Result Outcome StepFault} → Answers paths (λ files s. statement_result files s action) old new r
+    → (held : Contents) → Performs (state_in new.work) (world_of new.work).texts (files_in paths held) old.files new.files (statement_result (files_in paths held) (state_in old.work) action) r
 answers _ x = x.told
 
 module _ {paths : List FileName} where
@@ -93,7 +93,7 @@ module _ (w u : Work) {value : Argument} {r : Result ⊤ OpFault} {on : Value} {
 
   pub set_refused : {paths : List FileName} {s : FilesValue} (a : State → Answer) (o : Option Text) (f : OpFault) {fault : StepFault} → HasFormFault meant → r ≡ Err f → fault ≡ marked_fault (is_chained o) f → a (state_in w) ≡ set_answer (state_in w) o meant
       → Answers paths (λ files t. at_once (a t)) (moment_of w s) (moment_of u s) (Err fault)
-  set_refused {s = s} a o f form is marked same =
+  set_refused {s = s} a o f action is marked same =
       let sets = rw is at e.sets in
       record { told = λ held. grind (arith, goes_same, fault_uncaused, spends_none) }
 

@@ -1,6 +1,6 @@
 -- Laws that the goals of functions want, by the name of the first that does.
 use Rattle.{
-  std.proofs.lemmas.Result.{err_from_is_err_and},
+  meaning.proofs.Common.{err_from_is_err_and},
   script_work.proofs.{Worlds.{keeps_both, keeps_same}, Rides.{halts_first, unnamed_fault}},
   script_session.proofs.Answering.{answers, follows, runs_out, step_halts},
 }

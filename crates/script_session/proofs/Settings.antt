@@ -1,7 +1,6 @@
 -- A setting and a removal change one object alone.
 use Rattle.{
-  std.{proofs.Common.{arith, ◌≡◌, Bool, Option}, specs.Prelude.{Result, OnOk}},
-  meaning.specs.{Text.{Text}, Fault.{FaultValue}},
+  meaning.proofs.Common.{arith, ◌≡◌, Bool, Option, Result, OnOk, Text, FaultValue},
   table_meaning.specs.Table.{Table},
   script_meaning.specs.{State.{State}, Statement.{done, set_answer}},
   script_session.specs.{declared.fault.{Outcome.{Outcome}, StepFault.{StepFault}}, Apart.{IsSetApart, ChangesOneObject}},
@@ -12,5 +11,5 @@ pub set_apart : (s t u : State) (o : Option Text) (r : Result Table FaultValue) 
 set_apart = grind arith
 
 -- after a sweep the state is the same
-pub apart_after : (r : Result Outcome StepFault) (form : tree.Form) (s t u : State) → OnOk r (ChangesOneObject form s t) → t ≡ u → OnOk r (ChangesOneObject form s u)
+pub apart_after : (r : Result Outcome StepFault) (action : tree.Action) (s t u : State) → OnOk r (ChangesOneObject action s t) → t ≡ u → OnOk r (ChangesOneObject action s u)
 apart_after = grind arith

@@ -10,7 +10,7 @@ abbrev pub IsSetApart : Option Text → State → State → Type 0
 IsSetApart None old new = new ≡ old
 IsSetApart (Some n) old new = (m : Text) → same_text n m ≡ false → old.paired n m ≡ false → new.value m ≡ old.value m
 
-abbrev pub ChangesOneObject : tree.Form → State → State → Type 0
+abbrev pub ChangesOneObject : tree.Action → State → State → Type 0
 ChangesOneObject (tree.put x step a) old new = IsSetApart (named_by x) old new
 ChangesOneObject (tree.drop_column n x) old new = IsSetApart (Some n) old new
-ChangesOneObject form old new = Unit {0}
+ChangesOneObject action old new = Unit {0}

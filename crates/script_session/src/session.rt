@@ -4,7 +4,7 @@ ghost use Rattle.meaning.specs.Cell.{IsLonger};
 ghost use Rattle.meaning.specs.Text.{Contents};
 ghost use Rattle.script_meaning.specs.State.{no_names, without_name};
 ghost use Rattle.script_meaning.specs.Statement.{statement_result};
-ghost use Rattle.script_tree.specs.View.{form_of};
+ghost use Rattle.script_tree.specs.View.{action_of};
 ghost use Rattle.table_laws.specs.Validity.{AreValid};
 ghost use Rattle.script_work.specs.Bindings.{AreNamed};
 ghost use Rattle.script_work.specs.Work.{names_in, tables_in};
@@ -14,7 +14,7 @@ use crate::fault::{Outcome, StepFault};
 use crate::statements::perform;
 use cell_core::TextDict;
 use outside_io::Files;
-use script_tree::{Form, Statement};
+use script_tree::{Action, Statement};
 use script_work::{FileNames, Work};
 use std::alloc::Global;
 
@@ -70,7 +70,7 @@ impl Session {
             Performs (state_of self.new) (texts_of self.new) (files_in names.now held)
             (F.seen files.old) (F.seen files.new)
             (statement_result (files_in names.now held) (state_of self.old)
-            (form_of statement.now.form))
+            (action_of statement.now.action))
             result }
         ensures serves { Serves (F.seen files.old) (F.seen files.new) }
         ensures same { OnErr result (state_of self.new ≡ state_of self.old) }
@@ -78,10 +78,10 @@ impl Session {
         ensures longer { IsLonger (texts_of self.old) (texts_of self.new) }
         ensures live { LiveAreNamed self.new }
         ensures valid { AreValid (live_of self.new) }
-        ensures apart { OnOk result (ChangesOneObject (form_of statement.now.form)
+        ensures apart { OnOk result (ChangesOneObject (action_of statement.now.action)
             (state_of self.old) (state_of self.new)) }
     {
-        self.perform(files, names, &statement.form)
+        self.perform(files, names, &statement.action)
     }
 
     /// Takes a name out, and its object where no other name stands for it. Answers whether the name was there.
@@ -108,13 +108,13 @@ impl Session {
         &mut self,
         files: &mut F,
         names: &FileNames,
-        form: &Form,
+        action: &Action,
     ) -> Result<Outcome, StepFault>
         ensures answers { (held : Contents) →
             Performs (state_of self.new) (texts_of self.new) (files_in names.now held)
             (F.seen files.old) (F.seen files.new)
             (statement_result (files_in names.now held) (state_of self.old)
-            (form_of form.now))
+            (action_of action.now))
             result }
         ensures serves { Serves (F.seen files.old) (F.seen files.new) }
         ensures same { OnErr result (state_of self.new ≡ state_of self.old) }
@@ -122,10 +122,10 @@ impl Session {
         ensures longer { IsLonger (texts_of self.old) (texts_of self.new) }
         ensures live { LiveAreNamed self.new }
         ensures valid { AreValid (live_of self.new) }
-        ensures apart { OnOk result (ChangesOneObject (form_of form.now)
+        ensures apart { OnOk result (ChangesOneObject (action_of action.now)
             (state_of self.old) (state_of self.new)) }
     {
-        let result = perform(&mut self.work, files, names, form);
+        let result = perform(&mut self.work, files, names, action);
         self.work.sweep();
         result
     }

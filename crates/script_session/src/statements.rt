@@ -8,7 +8,7 @@ ghost use Rattle.outside_io.specs.Files.{Serves};
 ghost use Rattle.script_meaning.specs.Reading.{Files as SomeFiles};
 ghost use Rattle.script_meaning.specs.Expression.{named_by};
 ghost use Rattle.script_meaning.specs.Statement.{is_chained, statement_result};
-ghost use Rattle.script_tree.specs.View.{expr_of, step_of, arg_of, form_of};
+ghost use Rattle.script_tree.specs.View.{expr_of, step_of, arg_of, action_of};
 ghost use Rattle.script_work.specs.Reads.{files_in};
 ghost use Rattle.script_work.specs.Work.{names_in, world_of, state_in};
 ghost use Rattle.script_session.specs.Faults.{Performs, PerformsOnce, marked_fault};
@@ -19,7 +19,7 @@ use cell_core::Words;
 use frame_store::OpFault;
 use outside_io::Files;
 use script_evaluation::{evaluate, given, last_step};
-use script_tree::{Arg, Expr, Form, Step};
+use script_tree::{Action, Arg, Expr, Step};
 use script_work::{FileNames, Work};
 use std::alloc::Global;
 
@@ -28,28 +28,28 @@ pub(crate) fn perform<F: Files>(
     work: &mut Work,
     files: &mut F,
     names: &FileNames,
-    form: &Form,
+    action: &Action,
 ) -> Result<Outcome, StepFault>
     ensures answers { (held : Contents) →
         Performs (state_in work.new) (world_of work.new).texts (files_in names.now held)
         (F.seen files.old) (F.seen files.new)
         (statement_result (files_in names.now held) (state_in work.old)
-        (form_of form.now))
+        (action_of action.now))
         result }
     ensures serves { Serves (F.seen files.old) (F.seen files.new) }
     ensures names { OnErr result (names_in work.new ≡ names_in work.old) }
     ensures kept { OnErr result (Keeps (world_of work.old) (world_of work.new)) }
     ensures longer { IsLonger (world_of work.old).texts (world_of work.new).texts }
-    ensures apart { OnOk result (ChangesOneObject (form_of form.now)
+    ensures apart { OnOk result (ChangesOneObject (action_of action.now)
         (state_in work.old) (state_in work.new)) }
 {
-    match form {
-        Form::Import => Ok(quiet(work.alloc(), false)),
-        Form::Bind(name, expr) => bind(work, files, names, name, expr),
-        Form::Put(target, step, arg) => put(work, files, names, target, step, arg),
-        Form::DropName(name) => drop_name(work, name),
-        Form::DropColumn(name, key) => drop_column(work, files, names, name, key),
-        Form::Print(expr, end) => print(work, files, names, expr, end),
+    match action {
+        Action::Import => Ok(quiet(work.alloc(), false)),
+        Action::Bind(name, expr) => bind(work, files, names, name, expr),
+        Action::Put(target, step, arg) => put(work, files, names, target, step, arg),
+        Action::DropName(name) => drop_name(work, name),
+        Action::DropColumn(name, key) => drop_column(work, files, names, name, key),
+        Action::Print(expr, end) => print(work, files, names, expr, end),
     }
 }
 

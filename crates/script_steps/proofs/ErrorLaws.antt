@@ -1,9 +1,7 @@
 -- What a run leaves on the errors.
 use Rattle.{
-  std.proofs.{Common.{rules, ◌≡◌, ◌≢◌, ◌≤◌, ℕ, Bool, true, false, List, [], ◌∷◌, ◌++◌, refl, sym, ap, ◌∙◌, arith, codes, inl, inr}, lemmas.List.{append-nil, Concat.{flat_map-append}}},
-  cell_core.specs.declared.code.Code.{Code},
+  meaning.proofs.Common.{rules, ◌≡◌, ◌≢◌, ◌≤◌, ℕ, Bool, true, false, List, [], ◌∷◌, ◌++◌, refl, sym, ap, ◌∙◌, arith, codes, inl, inr, append-nil, flat_map-append, Code, Text, FaultValue, fault_of, fault_text},
   outside_io.{specs.{Count.{HasRisen}, Files.{FilesValue}, Sink.{appended, AppendsFront}}, proofs.Appended.{appended-appended, appended-nil}},
-  meaning.specs.{Text.{Text}, Fault.{FaultValue}, FaultOf.{fault_of}, FaultText.{fault_text}},
   script_meaning.specs.Run.{warning_line, line_about},
   script_work.specs.Reads.{IsCaused, absent_name},
   script_steps.{proofs.StepLaws.{Written}, specs.{Errors.{warning_lines, Warns, IsOfGivenFiles, Fails, SaysUnread, StatementsLeave, RunLeaves}, Ends.{EndsWithLine}, declared.status.Status.{Status, TheVariants.{Fault, Usage, Syntax, Input, Output, Memory}}}},

@@ -1,5 +1,5 @@
 -- What follows for values that may be there.
-use Rattle.std.{proofs.Common.{arith, ◌≡◌, Option, Some}, specs.Prelude.{IfNone, IfSome}}
+use Rattle.meaning.proofs.Common.{arith, ◌≡◌, Option, Some, IfNone, IfSome}
 
 pub some-weaker : {T : Type 0} (o : Option T) (P Q : T → Type 0) → IfSome o P → ((x : T) → P x → Q x) → IfSome o Q
 some-weaker o P Q = grind arith

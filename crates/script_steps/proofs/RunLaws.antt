@@ -1,8 +1,8 @@
 -- What one statement of a run, its lines and its failures make of the run.
 use Rattle.{
-  std.{proofs.{lemmas.{Result.{err_from_is_err_and}, Bool.{lt-ltb, le-ltb}, List.{append-nil, nil_from_length, Concat.{flat_map-append}}}, Common.{rules, ◌≡◌, ◌≢◌, ℕ, zero, suc, ◌+◌, ◌<◌, ◌≤◌, length, List, [], ◌∷◌, ◌++◌, drop, Option, Some, refl, sym, ◌∙◌, ap, append_assoc, length-append, add-zero, arith, inl, inr, ◌⊎◌, codes}, Math.ListN.{drop_of_length-le}}, specs.Prelude.{slice_get, Bool, IfSome, IfErr, IsErrAnd, Result, ⊤}},
+  meaning.proofs.Common.{err_from_is_err_and, lt-ltb, le-ltb, append-nil, nil_from_length, flat_map-append, rules, ◌≡◌, ◌≢◌, ℕ, zero, suc, ◌+◌, ◌<◌, ◌≤◌, length, List, [], ◌∷◌, ◌++◌, drop, Option, Some, refl, sym, ◌∙◌, ap, append_assoc, length-append, add-zero, arith, inl, inr, ◌⊎◌, codes, slice_get, Bool, IfSome, IfErr, IsErrAnd, Result, ⊤, Text, Contents, FaultValue, fault_text},
+  std.proofs.Math.ListN.{drop_of_length-le},
   outside_io.{specs.{Count.{HasRisen}, Files.{FilesValue}, Sink.{appended, AppendsFront, AppendsPart}}, proofs.Appended.{appended-appended, appended-nil}},
-  meaning.specs.{Text.{Text, Contents}, Fault.{FaultValue}, FaultText.{fault_text}},
   language_meaning.specs.Tree.{Statement},
   script_meaning.specs.{Reading.{Files, Reading, at_once}, State.{State}, Statement.{Answer, done, refused, statement_result}, Run.{RunStep, RunResult, Ending, fault, errors_of, before_fetch, after_step, after_answer, after_reading, statements_result, warning_line, line_about, with_line}},
   script_work.specs.Reads.{Goes, Stuck, count_after},
@@ -162,7 +162,7 @@ comes_more _ _ _ step _ _ _ come is does = (
 
 -- the next statement, and then the others
 pub next-result : (files : Files) (ss : List Statement) (i : ℕ) (st : Statement) (s : State) → slice_get ss i ≡ Some st
-    → statements_result files s (drop i ss) ≡ after_reading (statement_result files s st.form) st.line (λ s'. statements_result files s' (drop (i + 1) ss))
+    → statements_result files s (drop i ss) ≡ after_reading (statement_result files s st.action) st.line (λ s'. statements_result files s' (drop (i + 1) ss))
 next-result _ [] i _ s is = cc
 next-result _ (x ∷ ss) zero _ s is = grind arith
 next-result files (x ∷ ss) (suc i) st s is = grind (arith, next-result files ss i st s is)

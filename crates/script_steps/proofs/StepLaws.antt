@@ -1,6 +1,7 @@
 -- What steps print and fetch, one after another.
 use Rattle.{
-  std.proofs.{Common.{◌≡◌, ℕ, ◌+◌, ◌<◌, ◌≤◌, List, [], ◌∷◌, ◌++◌, length, Option, arith, zero-add, add-zero, add_assoc, flat_map, length-append}, lemmas.{Bool.{lt-ltb, le-ltb}, List.{append-nil, Concat.{flat_map-append}}}},
+  meaning.proofs.Common.{◌≡◌, ℕ, ◌+◌, ◌<◌, ◌≤◌, List, [], ◌∷◌, ◌++◌, length, Option, arith, zero-add, add-zero, length-append, lt-ltb, le-ltb, append-nil, flat_map-append},
+  std.proofs.Common.{add_assoc, flat_map},
   outside_io.{specs.Sink.{appended}, proofs.Appended.{appended-appended}},
   script_meaning.specs.Run.{RunStep, errors_of, fetches_of, before_fetch, before_byte},
   script_work.specs.Reads.{count_after},

@@ -7,7 +7,7 @@ ghost use Rattle.meaning.specs.FaultOf.{fault_of};
 ghost use Rattle.meaning.specs.FaultText.{fault_text};
 ghost use Rattle.script_meaning.specs.Run.{line_about, warning_line};
 ghost use Rattle.script_meaning.specs.Statement.{statement_result};
-ghost use Rattle.script_tree.specs.View.{form_of};
+ghost use Rattle.script_tree.specs.View.{action_of};
 ghost use Rattle.script_work.specs.Reads.{files_in, paths_of};
 ghost use Rattle.script_session.specs.Session.{state_of};
 ghost use Rattle.script_steps.specs.Errors.{StatementsLeave, Warns};
@@ -38,13 +38,13 @@ pub fn advance<F: Files, O: Sink, E: Sink>(
 ) -> Result<(), Status>
     ensures on { OnOk result (IfSome (F.seen files.old).contents (λ held. GoesOn
         (statement_result (files_in names.now held) (state_of session.old)
-        (form_of statement.now.form))
+        (action_of statement.now.action))
         statement.now.line (state_of session.new)
         (outside (F.seen files.old) (O.seen out.old) (E.seen err.old))
         (outside (F.seen files.new) (O.seen out.new) (E.seen err.new)))) }
     ensures stops { IfErr result (λ status. IfSome (F.seen files.old).contents (λ held. Stops
         (statement_result (files_in names.now held) (state_of session.old)
-        (form_of statement.now.form))
+        (action_of statement.now.action))
         statement.now.line status
         (outside (F.seen files.old) (O.seen out.old) (E.seen err.old))
         (outside (F.seen files.new) (O.seen out.new) (E.seen err.new)))) }

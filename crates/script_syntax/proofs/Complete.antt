@@ -1,9 +1,8 @@
 -- What is in the grammar is read.
 use Rattle.{
-  script_syntax.{specs.Reading.{dotted_at, call_at, after_word, may_follow, call_of, accessor_at, maker_at, len_at, Reader, and_then, or_else, pick, after_mark, name_at, operator_at, sign_at, begins_step, Call, plain, grouped, rolled, expanded, past_comma, keyword_at, keyword_for, key_at, item_at, bracketed, enclosed, items, named_at, arguments, entry_at, pairs, all_arguments, atom, bound, stride, span_after, sub_from, sub_at, second, subscripts, brackets, named_call, called, call, dotted, step_from, step, steps, postfix, signed, operators, expr_with, expr_from, unparted, opened, argument_with, expr_at, argument_at, word_at}, proofs.{Starts.{as_arg, StartsExpr, expr_starts, arg_starts, arg_no_mark, arg_no_end, expr_no_end, arg_no_target, Ends, EndsBound, mark_ends, step_begins, Closes, paren_closes, bracket_closes, EndsSub, comma_ends_sub, bracket_ends_sub, stride_ends}, Gives.{method_is, word_same, other_mark, name_reads, reserved_is_none, target_reads, operator_reads, operator_below, none_above, minus_reads, guard_reads, literal_reads, word_no_mark, no_len, literal_plain, item_yes, as_item_reads, past_comma_reads, at_close_reads}, Takes.{mark_same, CallIs, no_operator, level_small, not_zero, tilde_reads, mark_takes}, Sound.{FirstFollows}, Shorter.{expr_shorter, step_shorter, arg_shorter, keyword_shorter, literal_shorter}}},
-  std.{proofs.Common.{◌≡◌, ℕ, zero, suc, ◌≤◌, max, Bool, false, List, ◌∷◌, length, Option, Some, None, is_some, refl, subst, arith, inl, inr}, specs.Prelude.{codes}},
-  meaning.specs.Text.{Text},
-  language_meaning.specs.{Token.{Token, word, op, mark, Mark, equals, dot, comma, colon, open_paren, close_paren, open_bracket, close_bracket, open_brace, close_brace}, Tree.{Unary, Binary, Accessor, Literal, Expr, Step, Sub, OptionalSub, OptionalArg, OptionalExpr, Arg, ArgList, Args, ArgPairs, name, literal, unary, binary, after, len, make, paren, item, access, method, group, rolling, expanding, key, span, no_sub, some_sub, no_arg, some_arg, no_expr, some_expr, expr, many, row, table, nothing, no_args, more_args, no_named, more_named, no_pairs, more_pairs}, Depth.{depth, step_depth, sub_depth, optional_sub_depth, optional_arg_depth, optional_expr_depth, arg_depth, list_depth, args_depth, pairs_depth}, Grammar.{level, left_level, IsMethodName, SpellsExpr, SpellsStep, SpellsSecond, SpellsBrackets, SpellsSub, SpellsBound, SpellsStride, SpellsArg, SpellsItems, SpellsMoreItems, SpellsArgs, SpellsMoreArgs, SpellsPairs, SpellsMorePairs}},
+  meaning.proofs.Common.{◌≡◌, ℕ, zero, suc, ◌≤◌, Bool, false, List, ◌∷◌, length, Option, Some, None, is_some, refl, arith, inl, inr, ◌⊎◌, codes, nat_eq, Text, Binary},
+  script_syntax.{specs.Reading.{dotted_at, call_at, after_word, may_follow, call_of, accessor_at, maker_at, len_at, Reader, and_then, or_else, pick, after_mark, name_at, operator_at, sign_at, begins_step, ends_bound, Call, plain, grouped, rolled, expanded, past_comma, keyword_at, keyword_for, key_at, item_at, bracketed, enclosed, items, named_at, arguments, entry_at, pairs, all_arguments, atom, bound, stride, span_after, sub_from, sub_at, second, subscripts, brackets, named_call, called, call, dotted, step_from, step, steps, postfix, signed, operators, expr_with, expr_from, unparted, opened, argument_with, expr_at, argument_at, word_at}, proofs.{Starts.{as_arg, StartsExpr, expr_starts, arg_starts, arg_no_mark, arg_no_end, expr_no_end, arg_no_target, Ends, EndsBound, mark_ends, step_begins, Closes, EndsSub, stride_ends}, Gives.{method_is, word_same, other_mark, name_reads, reserved_is_none, target_reads, operator_reads, operator_below, none_above, minus_reads, guard_reads, literal_reads, word_no_mark, no_len, literal_plain, item_yes, as_item_reads, past_comma_reads, at_close_reads}, Takes.{mark_same, CallIs, no_operator, level_small, not_zero, tilde_reads, mark_takes}, Sound.{FirstFollows, expr_sound}, Shorter.{items_shorter, args_shorter, pairs_shorter, expr_shorter, step_shorter, arg_shorter, keyword_shorter, literal_shorter}}},
+  language_meaning.specs.{Token.{Token, word, op, mark, Mark, equals, dot, comma, colon, open_paren, close_paren, open_bracket, close_bracket, close_brace}, Tree.{Unary, Literal, Expr, Step, Sub, OptionalSub, OptionalArg, OptionalExpr, Arg, ArgList, Args, ArgPairs, name, literal, unary, binary, after, len, make, paren, item, access, method, group, rolling, expanding, key, span, no_sub, some_sub, no_arg, some_arg, no_expr, some_expr, expr, many, row, table, nothing, no_args, more_args, no_named, more_named, no_pairs, more_pairs}, Depth.{depth, step_depth, sub_depth, optional_sub_depth, optional_arg_depth, optional_expr_depth, arg_depth, list_depth, args_depth, pairs_depth}, Grammar.{level, IsMethodName, SpellsExpr, SpellsStep, SpellsSecond, SpellsBrackets, SpellsSub, SpellsBound, SpellsStride, SpellsArg, SpellsItems, SpellsMoreItems, SpellsArgs, SpellsMoreArgs, SpellsPairs, SpellsMorePairs}},
 }
 use Rattle.script_syntax.specs.At as at
 
@@ -13,37 +12,25 @@ use Rattle.script_syntax.specs.At as at
 pub record AtSteps (x : Expr) (room : ℕ) (ts us : List Token) : Type 0 where
   turns : ℕ
   enough : length us ≤ turns
-  same : at.postfix room ts ≡ at.steps room turns x us
-  no_sign : sign_at ts ≡ None
+  same : at.signed room ts ≡ at.steps room turns x us
 
 pub record AtOperators (x : Expr) (room l : ℕ) (ts us : List Token) : Type 0 where
   turns : ℕ
   enough : length us ≤ turns
   same : at.expr_with room l ts ≡ at.operators room turns l x us
 
--- after a parenthesis that the expression begins with: what stands in it, as an expression and as an argument
-record Opened (x : Expr) (vs : List Token) : Type 0 where
-  y : Expr
-  rest : List Token
-  smaller : suc (depth y) ≤ depth x
-  as_expr : (room : ℕ) → depth y ≤ room → expr_at room 0 vs ≡ Some (y, mark close_paren ∷ rest)
-  as_argument : (room : ℕ) → depth y ≤ room → argument_at room vs ≡ Some (expr y, mark close_paren ∷ rest)
-
-abbrev HasOpens : Expr → Type 0
-HasOpens x = (l : ℕ) (ts vs us : List Token) → ts ≡ mark open_paren ∷ vs → SpellsExpr x l ts us → Opened x vs
-
 abbrev HasSteps : ℕ → Expr → Type 0
 HasSteps l x = (room : ℕ) (ts us : List Token) → SpellsExpr x l ts us → depth x ≤ suc room → AtSteps x room ts us
 
+-- No operator that is looked for follows, or none that binds more tightly than the level m of what was read.
 abbrev HasOperators : Expr → Type 0
-HasOperators x = (room l m : ℕ) (ts us : List Token) → l ≤ m → 1 ≤ m → m ≤ 6 → SpellsExpr x m ts us → begins_step us ≡ false → operator_at (suc m) us ≡ None
+HasOperators x = (room l m : ℕ) (ts us : List Token) → l ≤ m → m ≤ 6 → SpellsExpr x m ts us → begins_step us ≡ false → (operator_at l us ≡ None) ⊎ ((1 ≤ m) × (operator_at (suc m) us ≡ None))
     → depth x ≤ suc room → AtOperators x room l ts us
 
 abbrev HasWhole : Expr → Type 0
 HasWhole x = (room l : ℕ) (ts us : List Token) → l ≤ 6 → SpellsExpr x l ts us → Ends l us → depth x ≤ room → expr_at room l ts ≡ Some (x, us)
 
 pub record ReadsExpr (x : Expr) : Type 0 where
-  opens : HasOpens x
   steps_after : HasSteps 7 x
   operators_after : HasOperators x
   pub whole : HasWhole x
@@ -92,52 +79,51 @@ depth_positive _ = omega arith
 
 -- an expression that is read by its steps is read with its signs
 signed_reads : (x : Expr) (room : ℕ) (ts us : List Token) → AtSteps x room ts us → begins_step us ≡ false → at.signed room ts ≡ Some (x, us)
-unfolding signed or_else steps pick
-signed_reads = grind (arith)
+unfolding steps pick
+signed_reads = grind arith
 
 -- and then comes to the loop over operators
 climbs : (x : Expr) (room l : ℕ) (ts us : List Token) → at.signed room ts ≡ Some (x, us) → AtOperators x room l ts us
 unfolding expr_with and_then
 climbs = grind arith
 
+-- which stops where none follows
+operators_stop : (room n l : ℕ) (x : Expr) (us : List Token) → operator_at l us ≡ None → at.operators room n l x us ≡ Some (x, us)
+unfolding operators or_else
+operators_stop = grind arith
+
 -- ---- a whole expression, from the loop over operators
 
-whole_plain : (x : Expr) (room l : ℕ) (ts us : List Token) → AtOperators x room l ts us → operator_at l us ≡ None → expr_at (suc room) l ts ≡ Some (x, us)
-unfolding expr_at operators or_else
-whole_plain = grind (arith)
-
--- an expression that is no comparison
-whole_by : (x : Expr) → HasOperators x → (room l : ℕ) (ts us : List Token) → l ≤ 6 → SpellsExpr x (max 1 l) ts us → Ends l us → depth x ≤ room → expr_at room l ts ≡ Some (x, us)
+whole_by : (x : Expr) → HasOperators x → HasWhole x
+unfolding expr_at
 whole_by x h zero l ts us le s e d = absurd (omega (arith, depth_positive x))
 whole_by x h (suc room) l ts us le s e d =
-    whole_plain x _ l ts us (grind (arith, none_above)) e.no_operator
+    let a = h room l l ts us (omega arith) le s e.no_step (inl e.no_operator) d in
+    rw a.same (search operators_stop)
+
+reads : (x : Expr) → HasSteps 7 x → HasOperators x → ReadsExpr x
+reads x steps operators = record { steps_after = steps; operators_after = operators; whole = whole_by x operators }
 
 -- an expression of the highest level
-highest : (x : Expr) → ((l : ℕ) → HasSteps l x) → HasOpens x → ReadsExpr x
-highest x h opens =
-    let ops : HasOperators x = search (climbs, signed_reads) in
-    record { opens = opens; steps_after = h 7; operators_after = ops; whole = whole }
-  where
-    whole : HasWhole x
-    whole zero l ts us le s e d = absurd (omega (arith, depth_positive x))
-    whole (suc room) l ts us le s e d = whole_plain x room l ts us (climbs x room l ts us (signed_reads x room ts us (h l room ts us s d) e.no_step)) e.no_operator
+highest : (x : Expr) → ((l : ℕ) → HasSteps l x) → ReadsExpr x
+highest x h = reads x (h 7) (search (climbs, signed_reads))
 
 -- an atom: the loop begins after it
 
 name_steps : (n : Text) (l : ℕ) → HasSteps l (name n)
-unfolding atom sign_at or_else postfix and_then
+unfolding signed atom sign_at or_else postfix and_then
 name_steps = grind (arith, name_reads)
 
 literal_steps : (v : Literal) (l : ℕ) → HasSteps l (literal v)
-unfolding atom or_else and_then sign_at pick postfix
+unfolding signed atom or_else and_then sign_at pick postfix
 literal_steps = grind (arith, literal_plain, literal_reads)
 
 paren_steps : (x : Expr) → ReadsExpr x → (l : ℕ) → HasSteps l (paren x)
-unfolding atom or_else and_then sign_at name_at word_at enclosed postfix
+unfolding signed atom or_else and_then sign_at name_at word_at enclosed postfix
 paren_steps = grind (arith, mark_same, mark_ends)
 
 len_steps : (x : Expr) → ReadsExpr x → (l : ℕ) → HasSteps l (len x)
-unfolding atom or_else and_then sign_at enclosed postfix len_at
+unfolding signed atom or_else and_then sign_at enclosed postfix len_at
 len_steps = grind (arith, reserved_is_none, word_no_mark, word_same, mark_ends, mark_same)
 
 call_is_read : (n : Text) (q : Args) (room : ℕ) (vs us : List Token) → IsMethodName n → ReadsArgs q → SpellsArgs q vs us → args_depth q ≤ room
@@ -146,47 +132,34 @@ unfolding named_call and_then all_arguments call_at pick dotted_at word_at
 call_is_read = grind (arith, mark_same, method_is)
 
 make_steps : (n : Text) (q : Args) → ReadsArgs q → (l : ℕ) → HasSteps l (make n q)
-unfolding atom or_else and_then sign_at all_arguments postfix maker_at call_at pick dotted_at word_at
+unfolding signed atom or_else and_then sign_at all_arguments postfix maker_at call_at pick dotted_at word_at
 make_steps = grind (arith, reserved_is_none, word_no_mark, no_len, word_same, mark_same, method_is)
 
 after_steps : (x : Expr) (p : Step) → ReadsExpr x → ReadsStep p → (l : ℕ) → HasSteps l (after x p)
 unfolding steps pick and_then
 after_steps x p r q l room ts us (vs, s, t) d =
     let a = r.steps_after room ts vs s (omega arith) in
-    turn a.no_sign _ a.enough a.same
+    turn _ a.enough a.same
   where
-    turn : sign_at ts ≡ None → (n : ℕ) → length vs ≤ n → at.postfix room ts ≡ at.steps room n x vs → AtSteps (after x p) room ts us
-    turn m zero le h = grind (arith, step_shorter)
-    turn m (suc n) le h = record { turns = n; enough = omega (arith, step_shorter p vs us t); same = grind (arith, guard_reads, step_begins); no_sign = m }
-
--- ---- what an expression begins with after a parenthesis
-
-deeper : (x z : Expr) (vs : List Token) → Opened x vs → depth x ≤ depth z → Opened z vs
-deeper = grind arith
-
-binary_opens : (o : Binary) (x y : Expr) → ReadsExpr x → HasOpens (binary o x y)
-binary_opens o x y r l ts vs us e (h, ws, s, t) = deeper x _ vs (r.opens (left_level o) ts vs (op o ∷ ws) e s) (omega arith)
-
-after_opens : (x : Expr) (p : Step) → ReadsExpr x → HasOpens (after x p)
-after_opens x p r l ts vs us e (ws, s, t) = deeper x _ vs (r.opens 7 ts vs ws e s) (omega arith)
+    turn : (n : ℕ) → length vs ≤ n → at.signed room ts ≡ at.steps room n x vs → AtSteps (after x p) room ts us
+    turn zero le h = grind (arith, step_shorter)
+    turn (suc n) le h = record { turns = n; enough = omega (arith, step_shorter p vs us t); same = grind (arith, guard_reads, step_begins) }
 
 -- ---- signs and operators
 
 unary_reads : (o : Unary) (x : Expr) → ReadsExpr x → ReadsExpr (unary o x)
 unfolding signed or_else and_then
-unary_reads o x r =
-    let ops : HasOperators (unary o x) = grind (climbs, arith, minus_reads, no_operator, tilde_reads) in
-    record {
-      opens = grind arith;
-      steps_after = grind arith;
-      operators_after = ops;
-      whole = λ room l ts us le s e d. whole_by _ ops room l ts us le (grind arith) e d;
-    }
+unary_reads o x r = reads _ (grind arith) (grind (climbs, arith, minus_reads, no_operator, tilde_reads))
+
+-- a comparison is the last operator
+last_operator : (room n l k : ℕ) (x : Expr) (us : List Token) → (operator_at l us ≡ None) ⊎ (1 ≤ k) → pick (nat_eq k 0) (Some (x, us)) (at.operators room n l x us) ≡ at.operators room n l x us
+unfolding pick
+last_operator = grind (arith, not_zero, operators_stop)
 
 module _ (o : Binary) (x y : Expr) (r : ReadsExpr x) (q : ReadsExpr y) where
-  binary_ops : HasOperators (binary o x y)
-  unfolding operators or_else and_then pick begins_step
-  binary_ops room l m ts us le one top (h, vs, s, t) b p d =
+  binary_operators : HasOperators (binary o x y)
+  unfolding operators or_else and_then begins_step
+  binary_operators room l m ts us le top (h, vs, s, t) b f d =
       let a : AtOperators x room l ts (op o ∷ vs) = grind (arith, level_small, operator_below) in
       turn _ a.enough a.same
     where
@@ -195,32 +168,10 @@ module _ (o : Binary) (x y : Expr) (r : ReadsExpr x) (q : ReadsExpr y) where
 
       turn : (n : ℕ) → length (op o ∷ vs) ≤ n → at.expr_with room l ts ≡ at.operators room n l x (op o ∷ vs) → AtOperators (binary o x y) room l ts us
       turn zero few e = absurd (omega arith)
-      turn (suc n) few e = record { turns = n; enough = omega (arith, expr_shorter y (suc (level o)) vs us t); same = grind (arith, operator_reads, guard_reads, not_zero, right) }
-
-  compared : (room l : ℕ) (ts us : List Token) → level o ≡ 0 → SpellsExpr (binary o x y) l ts us → Ends l us → depth (binary o x y) ≤ suc room → expr_at (suc room) l ts ≡ Some (binary o x y, us)
-  unfolding expr_at operators or_else and_then pick begins_step
-  compared room (suc l) ts us low s e d = absurd (omega (arith, s.0))
-  compared room zero ts us low (h, vs, s, t) e d =
-      let a : AtOperators x room 0 ts (op o ∷ vs) = grind (arith, operator_below) in
-      turn _ a.enough a.same
-    where
-      right : expr_at room 1 vs ≡ Some (y, us)
-      right = q.whole room 1 vs us (omega arith) (subst (λ k. SpellsExpr y (suc k) vs us) low t) (grind (arith, no_operator, none_above)) (omega arith)
-
-      turn : (n : ℕ) → length (op o ∷ vs) ≤ n → at.expr_with room 0 ts ≡ at.operators room n 0 x (op o ∷ vs) → at.expr_with room 0 ts ≡ Some (binary o x y, us)
-      turn zero few k = absurd (omega arith)
-      turn (suc n) few k = grind (arith, operator_reads, guard_reads, right)
-
-  binary_whole : HasWhole (binary o x y)
-  binary_whole zero l ts us le s e d = absurd (omega arith)
-  binary_whole (suc room) l ts us le s e d = go _ refl
-    where
-      go : (k : ℕ) → level o ≡ k → expr_at (suc room) l ts ≡ Some (binary o x y, us)
-      go zero low = compared room l ts us low s e d
-      go (suc k) high = whole_by _ binary_ops (suc room) l ts us le (omega (arith, s.0), s.1, s.2, s.3) e d
+      turn (suc n) few e = record { turns = n; enough = omega (arith, expr_shorter y (suc (level o)) vs us t); same = grind (arith, operator_reads, guard_reads, last_operator, right) }
 
   binary_reads : ReadsExpr (binary o x y)
-  binary_reads = record { opens = binary_opens o x y r; steps_after = grind (arith, level_small); operators_after = binary_ops; whole = binary_whole }
+  binary_reads = reads _ (grind (arith, level_small)) binary_operators
 
 -- ---- arguments
 
@@ -232,48 +183,40 @@ reads_as_expr : (room : ℕ) (ts : List Token) → StartsExpr ts → after_mark 
 unfolding argument_at argument_with expr_at or_else after_mark pick after_word
 reads_as_expr = grind arith
 
+abbrev AsArgument : ℕ → Type 0
+AsArgument room = (ts : List Token) (y : Expr × List Token) → expr_at room 0 ts ≡ Some y → argument_at room ts ≡ as_expr y
+
 -- after a parenthesis both ways go on from the expression in it
-opened_same : (x : Expr) (room : ℕ) (vs : List Token) → Opened x vs → depth x ≤ suc room → argument_at (suc room) (mark open_paren ∷ vs) ≡ and_then (expr_at (suc room) 0 (mark open_paren ∷ vs)) as_expr
+opened_same : (room : ℕ) → AsArgument room → (vs : List Token) (y : Expr × List Token) → expr_at (suc room) 0 (mark open_paren ∷ vs) ≡ Some y → argument_at (suc room) (mark open_paren ∷ vs) ≡ as_expr y
 unfolding argument_at argument_with opened unparted expr_at expr_with expr_from signed postfix sign_at atom enclosed name_at word_at or_else and_then
-opened_same = grind (arith, mark_same, other_mark)
+opened_same = grind (arith, mark_same, other_mark, mark_takes)
+
+-- what is read as an expression is read as an argument
+as_argument : (room : ℕ) → AsArgument room
+unfolding expr_at and_then
+as_argument zero ts y e = absurd cc
+as_argument (suc room) ts y e = go (as_argument room) _ refl
+  where
+    go : AsArgument room → (o : Option (List Token)) → after_mark open_paren ts ≡ o → argument_at (suc room) ts ≡ as_expr y
+    go same None h = rw (reads_as_expr room ts (expr_starts _ 0 ts _ (rw e at (expr_sound (suc room) 0 ts (omega arith))).0.0) h, e) refl
+    go same (Some vs) h =
+        let f : ts ≡ mark open_paren ∷ vs = rw h at (mark_takes open_paren ts) in
+        rw f (opened_same room same vs y (rw f at e))
 
 expr_reads : (x : Expr) → ReadsExpr x → ReadsArg (expr x)
-unfolding and_then
-expr_reads x r zero ts us s e d = absurd (omega (arith, depth_positive x))
-expr_reads x r (suc room) ts us s e d = go _ refl
-  where
-    whole : expr_at (suc room) 0 ts ≡ Some (x, us)
-    whole = grind arith
-
-    go : (o : Option (List Token)) → after_mark open_paren ts ≡ o → argument_at (suc room) ts ≡ Some (expr x, us)
-    go None h = rw (reads_as_expr _ ts (expr_starts x 0 ts us s) h, whole) refl
-    go (Some vs) h =
-        let f : ts ≡ mark open_paren ∷ vs = search mark_takes in
-        rw (f, opened_same x room vs (r.opens 0 ts vs us f s) d, ← f, whole) refl
-
-paren_opens : (x : Expr) → ReadsExpr x → HasOpens (paren x)
-paren_opens x r l ts vs us f (ws, e, s) =
-    let k : ws ≡ vs = cc in
-    let t : SpellsExpr x 0 vs (mark close_paren ∷ us) = rw k at s in
-    record {
-      y = x;
-      rest = us;
-      smaller = omega arith;
-      as_expr = grind (arith, mark_ends);
-      as_argument = grind (arith, expr_reads, mark_ends);
-    }
+expr_reads x r room ts us s e d = as_argument room ts (x, us) (r.whole room 0 ts us (omega arith) s e d)
 
 many_reads : (r : ArgList) → ReadsItems r → ReadsArg (many r)
-unfolding argument_at argument_with and_then or_else
+unfolding argument_at argument_with and_then or_else after_mark pick
 many_reads r q zero ts us s e d = absurd (omega arith)
 many_reads r q (suc room) ts us (vs, f, s) e d =
-    rw (f, other_mark open_bracket open_paren vs (λ e. cc), mark_same open_bracket vs, q room close_bracket (length vs) vs us bracket_closes (omega arith) s (omega arith)) refl
+    rw (f, q room close_bracket (length vs) vs us (inr refl) (omega arith) s (omega arith)) refl
 
 table_reads : (r : ArgPairs) → ReadsPairs r → ReadsArg (table r)
-unfolding argument_at argument_with and_then or_else
+unfolding argument_at argument_with and_then or_else after_mark pick
 table_reads r q zero ts us s e d = absurd (omega arith)
 table_reads r q (suc room) ts us (vs, f, s) e d =
-    rw (f, other_mark open_brace open_paren vs (λ e. cc), other_mark open_brace open_bracket vs (λ e. cc), mark_same open_brace vs, q room (length vs) vs us (omega arith) s (omega arith)) refl
+    rw (f, q room (length vs) vs us (omega arith) s (omega arith)) refl
 
 nothing_reads : ReadsArg nothing
 unfolding argument_at argument_with or_else
@@ -286,125 +229,48 @@ abbrev Goes : Mark → (List Token → Type 0) → List Token → Type 0
 Goes close Spells ts = (vs : List Token) × (past_comma close ts ≡ Some vs) × (length vs ≤ length ts) × Spells vs × Ends 0 ts
 
 more_items : (r : ArgList) (close : Mark) (ts us : List Token) → Closes close → SpellsMoreItems r close ts us → Goes close (λ vs. SpellsItems r close vs us) ts
-more_items no_args close ts us c (inl s) = rw s (mark close ∷ us, at_close_reads close us c.no_comma, omega arith, refl, c.ends us)
-more_items no_args close ts us c (inr s) = rw s (mark close ∷ us, past_comma_reads close _, omega arith, refl, mark_ends comma _ refl)
-more_items (more_args a r) close ts us c (vs, ws, e, i, s, t) = rw e (vs, past_comma_reads close vs, omega arith, (ws, i, s, t), mark_ends comma vs refl)
-
-none_reads : ReadsItems no_args
-unfolding items or_else
-none_reads room close zero = grind arith
-none_reads room close (suc n) = grind (arith, mark_same)
-
-items_read : (a : Arg) (rest : ArgList) → ReadsArg a → ReadsItems rest → ReadsItems (more_args a rest)
-unfolding items or_else and_then item_at
-items_read a rest r q room close zero = grind (arith, arg_shorter)
-items_read a rest r q room close (suc n) = grind (arith, more_items, arg_no_mark, arg_starts, as_item_reads, arg_shorter)
+unfolding begins_step operator_at
+more_items no_args = grind (arith, at_close_reads, past_comma_reads, mark_ends)
+more_items (more_args a r) = grind (arith, past_comma_reads, mark_ends)
 
 row_reads : (a : Arg) (rest : ArgList) → ReadsArg a → ReadsItems rest → ReadsArg (row (more_args a rest))
-unfolding argument_at argument_with opened or_else and_then pick
+unfolding argument_at argument_with opened or_else and_then after_mark pick
 row_reads a rest r q zero ts us s e d = absurd (omega arith)
 row_reads a rest r q (suc room) ts us (ws, f, (vs, i, s, t)) e d =
-    rw (
-      f,
-      mark_same open_paren ws,
-      r room ws (mark comma ∷ vs) s (mark_ends comma vs refl) (omega arith),
-      mark_same comma vs,
-      item_yes a i,
-      q room close_paren (length vs) vs us paren_closes (omega arith) t (omega arith),
-    ) refl
+    rw (f, r room ws (mark comma ∷ vs) s (mark_ends comma vs refl) (omega arith), item_yes a i, q room close_paren (length vs) vs us (inl refl) (omega arith) t (omega arith)) refl
 
 -- ---- arguments with names
 
 more_arguments : (r : Args) (named : Bool) (ts us : List Token) → SpellsMoreArgs r named ts us
     → Goes close_paren (λ vs. SpellsArgs r vs us × FirstFollows named r × (after_mark equals ts ≡ None)) ts
-unfolding after_mark pick
-more_arguments no_named named ts us (inl s) = rw s (mark close_paren ∷ us, at_close_reads close_paren us (λ e. cc), omega arith, (refl, tt, refl), mark_ends close_paren us refl)
-more_arguments no_named named ts us (inr s) = rw s (mark close_paren ∷ us, past_comma_reads close_paren _, omega arith, (refl, tt, refl), mark_ends comma _ refl)
-more_arguments (more_named n a r) named ts us (vs, ws, xs, e, f, k, s, t) = rw e (vs, past_comma_reads close_paren vs, omega arith, ((ws, xs, k, s, t), f, refl), mark_ends comma vs refl)
-
-none_named_reads : ReadsArgs no_named
-unfolding arguments or_else
-none_named_reads room after_name zero = grind arith
-none_named_reads room after_name (suc n) = grind (arith, mark_same)
-
-args_read : (n : Option Text) (a : Arg) (rest : Args) → ReadsArg a → ReadsArgs rest → ReadsArgs (more_named n a rest)
-unfolding arguments or_else and_then named_at keyword_for keyword_at pick may_follow
-args_read = grind (arith, keyword_shorter, arg_shorter, more_arguments, is_some, arg_no_mark, arg_starts, word_no_mark, arg_no_target, target_reads)
+unfolding after_mark pick begins_step operator_at
+more_arguments no_named = grind (arith, at_close_reads, past_comma_reads, mark_ends)
+more_arguments (more_named n a r) = grind (arith, past_comma_reads, mark_ends)
 
 -- ---- the entries of a dict
 
 more_entries : (r : ArgPairs) (ts us : List Token) → SpellsMorePairs r ts us → Goes close_brace (λ vs. SpellsPairs r vs us) ts
-more_entries no_pairs ts us (inl s) = rw s (mark close_brace ∷ us, at_close_reads close_brace us (λ e. cc), omega arith, refl, mark_ends close_brace us refl)
-more_entries no_pairs ts us (inr s) = rw s (mark close_brace ∷ us, past_comma_reads close_brace _, omega arith, refl, mark_ends comma _ refl)
-more_entries (more_pairs k a r) ts us (vs, ws, xs, e, l, s, t) = rw e (vs, past_comma_reads close_brace vs, omega arith, (ws, xs, l, s, t), mark_ends comma vs refl)
-
-none_pairs_read : ReadsPairs no_pairs
-unfolding pairs or_else
-none_pairs_read room zero = grind arith
-none_pairs_read room (suc n) = grind (arith, mark_same)
-
-pairs_read : (k : Literal) (a : Arg) (rest : ArgPairs) → ReadsArg a → ReadsPairs rest → ReadsPairs (more_pairs k a rest)
-unfolding pairs entry_at key_at or_else and_then
-pairs_read = grind (arith, literal_shorter, more_entries, arg_no_mark, as_arg, literal_reads, mark_same, arg_shorter)
+unfolding begins_step operator_at
+more_entries no_pairs = grind (arith, at_close_reads, past_comma_reads, mark_ends)
+more_entries (more_pairs k a r) = grind (arith, past_comma_reads, mark_ends)
 
 -- ---- subscripts
-
-no_arg_reads : ReadsOptional no_arg
-unfolding brackets bound sub_at or_else pick
-no_arg_reads = grind (arith, mark_same)
-
-some_arg_reads : (a : Arg) → ReadsArg a → ReadsOptional (some_arg a)
-unfolding brackets bracketed bound item_at sub_at sub_from or_else and_then pick
-some_arg_reads = grind (arith, mark_same, mark_ends, as_item_reads, arg_no_end, arg_starts, arg_no_mark, item_yes)
-
-no_expr_reads : ReadsStride no_expr
-unfolding stride or_else pick
-no_expr_reads = grind (arith, mark_same)
-
-some_expr_reads : (x : Expr) → ReadsExpr x → ReadsStride (some_expr x)
-unfolding stride or_else pick and_then
-some_expr_reads = grind (arith, mark_same, expr_no_end, expr_starts)
-
-key_reads : (a : Arg) → ReadsArg a → ReadsSub (key a)
-unfolding sub_at sub_from or_else and_then
-key_reads = grind (arith, arg_no_mark, arg_starts)
 
 span_reads : (from to : OptionalArg) (by : OptionalExpr) → ReadsOptional from → ReadsOptional to → ReadsStride by → ReadsSub (span from to by)
 unfolding span_after and_then
 span_reads from to by f t b room = grind (arith, stride_ends, f.as_from room, t.as_bound room, b room)
 
-no_sub_reads : ReadsSecond no_sub
-unfolding second or_else and_then
-no_sub_reads = grind (arith, other_mark, mark_same)
-
-some_sub_reads : (s : Sub) → ReadsSub s → ReadsSecond (some_sub s)
-unfolding second or_else and_then
-some_sub_reads = grind (arith, mark_same, bracket_ends_sub)
-
 second_ends : (t : OptionalSub) (ts us : List Token) → SpellsSecond t ts us → EndsSub ts
-second_ends no_sub ts us s = rw s (bracket_ends_sub us)
-second_ends (some_sub t) ts us (vs, e, s) = rw e (comma_ends_sub vs)
+unfolding after_mark pick ends_bound begins_step operator_at
+second_ends no_sub = grind arith
+second_ends (some_sub t) = grind arith
 
 -- ---- steps
-
-item_steps : (a : Arg) → ReadsArg a → ReadsStep (item a)
-unfolding step step_from brackets or_else and_then bracketed
-item_steps = grind (arith, mark_same, mark_ends)
-
--- a dot begins no brackets
-
-access_reads : (by : Accessor) (s : Sub) (t : OptionalSub) → ReadsSub s → ReadsSecond t → ReadsStep (access by s t)
-unfolding dotted subscripts or_else and_then step step_from brackets accessor_at pick dotted_at word_at
-access_reads = grind (arith, other_mark, mark_same, second_ends)
 
 call_reads_as : (c : Call) (w : Text) (q : Args) (room : ℕ) (vs ws : List Token) → CallIs c w → ReadsArgs q → SpellsArgs q vs ws → args_depth q ≤ room
     → at.step room (mark dot ∷ word w ∷ mark open_paren ∷ vs) ≡ called room (expr_at room) (argument_at room) c w q ws
 unfolding dotted call or_else and_then all_arguments step step_from brackets call_of pick dotted_at word_at
 call_reads_as = grind (arith, other_mark, mark_same, method_is)
-
-method_reads : (n : Text) (q : Args) → ReadsArgs q → ReadsStep (method n q)
-unfolding called
-method_reads n q = grind (arith, call_reads_as plain n q)
 
 group_reads : (q : Args) (by : OptionalArg) (n : Text) (p : Args) → ReadsArgs q → ReadsOptional by → ReadsArgs p → ReadsStep (group q by n p)
 unfolding called and_then
@@ -430,39 +296,41 @@ expanding_reads q n p r k room ts us (vs, ws, e, s, xs, f, h, t) g d =
 -- ---- all of them
 
 mutual
+  unfolding or_else and_then pick word_at dotted_at after_mark ends_bound begins_step operator_at step step_from brackets bracketed dotted subscripts accessor_at called bound item_at sub_at sub_from span_after stride second items arguments named_at keyword_for keyword_at may_follow pairs entry_at key_at
+
   pub expr_is_read : (x : Expr) → ReadsExpr x
-  expr_is_read (name n) = highest _ (name_steps n) (grind arith)
-  expr_is_read (literal v) = highest _ (literal_steps v) (grind arith)
+  expr_is_read (name n) = highest _ (name_steps n)
+  expr_is_read (literal v) = highest _ (literal_steps v)
   expr_is_read (unary o x) = unary_reads o x (expr_is_read x)
   expr_is_read (binary o x y) = binary_reads o x y (expr_is_read x) (expr_is_read y)
-  expr_is_read (after x p) = highest _ (after_steps x p (expr_is_read x) (step_is_read p)) (after_opens x p (expr_is_read x))
-  expr_is_read (len x) = highest _ (len_steps x (expr_is_read x)) (grind arith)
-  expr_is_read (make n r) = highest _ (make_steps n r (args_are_read r)) (grind arith)
-  expr_is_read (paren x) = highest _ (paren_steps x (expr_is_read x)) (paren_opens x (expr_is_read x))
+  expr_is_read (after x p) = highest _ (after_steps x p (expr_is_read x) (step_is_read p))
+  expr_is_read (len x) = highest _ (len_steps x (expr_is_read x))
+  expr_is_read (make n r) = highest _ (make_steps n r (args_are_read r))
+  expr_is_read (paren x) = highest _ (paren_steps x (expr_is_read x))
 
   step_is_read : (p : Step) → ReadsStep p
-  step_is_read (item a) = item_steps a (arg_is_read a)
-  step_is_read (access by s t) = access_reads by s t (sub_is_read s) (second_is_read t)
-  step_is_read (method n r) = method_reads n r (args_are_read r)
+  step_is_read (item a) = grind (arith, mark_ends, arg_is_read a)
+  step_is_read (access by s t) = grind (arith, second_ends, sub_is_read s, second_is_read t)
+  step_is_read (method n q) = grind (arith, call_reads_as plain n q, args_are_read q)
   step_is_read (group r by n q) = group_reads r by n q (args_are_read r) (optional_is_read by) (args_are_read q)
   step_is_read (rolling r n q) = rolling_reads r n q (args_are_read r) (args_are_read q)
   step_is_read (expanding r n q) = expanding_reads r n q (args_are_read r) (args_are_read q)
 
   sub_is_read : (s : Sub) → ReadsSub s
-  sub_is_read (key a) = key_reads a (arg_is_read a)
+  sub_is_read (key a) = grind (arith, arg_no_mark, arg_starts, arg_is_read a)
   sub_is_read (span from to by) = span_reads from to by (optional_is_read from) (optional_is_read to) (stride_is_read by)
 
   second_is_read : (t : OptionalSub) → ReadsSecond t
-  second_is_read no_sub = no_sub_reads
-  second_is_read (some_sub s) = some_sub_reads s (sub_is_read s)
+  second_is_read no_sub = grind arith
+  second_is_read (some_sub s) = grind (arith, sub_is_read s)
 
   optional_is_read : (a : OptionalArg) → ReadsOptional a
-  optional_is_read no_arg = no_arg_reads
-  optional_is_read (some_arg a) = some_arg_reads a (arg_is_read a)
+  optional_is_read no_arg = grind arith
+  optional_is_read (some_arg a) = grind (arith, mark_ends, as_item_reads, arg_no_end, arg_starts, arg_no_mark, item_yes, arg_is_read a)
 
   stride_is_read : (by : OptionalExpr) → ReadsStride by
-  stride_is_read no_expr = no_expr_reads
-  stride_is_read (some_expr x) = some_expr_reads x (expr_is_read x)
+  stride_is_read no_expr = grind arith
+  stride_is_read (some_expr x) = grind (arith, expr_no_end, expr_starts, expr_is_read x)
 
   pub arg_is_read : (a : Arg) → ReadsArg a
   arg_is_read (expr x) = expr_reads x (expr_is_read x)
@@ -473,13 +341,16 @@ mutual
   arg_is_read nothing = nothing_reads
 
   items_are_read : (r : ArgList) → ReadsItems r
-  items_are_read no_args = none_reads
-  items_are_read (more_args a r) = items_read a r (arg_is_read a) (items_are_read r)
+  items_are_read no_args room close (suc n) = grind arith
+  items_are_read r room close zero = grind (arith, items_shorter r)
+  items_are_read (more_args a r) room close (suc n) = grind (arith, more_items, arg_no_mark, arg_starts, as_item_reads, arg_shorter, arg_is_read a, items_are_read r)
 
   args_are_read : (r : Args) → ReadsArgs r
-  args_are_read no_named = none_named_reads
-  args_are_read (more_named n a r) = args_read n a r (arg_is_read a) (args_are_read r)
+  args_are_read no_named room after_name (suc n) = grind arith
+  args_are_read r room after_name zero = grind (arith, args_shorter r after_name)
+  args_are_read (more_named n a r) room after_name (suc k) = grind (arith, keyword_shorter, arg_shorter, more_arguments, is_some, arg_no_mark, arg_starts, arg_no_target, target_reads, arg_is_read a, args_are_read r)
 
   pairs_are_read : (r : ArgPairs) → ReadsPairs r
-  pairs_are_read no_pairs = none_pairs_read
-  pairs_are_read (more_pairs k a r) = pairs_read k a r (arg_is_read a) (pairs_are_read r)
+  pairs_are_read no_pairs room (suc n) = grind arith
+  pairs_are_read r room zero = grind (arith, pairs_shorter r)
+  pairs_are_read (more_pairs k a r) room (suc n) = grind (arith, literal_shorter, more_entries, arg_no_mark, as_arg, literal_reads, arg_shorter, arg_is_read a, pairs_are_read r)

@@ -1,6 +1,7 @@
 -- The pieces of a text, joined and one by one.
 use Rattle.{
-  std.{proofs.{Common.{arith, ◌≡◌, ℕ, ◌+◌, Bool, true, false, List, [], ◌∷◌, ◌++◌, refl, leb, eqb}, lemmas.Bool.{eqb-true}}, specs.List.{concat}},
+  meaning.proofs.Common.{arith, ◌≡◌, ℕ, ◌+◌, Bool, true, false, List, [], ◌∷◌, ◌++◌, refl, leb, eqb, eqb-true},
+  std.specs.List.{concat},
   language_meaning.specs.Pieces.{Mode, plain, mode_after, opens, closes, choose, into_first, cut},
   script_syntax.specs.Cut.{is_closed, IsPieceFrom, IsEnded, AreCutFrom, IsCut},
 }
@@ -9,15 +10,13 @@ chosen : {A : Type 0} (P : A → Type 0) (t : Bool) (x y : A) → (t ≡ true �
 unfolding choose
 chosen = grind arith
 
-cut_joined : (mode : Mode) (opened closed : ℕ) (bs : List ℕ) → concat (cut mode opened closed bs) ≡ bs
-unfolding cut
-cut_joined mode opened closed [] = refl
-cut_joined mode opened closed (b ∷ bs) =
-    chosen (λ ps. concat ps ≡ b ∷ bs) _ _ _
-    (λ t. chosen (λ ps. concat ps ≡ b ∷ bs) _ _ _
-    (λ u. cc (cut_joined plain 0 0 bs))
-    (λ u. grind (arith, cut_joined plain opened closed bs)))
-    (λ t. grind (arith, cut_joined (mode_after mode b) (opened + opens mode b) (closed + closes mode b) bs))
+into_joined : (b : ℕ) (ps : List (List ℕ)) → concat (into_first b ps) ≡ b ∷ concat ps
+into_joined = grind arith
+
+cut_joined : (bs : List ℕ) (mode : Mode) (opened closed : ℕ) → concat (cut mode opened closed bs) ≡ bs
+unfolding cut choose
+cut_joined [] mode opened closed = refl
+cut_joined (b ∷ bs) mode opened closed = grind (arith, into_joined, cut_joined bs)
 
 -- a byte before the rest of a piece, in which a line feed stands inside brackets
 module _ (b : ℕ) (mode next : Mode) (opened closed opened' closed' : ℕ)

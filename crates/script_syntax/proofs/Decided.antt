@@ -1,7 +1,7 @@
 -- Bytes are made of tokens, or they are not.
 use Rattle.{
-  std.{proofs.{Common.{◌≡◌, ◌≢◌, ◌⊎◌, inl, inr, sym, subst, refl, ℕ, zero, suc, ◌≤◌, ◌^◌, true, false, leb, eqb, List, [], ◌∷◌, Option, Some, None, length, take, drop, decimal, arith}, lemmas.{Bool.{eqb-true, leb-true, Decides.{nat_tests}}, Fmt.{decimal_is_IsNumeral}}}, specs.{Str.Parse.{digits_value}, List.{prefix_len}}},
-  meaning.specs.Text.{Text},
+  meaning.proofs.Common.{◌≡◌, ◌≢◌, ◌⊎◌, inl, inr, sym, subst, refl, ℕ, zero, suc, ◌≤◌, ◌^◌, true, false, leb, eqb, List, [], ◌∷◌, Option, Some, None, length, take, drop, decimal, arith, eqb-true, leb-true, nat_tests, digits_value, prefix_len, Text},
+  std.proofs.lemmas.Fmt.{decimal_is_IsNumeral},
   language_meaning.specs.Token.{Token, word, int, text, op, mark, is_digit, begins_word, continues_word, begins_with, IsRun, escaped, IsQuoted, IsQuote, IsToken, Lexes, skip},
   script_tokens.{specs.Absent.{BeginsNoToken, BeginsNoSign}, proofs.{Runs.{true_or_false, not_both, run_of_length, IsRun-unique}, TokenLaws.{IsToken-unique, IsToken-shorter}, LexLaws.{length-skip}, Signs.{sign_decided}}},
   script_syntax.proofs.Tools.{text_is, text_same},
@@ -68,9 +68,6 @@ Begins {A} kind bytes = (a : A) × (rest : List ℕ) × IsToken (kind a) bytes r
 
 abbrev word_of : List ℕ → Text
 word_of bytes = take (prefix_len continues_word bytes) bytes
-
-abbrev after_word : List ℕ → List ℕ
-after_word bytes = drop (prefix_len continues_word bytes) bytes
 
 word_decided : (bytes : List ℕ) → Decided (Begins word bytes)
 word_decided bytes =

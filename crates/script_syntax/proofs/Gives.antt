@@ -1,11 +1,10 @@
 -- What the small readers give.
 use Rattle.{
-  std.{proofs.{lemmas.Bool.{leb-false, le-leb, lt-ltb, eqb-true, Decides.{leb_tells}}, Common.{◌≡◌, ℕ, ◌<◌, ◌≤◌, true, false, List, ◌∷◌, Option, Some, None, refl, arith, inl, inr}}, specs.{Prelude.{codes}, List.{list_any}}},
-  meaning.specs.Text.{Text, same_text},
-  language_meaning.specs.{Token.{Token, word, int, text, op, mark, Mark, equals, comma, open_paren}, Tree.{minus, Binary, sub, Literal, Expr, Step, Arg, after}, Depth.{depth}, Grammar.{reserved_words, IsName, IsMethodName, level, begins_int, begins_paren, SpellsLiteral, IsItem, IsTarget, SpellsEnd}},
-  script_syntax.{specs.Reading.{and_then, or_else, pick, after_mark, after_word, word_at, text_at, ended, is_reserved, is_method_name, name_at, target_at, dotted_at, call_at, len_at, maker_at, operator_at, sign_at, positive, negative, na_at, constant_at, negative_at, literal_at, is_item, as_item, past_comma, is_target, split, guard, closed, end_at}, proofs.{Tools.{chosen, text_same}, Takes.{mark_same}}},
+  meaning.proofs.Common.{lt-ltb, eqb-true, leb_tells, ◌≡◌, ℕ, ◌<◌, ◌≤◌, true, false, List, ◌∷◌, Some, None, refl, arith, codes, list_any, Text, same_text, Binary},
+  std.proofs.lemmas.Bool.{leb-false, le-leb},
+  language_meaning.specs.{Token.{Token, word, op, mark, Mark, equals, comma, open_paren}, Tree.{minus, sub, Literal, Expr, Step, Arg, after}, Depth.{depth}, Grammar.{reserved_words, IsName, IsMethodName, level, begins_int, begins_paren, SpellsLiteral, IsItem, IsTarget, SpellsEnd}},
+  script_syntax.{specs.Reading.{and_then, or_else, pick, after_mark, after_word, word_at, text_at, ended, is_reserved, is_method_name, name_at, target_at, dotted_at, call_at, len_at, maker_at, operator_at, sign_at, positive, negative, na_at, constant_at, negative_at, literal_at, is_item, as_item, past_comma, is_target, split, guard, closed, end_at}, proofs.{Tools.{text_same}, Takes.{mark_same}}},
 }
-use Rattle.language_meaning.specs.Tree as tree
 
 pub word_same : (w : Text) (us : List Token) → after_word w (word w ∷ us) ≡ Some us
 unfolding after_word pick
@@ -21,21 +20,6 @@ other_word v w us h = rw h refl
 
 -- ---- names
 
-pub record Unreserved (n : Text) : Type 0 where
-  pub not_true : same_text n (codes "True") ≡ false
-  pub not_false : same_text n (codes "False") ≡ false
-  pub not_none : same_text n (codes "None") ≡ false
-  pub not_del : same_text n (codes "del") ≡ false
-  pub not_import : same_text n (codes "import") ≡ false
-  pub not_print : same_text n (codes "print") ≡ false
-  pub not_len : same_text n (codes "len") ≡ false
-  pub not_pd : same_text n (codes "pd") ≡ false
-
-pub record Formless (n : Text) : Type 0 where
-  pub not_groupby : same_text n (codes "groupby") ≡ false
-  pub not_rolling : same_text n (codes "rolling") ≡ false
-  pub not_expanding : same_text n (codes "expanding") ≡ false
-
 pub name_reads : (n : Text) (us : List Token) → IsName n → name_at (word n ∷ us) ≡ Some (n, us)
 unfolding name_at word_at is_reserved and_then pick
 name_reads n us h = rw h refl
@@ -47,9 +31,6 @@ reserved_is_none n us h = rw h refl
 pub target_reads : (n : Text) (us : List Token) → IsName n → target_at (word n ∷ mark equals ∷ us) ≡ Some (n, us)
 unfolding target_at and_then
 target_reads = search (name_reads, mark_same)
-
-abbrev then_equals : Text × List Token → Option (Text × List Token)
-then_equals n = and_then (after_mark equals n.1) (λ us. Some (n.0, us))
 
 pub method_is : (n : Text) → IsMethodName n → is_method_name n ≡ true
 unfolding is_method_name is_reserved pick
@@ -67,8 +48,8 @@ operator_below = grind (arith, leb_tells)
 
 -- no operator of a level, so none of a higher one
 pub none_above : (i j : ℕ) (ts : List Token) → i ≤ j → operator_at i ts ≡ None → operator_at j ts ≡ None
-unfolding operator_at
-none_above = grind (arith, operator_below, chosen, leb-false)
+unfolding operator_at pick
+none_above = grind (arith, operator_below, leb-false)
 
 pub minus_reads : (ts : List Token) → begins_int ts ≡ false → sign_at (op sub ∷ ts) ≡ Some (minus, ts)
 unfolding sign_at pick
@@ -110,15 +91,8 @@ pub record IsPlain (ts : List Token) : Type 0 where
   pub no_maker : maker_at ts ≡ None
 
 pub literal_plain : (v : Literal) (ts us : List Token) → SpellsLiteral v ts us → IsPlain ts
-unfolding name_at word_at after_mark len_at maker_at after_word and_then call_at dotted_at
-literal_plain (tree.int z) ts us (inl (n, k, h, s)) = search (no_paren, no_len, no_maker)
-literal_plain (tree.int z) ts us (inr (n, k, h, s)) = search (no_paren, no_len, no_maker)
-literal_plain (tree.truth true) ts us s = rw s (search (reserved_is_none, no_paren, word_no_mark, no_len, no_maker))
-literal_plain (tree.truth false) ts us s = rw s (search (reserved_is_none, no_paren, word_no_mark, no_len, no_maker))
-literal_plain (tree.text w) ts us s = search (no_paren, no_len, no_maker)
-literal_plain tree.na ts us (s, h) = rw s (search (reserved_is_none, no_paren, word_no_mark, no_len, no_maker, word_same, mark_same))
-
--- ---- names of steps
+unfolding name_at word_at is_reserved after_mark len_at maker_at after_word and_then call_at dotted_at pick
+literal_plain = grind (arith, no_paren)
 
 -- ---- parts
 

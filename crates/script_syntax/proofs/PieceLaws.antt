@@ -1,30 +1,30 @@
 -- A piece is blank, or it is one statement, or neither.
 use Rattle.{
-  std.{proofs.Common.{◌≡◌, ◌↔◌, ℕ, Bool, false, List, [], Option, Some, None, subst, arith}, specs.{Prelude.{IsTrue, MatchOption}, Str.{IsUtf8}}},
-  language_meaning.specs.{Token.{Token, Lexes}, Tree.{Form}, Grammar.{SpellsForm}, Script.{IsBlank, IsStatement}},
+  meaning.proofs.Common.{◌≡◌, ◌↔◌, ℕ, Bool, false, List, [], Option, Some, None, subst, arith, IsTrue, MatchOption, IsUtf8},
+  language_meaning.specs.{Token.{Token, Lexes}, Tree.{Action}, Grammar.{SpellsAction}, Script.{IsBlank, IsStatement}},
   script_tokens.proofs.{BlankLaws.{Lexes-blank}, LexLaws.{Lexes-unique}},
-  script_syntax.{specs.{Reading.{form_read}, PieceRead.{IsOneStatement}}, proofs.{Shorter.{expr_shorter}, Law.{form_sound, form_complete}}},
+  script_syntax.{specs.{Reading.{action_read}, PieceRead.{IsOneStatement}}, proofs.{Shorter.{expr_shorter}, Law.{form_sound, form_complete}}},
 }
 
-no_form : (form : Form) → SpellsForm form [] → ⊥
-no_form = grind (arith, expr_shorter)
+no_action : (action : Action) → SpellsAction action [] → ⊥
+no_action = grind (arith, expr_shorter)
 
-pub blank_is_none : (piece : List ℕ) → IsBlank piece → (form : Form) → IsStatement form piece → ⊥
-blank_is_none piece blank form (ts, l, s, d) = no_form _ (subst (SpellsForm form) (Lexes-blank ts _ blank l) s)
+pub blank_is_none : (piece : List ℕ) → IsBlank piece → (action : Action) → IsStatement action piece → ⊥
+blank_is_none piece blank action (ts, l, s, d) = no_action _ (subst (SpellsAction action) (Lexes-blank ts _ blank l) s)
 
-pub no_statement : (ts : List Token) (piece : List ℕ) → Lexes ts piece → form_read ts ≡ None → (form : Form) → IsStatement form piece → ⊥
-no_statement ts piece l none form (us, m, s, d) =
-    let read = form_complete _ ts (subst (SpellsForm form) (Lexes-unique us ts _ m l) s) d in
+pub no_statement : (ts : List Token) (piece : List ℕ) → Lexes ts piece → action_read ts ≡ None → (action : Action) → IsStatement action piece → ⊥
+no_statement ts piece l none action (us, m, s, d) =
+    let read = form_complete _ ts (subst (SpellsAction action) (Lexes-unique us ts _ m l) s) d in
     absurd cc
 
-pub one_statement : (form : Form) (ts : List Token) (piece : List ℕ) → IsUtf8 piece → (IsBlank piece → ⊥) → Lexes ts piece → form_read ts ≡ Some form → IsOneStatement form piece
-one_statement form ts piece text filled l read =
-    let sound = form_sound ts _ read in
+pub one_statement : (action : Action) (ts : List Token) (piece : List ℕ) → IsUtf8 piece → (IsBlank piece → ⊥) → Lexes ts piece → action_read ts ≡ Some action → IsOneStatement action piece
+one_statement action ts piece text filled l read =
+    let sound = rw read at (form_sound ts) in
     (text, search, only, filled)
   where
-    only : (other : Form) → IsStatement other piece → other ≡ form
+    only : (other : Action) → IsStatement other piece → other ≡ action
     only other (us, m, s, d) =
-        let again = form_complete _ ts (subst (SpellsForm other) (Lexes-unique us ts _ m l) s) d in
+        let again = form_complete _ ts (subst (SpellsAction other) (Lexes-unique us ts _ m l) s) d in
         cc
 
 -- a piece that was found to be filled isn't blank

@@ -1,6 +1,6 @@
 -- What is read within a depth, by what is read one depth lower.
 use Rattle.{
-  std.{proofs.Common.{◌≡◌, ℕ, suc, List, Option, None, Result, refl, arith}, specs.Borrow.{Bor}},
+  meaning.proofs.Common.{◌≡◌, ℕ, suc, List, Option, None, Result, refl, arith, Bor},
   script_tokens.specs.declared.token.Token.{Token},
   script_syntax.specs.{declared.refusal.Refusal.{Refusal}, Found.{Finds}, Reading.{argument_with, expr_at, argument_at}},
 }

@@ -4,7 +4,7 @@ use Rattle.std.specs.List.{list_any}
 use Rattle.meaning.specs.Text.{Text, same_text}
 use Rattle.language_meaning.specs.Token.{Token, word, int, text, op, mark, Mark, equals, dot, comma, colon, tilde, open_paren, close_paren, open_bracket, close_bracket, open_brace, close_brace, byte_of}
 use Rattle.language_meaning.specs.Tree as tree
-use Rattle.language_meaning.specs.Tree.{Unary, minus, invert, Binary, sub, Accessor, loc, iloc, at, iat, Literal, Expr, Step, Sub, OptionalSub, OptionalArg, OptionalExpr, Arg, ArgList, Args, ArgPairs, Form, name, literal, unary, binary, after, len, make, paren, item, access, method, group, rolling, expanding, key, span, no_sub, some_sub, no_arg, some_arg, no_expr, some_expr, expr, many, row, table, nothing, no_args, more_args, no_named, more_named, no_pairs, more_pairs, import_pandas, bind, put, drop_name, drop_column, print}
+use Rattle.language_meaning.specs.Tree.{Unary, minus, invert, Binary, sub, Accessor, loc, iloc, at, iat, Literal, Expr, Step, Sub, OptionalSub, OptionalArg, OptionalExpr, Arg, ArgList, Args, ArgPairs, Action, name, literal, unary, binary, after, len, make, paren, item, access, method, group, rolling, expanding, key, span, no_sub, some_sub, no_arg, some_arg, no_expr, some_expr, expr, many, row, table, nothing, no_args, more_args, no_named, more_named, no_pairs, more_pairs, import_pandas, bind, put, drop_name, drop_column, print}
 use Rattle.language_meaning.specs.Depth.{depth}
 use Rattle.language_meaning.specs.Grammar.{reserved_words, form_words, level, begins_int, begins_paren, begins_minus, most_depth}
 
@@ -390,10 +390,10 @@ unfoldable mutual
 
 -- ---- statements
 
-unfoldable pub imported : List Token → Option Form
+unfoldable pub imported : List Token → Option Action
 imported ts = after_word (codes "pandas") ts >>= after_word (codes "as") >>= after_word (codes "pd") >>= ended import_pandas
 
-unfoldable pub deleted : List Token → Option Form
+unfoldable pub deleted : List Token → Option Action
 deleted ts =
     name_at ts >>= λ n. or_else (after_mark open_bracket n.1)
     (ended (drop_name n.0) n.1)
@@ -410,24 +410,24 @@ end_at ts =
     (closed (codes "\n") ts)
     (λ us. after_word (codes "end") us >>= after_mark equals >>= text_at >>= λ s. closed s.0 s.1)
 
-unfoldable pub printed : List Token → Option Form
+unfoldable pub printed : List Token → Option Action
 printed ts = after_mark open_paren ts >>= λ us. expr_at most_depth 0 us >>= λ x. end_at x.1 >>= λ end. Some (print x.0 end)
 
-unfoldable pub bound_to : Text → List Token → Option Form
+unfoldable pub bound_to : Text → List Token → Option Action
 bound_to n ts = expr_at most_depth 0 ts >>= λ x. ended (bind n x.0) x.1
 
-unfoldable pub set : List Token → Option Form
+unfoldable pub set : List Token → Option Action
 set ts =
     pick (begins_minus ts)
     None
     (expr_at most_depth 6 ts >>= λ x. split x.0 >>= λ t. after_mark equals x.1 >>= λ us. argument_at most_depth us >>= λ a. ended (put t.0 t.1 a.0) a.1)
 
-unfoldable pub assigned : List Token → Option Form
+unfoldable pub assigned : List Token → Option Action
 assigned ts = or_else (target_at ts) (set ts) (λ n. bound_to n.0 n.1)
 
 -- the statement that the tokens spell
-unfoldable pub form_read : List Token → Option Form
-form_read ts =
+unfoldable pub action_read : List Token → Option Action
+action_read ts =
     or_else (after_word (codes "import") ts)
     (or_else (after_word (codes "del") ts)
     (or_else (after_word (codes "print") ts) (assigned ts) printed)

@@ -1,7 +1,7 @@
 // Statements.
 ghost use Rattle.std.specs.Prelude.{◌≡◌};
 ghost use Rattle.language_meaning.specs.Tree as tree;
-ghost use Rattle.script_tree.specs.View.{form_of, expr_of, step_of};
+ghost use Rattle.script_tree.specs.View.{action_of, expr_of, step_of};
 ghost use Rattle.script_tokens.specs.View.{tokens_of};
 ghost use Rattle.script_syntax.specs.Found.{Gives};
 ghost use Rattle.script_syntax.specs.Reading as spec;
@@ -12,15 +12,15 @@ use crate::node::{is_target, or_drop};
 use crate::refusal::Refusal;
 use cell_core::Words;
 use script_tokens::{Mark, Token};
-use script_tree::{Expr, Form, Step};
+use script_tree::{Action, Expr, Step};
 use std::alloc::Global;
 
 const MOST_DEPTH: usize = 32;
 
 // The statement that the tokens spell.
-#[tactic(auto, unfolding(crate::specs::Reading::form_read, crate::specs::Reading::or_else))]
-pub(crate) fn statement(alloc: Global, tokens: &[Token<'_>]) -> Result<Form, Refusal>
-    ensures { Gives form_of result (spec.form_read (tokens_of tokens.now)) }
+#[tactic(auto, unfolding(crate::specs::Reading::action_read, crate::specs::Reading::or_else))]
+pub(crate) fn statement(alloc: Global, tokens: &[Token<'_>]) -> Result<Action, Refusal>
+    ensures { Gives action_of result (spec.action_read (tokens_of tokens.now)) }
 {
     if let Some(rest) = after_word(tokens, "import") {
         return imported(rest);
@@ -36,41 +36,41 @@ pub(crate) fn statement(alloc: Global, tokens: &[Token<'_>]) -> Result<Form, Ref
 
 // `pandas as pd`
 #[tactic(auto, unfolding(crate::specs::Reading::imported, crate::specs::Reading::and_then))]
-fn imported(tokens: &[Token<'_>]) -> Result<Form, Refusal>
-    ensures { Gives form_of result (spec.imported (tokens_of tokens.now)) }
+fn imported(tokens: &[Token<'_>]) -> Result<Action, Refusal>
+    ensures { Gives action_of result (spec.imported (tokens_of tokens.now)) }
 {
     let rest = expect_word(tokens, "pandas")?;
     let rest = expect_word(rest, "as")?;
     let rest = expect_word(rest, "pd")?;
-    ended(Form::Import, rest)
+    ended(Action::Import, rest)
 }
 
 // What stands after `del`: a name, or a name with a key in brackets.
 #[tactic(auto, unfolding(crate::specs::Reading::deleted, crate::specs::Reading::and_then, crate::specs::Reading::or_else))]
-fn deleted(alloc: Global, tokens: &[Token<'_>]) -> Result<Form, Refusal>
-    ensures { Gives form_of result (spec.deleted (tokens_of tokens.now)) }
+fn deleted(alloc: Global, tokens: &[Token<'_>]) -> Result<Action, Refusal>
+    ensures { Gives action_of result (spec.deleted (tokens_of tokens.now)) }
 {
     let Some((name, rest)) = name_at(tokens) else {
         return Err(Refusal::Syntax);
     };
     let name = Words::from_text(alloc, name)?;
     let Some(rest) = after_mark(rest, Mark::OpenBracket) else {
-        return ended(Form::DropName(name), rest);
+        return ended(Action::DropName(name), rest);
     };
     let (key, _, rest) = expr_at(alloc, rest, MOST_DEPTH, 0)?;
     let rest = or_drop!(expect(rest, Mark::CloseBracket), key);
-    ended(Form::DropColumn(name, key), rest)
+    ended(Action::DropColumn(name, key), rest)
 }
 
 // What stands after `print`.
 #[tactic(auto, unfolding(crate::specs::Reading::printed, crate::specs::Reading::and_then))]
-fn printed(alloc: Global, tokens: &[Token<'_>]) -> Result<Form, Refusal>
-    ensures { Gives form_of result (spec.printed (tokens_of tokens.now)) }
+fn printed(alloc: Global, tokens: &[Token<'_>]) -> Result<Action, Refusal>
+    ensures { Gives action_of result (spec.printed (tokens_of tokens.now)) }
 {
     let rest = expect(tokens, Mark::OpenParen)?;
     let (expr, _, rest) = expr_at(alloc, rest, MOST_DEPTH, 0)?;
     let end = or_drop!(end_at(alloc, rest), expr);
-    Ok(Form::Print(expr, end))
+    Ok(Action::Print(expr, end))
 }
 
 // What ends a printing: the text after the printed one, a line feed where none is given.
@@ -101,8 +101,8 @@ fn closed(alloc: Global, end: &str, tokens: &[Token<'_>]) -> Result<Words, Refus
 
 // A setting, or a binding of a name.
 #[tactic(auto, unfolding(crate::specs::Reading::assigned, crate::specs::Reading::or_else))]
-fn assigned(alloc: Global, tokens: &[Token<'_>]) -> Result<Form, Refusal>
-    ensures { Gives form_of result (spec.assigned (tokens_of tokens.now)) }
+fn assigned(alloc: Global, tokens: &[Token<'_>]) -> Result<Action, Refusal>
+    ensures { Gives action_of result (spec.assigned (tokens_of tokens.now)) }
 {
     match target_at(tokens) {
         Some((name, rest)) => bound_to(alloc, name, rest),
@@ -112,18 +112,18 @@ fn assigned(alloc: Global, tokens: &[Token<'_>]) -> Result<Form, Refusal>
 
 // What stands after `name =`.
 #[tactic(auto, unfolding(crate::specs::Reading::bound_to, crate::specs::Reading::and_then))]
-fn bound_to(alloc: Global, name: &str, tokens: &[Token<'_>]) -> Result<Form, Refusal>
-    ensures { Gives form_of result (spec.bound_to name.now (tokens_of tokens.now)) }
+fn bound_to(alloc: Global, name: &str, tokens: &[Token<'_>]) -> Result<Action, Refusal>
+    ensures { Gives action_of result (spec.bound_to name.now (tokens_of tokens.now)) }
 {
     let name = Words::from_text(alloc, name)?;
     let (expr, _, rest) = expr_at(alloc, tokens, MOST_DEPTH, 0)?;
-    ended(Form::Bind(name, expr), rest)
+    ended(Action::Bind(name, expr), rest)
 }
 
 // A target with its step, and what it is set to.
 #[tactic(auto, unfolding(crate::specs::Reading::set, crate::specs::Reading::and_then, crate::specs::Reading::pick))]
-fn set(alloc: Global, tokens: &[Token<'_>]) -> Result<Form, Refusal>
-    ensures { Gives form_of result (spec.set (tokens_of tokens.now)) }
+fn set(alloc: Global, tokens: &[Token<'_>]) -> Result<Action, Refusal>
+    ensures { Gives action_of result (spec.set (tokens_of tokens.now)) }
 {
     if begins_minus(tokens) {
         return Err(Refusal::Syntax);
@@ -132,7 +132,7 @@ fn set(alloc: Global, tokens: &[Token<'_>]) -> Result<Form, Refusal>
     let (object, step) = split(target)?;
     let rest = or_drop!(expect(rest, Mark::Equals), object, step);
     let (value, _, rest) = or_drop!(argument_at(alloc, rest, MOST_DEPTH), object, step);
-    ended(Form::Put(object, step, value), rest)
+    ended(Action::Put(object, step, value), rest)
 }
 
 // An expression and its last step, where that may be set.
@@ -182,13 +182,13 @@ fn text_at<'t, 'a>(tokens: &'t [Token<'a>]) -> Result<(&'t str, &'t [Token<'a>])
 
 // The statement, where no token is left.
 #[tactic(auto, unfolding(crate::specs::Reading::ended))]
-fn ended(form: Form, tokens: &[Token<'_>]) -> Result<Form, Refusal>
-    ensures { Gives form_of result (spec.ended (form_of form) (tokens_of tokens.now)) }
+fn ended(action: Action, tokens: &[Token<'_>]) -> Result<Action, Refusal>
+    ensures { Gives action_of result (spec.ended (action_of action) (tokens_of tokens.now)) }
 {
     match tokens {
-        [] => Ok(form),
+        [] => Ok(action),
         _ => {
-            drop(form);
+            drop(action);
             Err(Refusal::Syntax)
         }
     }

@@ -1,7 +1,7 @@
 //! The script language: its parser. The trees of statements are in the crate `script_tree`.
 //!
 //! [`parse`] cuts a text into pieces, reads each that isn't blank as tokens (the crate `script_tokens`)
-//! and these as one statement. A statement is a tree: a [`Form`] over expressions ([`Expr`]) with their
+//! and these as one statement. A statement is a tree: a [`Action`] over expressions ([`Expr`]) with their
 //! steps ([`Step`]) and arguments ([`Arg`]). The reader goes down at most 32 forms, and reads no token
 //! twice.
 //!
@@ -9,7 +9,7 @@
 //! let script = parse(alloc, b"x = pd.Series([1, 2])\nprint(len(x))\n")?;
 //! assert_eq!(rt; script.len(), 2);
 //! assert_eq!(rt; script.statement(1).line, 2);
-//! assert!(rt; matches!(script.statement(1).form, Form::Print(..)));
+//! assert!(rt; matches!(script.statement(1).action, Action::Print(..)));
 //! assert!(rt; matches!(parse(alloc, b"x = (1\n"), Err(ParseFault::SyntaxAt(1))));
 //! ```
 #![tactic(auto)]
@@ -31,7 +31,7 @@ pub use pieces::{ParseFault, parse};
 pub use refusal::Refusal;
 pub use script_tokens::Binary;
 pub use script_tree::{
-    Accessor, Arg, ArgList, ArgPairs, Args, Expr, Form, Literal, Script, Statement, Step, Sub,
+    Accessor, Action, Arg, ArgList, ArgPairs, Args, Expr, Literal, Script, Statement, Step, Sub,
     Unary, access_of, expanding_of, group_of, list_of, make_of, method_of, rolling_of, span_of,
     table_of, tuple_of,
 };

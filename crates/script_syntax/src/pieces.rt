@@ -9,7 +9,7 @@ use crate::forms::statement;
 use crate::refusal::Refusal;
 use cell_core::NoMemory;
 use script_tokens::{is_blank, line_ends, piece_len, tokens};
-use script_tree::{Form, Script, Statement};
+use script_tree::{Action, Script, Statement};
 use std::alloc::Global;
 
 const MOST_BYTES: usize = 1 << 20;
@@ -42,7 +42,7 @@ impl From<NoMemory> for ParseFault {
 #[derive(Drop)]
 pub(crate) enum PieceRead {
     Blank,
-    Statement(Form),
+    Statement(Action),
     Wrong,
 }
 
@@ -87,12 +87,12 @@ fn settle(script: &mut Script, left: usize, line: u64, read: PieceRead) -> Resul
     match read {
         PieceRead::Blank => Ok(left),
         PieceRead::Wrong => Err(ParseFault::SyntaxAt(line)),
-        PieceRead::Statement(form) => {
+        PieceRead::Statement(action) => {
             if left == 0 {
-                drop(form);
+                drop(action);
                 return Err(ParseFault::SyntaxAt(line));
             }
-            script.push(Statement { line, form })?;
+            script.push(Statement { line, action })?;
             Ok(left - 1)
         }
     }
@@ -112,7 +112,7 @@ fn read_piece(alloc: Global, piece: &[u8]) -> Result<PieceRead, NoMemory>
         return Ok(PieceRead::Wrong)
     };
     match statement(alloc, &tokens) {
-        Ok(form) => Ok(PieceRead::Statement(form)),
+        Ok(action) => Ok(PieceRead::Statement(action)),
         Err(Refusal::Syntax) => Ok(PieceRead::Wrong),
         Err(Refusal::NoMemory) => Err(NoMemory),
     }

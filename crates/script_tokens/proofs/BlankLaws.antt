@@ -1,6 +1,6 @@
 -- A blank piece has no token.
 use Rattle.{
-  std.proofs.{Common.{◌≡◌, ℕ, List, [], ◌∷◌, arith}, lemmas.Bool.Decides.{nat_tests}},
+  meaning.proofs.Common.{◌≡◌, ℕ, List, [], ◌∷◌, arith, nat_tests},
   language_meaning.specs.{Token.{Token, word, int, text, op, mark, IsToken, Lexes, skip}, Script.{IsBlank}},
   script_tokens.proofs.TokenLaws.{IsToken-shorter, word_begins, int_begins},
 }

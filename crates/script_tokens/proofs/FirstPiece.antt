@@ -1,6 +1,6 @@
 -- The first piece, by its length, and the pieces after it.
 use Rattle.{
-  std.proofs.Common.{◌≡◌, ℕ, suc, ◌+◌, ◌<◌, List, [], ◌∷◌, length, take, drop, refl, arith, leb, eqb},
+  meaning.proofs.Common.{◌≡◌, ℕ, suc, ◌+◌, ◌<◌, List, [], ◌∷◌, length, take, drop, refl, arith, leb, eqb},
   language_meaning.specs.Pieces.{Mode, plain, mode_after, opens, closes, choose, cut, pieces},
 }
 

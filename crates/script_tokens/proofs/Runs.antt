@@ -1,6 +1,6 @@
 -- The longest front of bytes that pass a test.
 use Rattle.{
-  std.{proofs.{Common.{◌≡◌, refl, ℕ, zero, suc, ◌+◌, ◌<◌, ◌≤◌, Bool, true, false, ◌&&◌, List, [], ◌∷◌, ◌++◌, length, take, drop, inl, inr, ◌⊎◌, arith}, lemmas.Str.{IsUtf8-from_ascii}}, specs.{List.{list_all, prefix_len}, Str.{IsAscii, IsUtf8}}},
+  meaning.proofs.Common.{◌≡◌, refl, ℕ, zero, suc, ◌+◌, ◌<◌, ◌≤◌, Bool, true, false, ◌&&◌, List, [], ◌∷◌, ◌++◌, length, take, drop, inl, inr, ◌⊎◌, arith, IsUtf8-from_ascii, list_all, prefix_len, IsAscii, IsUtf8},
   language_meaning.specs.Token.{IsRun, begins_with},
 }
 

@@ -1,7 +1,7 @@
 -- A text between quotes is read part by part.
 use Rattle.{
-  std.{proofs.{Common.{◌≡◌, ◌≢◌, subst, refl, ℕ, ◌<◌, true, false, List, [], ◌∷◌, ◌++◌, length, length-append, append_assoc, arith, inl, inr}, lemmas.{Bool.Decides.{nat_tests}, List.{append-nil}, Str.{IsUtf8-take, IsUtf8-drop, IsCharBoundary-before_ascii, IsCharBoundary-after_ascii}}, Math.Seq.{get_or-append_seam, drop-append_seam, drop-append-add, take-append_seam}}, specs.{List.{list_all}, Str.{IsUtf8}}},
-  meaning.specs.Text.{Text},
+  meaning.proofs.Common.{◌≡◌, ◌≢◌, subst, refl, ℕ, ◌<◌, true, false, List, [], ◌∷◌, ◌++◌, length, length-append, append_assoc, arith, inl, inr, nat_tests, append-nil, get_or-append_seam, drop-append_seam, take-append_seam, list_all, IsUtf8, Text},
+  std.proofs.{lemmas.Str.{IsUtf8-take, IsUtf8-drop, IsCharBoundary-before_ascii, IsCharBoundary-after_ascii}, Math.Seq.{drop-append-add}},
   language_meaning.specs.Token.{begins_with, IsRun, IsQuoted, IsQuote},
   script_tokens.{specs.Quoted.{is_plain, IsEscape, BeginsNoEscape, EndsNoText}, proofs.Runs.{both_true}},
 }

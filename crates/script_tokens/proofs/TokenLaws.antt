@@ -1,8 +1,8 @@
 -- Bytes begin with one token.
 use Rattle.{
-  std.{proofs.{Common.{◌≡◌, ◌≢◌, ◌∙◌, sym, ap, refl, ℕ, ◌≤◌, ◌<◌, ◌^◌, Bool, true, ◌||◌, eqb, ltb, if◌then◌else◌, subst, List, [], ◌∷◌, ◌++◌, length, length-append, get_or, decimal, Result, Ok, arith, rules}, lemmas.{Bool.Decides.{nat_tests}, Fmt.{decimal_nonempty, decimal_injective, decimal-digits_value, parse-decimal}, Str.Parse.{IsNumeralModel, numerals_by_value, parse_digits}}}, specs.{Str.{IsUtf8, Parse.{ParsesUnsigned, digits_value}}, List.{list_all}}},
-  meaning.specs.Text.{Text},
-  language_meaning.specs.{Tree.{Binary}, Token.{Token, word, int, text, op, mark, spelling_of, is_digit, begins_word, continues_word, begins_with, IsRun, IsTextByte, IsQuoted, IsToken}},
+  meaning.proofs.Common.{◌≡◌, ◌≢◌, ◌∙◌, sym, ap, refl, ℕ, ◌≤◌, ◌<◌, ◌^◌, Bool, true, ◌||◌, eqb, if◌then◌else◌, subst, List, [], ◌∷◌, ◌++◌, length, length-append, get_or, decimal, Result, Ok, arith, rules, nat_tests, decimal_injective, IsNumeralModel, numerals_by_value, IsUtf8, digits_value, list_all, Text, Binary},
+  std.{proofs.{Common.{ltb}, lemmas.{Fmt.{decimal_nonempty, decimal-digits_value, parse-decimal}, Str.Parse.{parse_digits}}}, specs.Str.Parse.{ParsesUnsigned}},
+  language_meaning.specs.Token.{Token, word, int, text, op, mark, spelling_of, is_digit, begins_word, continues_word, begins_with, IsRun, IsTextByte, IsQuoted, IsToken},
   script_tokens.proofs.{Runs.{both_true, not_both, IsRun-unique}, Signs.{operator_reads, mark_reads}, Texts.{quoted_ends, IsUtf8-after_ascii}},
 }
 

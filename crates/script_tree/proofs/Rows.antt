@@ -1,7 +1,6 @@
 -- A row of parts, as the list of them.
 use Rattle.{
-  std.proofs.Common.{◌≡◌, Option, Some, None, refl, ap, map, rules},
-  cell_core.specs.declared.words.Words.{Words},
+  meaning.proofs.Common.{◌≡◌, Option, Some, None, refl, ap, map, rules, Words},
   language_meaning.specs.Tree.{arg_list, named_args, arg_pairs},
   script_tree.specs.{declared.{tree.Arg.{Arg, Row_of-Arg, end_of-Arg, more_of-Arg, items-the_row-Arg, Row_of-ArgPairs-items-2, end_of-ArgPairs-items-2, more_of-ArgPairs-items-2, items-the_row-ArgPairs-items-2}, parts.{Args.{Args, the_lemmas, Row_of-Args-items-2, end_of-Args-items-2, more_of-Args-items-2, items-the_row-Args-items-2}, ArgList.{ArgList, the_lemmas as list_lemmas}, ArgPairs.{ArgPairs, the_lemmas as pairs_lemmas}}}, View.{expr_of, step_of, arg_of, list_of_row, named_of_row, pairs_of_row, parts_of, named_of, named_parts_of, pair_of, pair_parts_of, literal_of, optional_arg}},
 }

@@ -17,8 +17,8 @@ use Rattle.script_tree.specs.declared.tree.Sub.{Sub, Held-Step-Group-1, Step-Gro
 use Rattle.script_tree.specs.declared.tree.Sub.TheVariants as sub
 use Rattle.script_tree.specs.declared.tree.Arg.{Arg, Row_of-Arg, end_of-Arg, more_of-Arg, Row_of-ArgPairs-items-2, end_of-ArgPairs-items-2, more_of-ArgPairs-items-2}
 use Rattle.script_tree.specs.declared.tree.Arg.TheVariants as arg
-use Rattle.script_tree.specs.declared.tree.Form.{Form}
-use Rattle.script_tree.specs.declared.tree.Form.TheVariants as form
+use Rattle.script_tree.specs.declared.tree.Action.{Action}
+use Rattle.script_tree.specs.declared.tree.Action.TheVariants as action
 use Rattle.script_tree.specs.declared.tree.Statement.{Statement}
 use Rattle.script_tree.specs.declared.parts.ArgList.{ArgList}
 use Rattle.script_tree.specs.declared.parts.Args.{Args}
@@ -113,16 +113,16 @@ pair_of p = (literal_of p.0, arg_of p.1)
 abbrev pub pair_parts_of : ArgPairs → List (tree.Literal × tree.Arg)
 pair_parts_of l = map pair_of l.items.items
 
-abbrev pub form_of : Form → tree.Form
-form_of form.Import = tree.import_pandas
-form_of (form.Bind n x) = tree.bind n (expr_of x)
-form_of (form.Put x s a) = tree.put (expr_of x) (step_of s) (arg_of a)
-form_of (form.DropName n) = tree.drop_name n
-form_of (form.DropColumn n x) = tree.drop_column n (expr_of x)
-form_of (form.Print x end) = tree.print (expr_of x) end
+abbrev pub action_of : Action → tree.Action
+action_of action.Import = tree.import_pandas
+action_of (action.Bind n x) = tree.bind n (expr_of x)
+action_of (action.Put x s a) = tree.put (expr_of x) (step_of s) (arg_of a)
+action_of (action.DropName n) = tree.drop_name n
+action_of (action.DropColumn n x) = tree.drop_column n (expr_of x)
+action_of (action.Print x end) = tree.print (expr_of x) end
 
 abbrev pub statement_of : Statement → tree.Statement
-statement_of s = record { line = s.line; form = form_of s.form }
+statement_of s = record { line = s.line; action = action_of s.action }
 
 abbrev pub optional_arg : Option Arg → tree.OptionalArg
 optional_arg None = tree.no_arg

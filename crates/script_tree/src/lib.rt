@@ -1,6 +1,6 @@
 //! The trees of the script language, as the parser makes them and a session reads them.
 //!
-//! A [`Script`] is a list of statements. A [`Statement`] has its line and a [`Form`] over expressions ([`Expr`]),
+//! A [`Script`] is a list of statements. A [`Statement`] has its line and a [`Action`] over expressions ([`Expr`]),
 //! with their steps ([`Step`]), subscripts ([`Sub`]) and arguments ([`Arg`]). Trees that hold lists are made of
 //! their parts by functions ([`list_of`] and the others), whose contracts say which tree it is.
 //!
@@ -25,4 +25,4 @@ pub use build::{
 pub use literal::{Accessor, Literal, Unary};
 pub use parts::{ArgList, ArgPairs, Args};
 pub use script::Script;
-pub use tree::{Arg, Expr, Form, Statement, Step, Sub};
+pub use tree::{Action, Arg, Expr, Statement, Step, Sub};

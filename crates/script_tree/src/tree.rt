@@ -10,12 +10,12 @@ pub struct Statement {
     /// The line of its first token, counted from 1.
     pub line: u64,
     /// What it does.
-    pub form: Form,
+    pub action: Action,
 }
 
 /// What a statement does.
 #[derive(Drop)]
-pub enum Form {
+pub enum Action {
     /// `import pandas as pd`
     Import,
     /// `name = expr`

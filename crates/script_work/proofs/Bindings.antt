@@ -1,12 +1,11 @@
 -- Names that get values and lose them, and the objects that they stand for.
 use Rattle.{
-  std.{proofs.{Common.{rules, ◌≡◌, ℕ, Bool, true, false, nat_eq, Option, None, arith, IsSome, List, [], ◌∷◌, map, Some, refl, string_bytes, ◌++◌, not, filter, sym, ◌∙◌, ap}, lemmas.Bool.Decides.{nat_tests}}, specs.{Prelude.{if◌then◌else◌, option_map}, declared.string.String.{String}, String.{string_eq}, Map.{lookup, keys_of}, List.{IsDistinct, AllByRecursion}}},
-  meaning.specs.{Text.{Text, same_text}, Cell.{datum}},
+  form_parts.proofs.Common.{rules, ◌≡◌, ℕ, Bool, true, false, nat_eq, Option, None, arith, IsSome, List, [], ◌∷◌, map, Some, refl, string_bytes, ◌++◌, not, filter, sym, ◌∙◌, ap, nat_tests, if◌then◌else◌, String, string_eq, lookup, keys_of, AllByRecursion, Text, datum, ObjId, Value, Object, Scalar, Tables, with_object, shown, World, IsKnownValue, IsSettled, NumberedTable, table_value},
+  std.specs.List.{IsDistinct},
+  meaning.proofs.Common.{option_map, same_text},
   indexmap.specs.IndexMap.{insert_entry, shift_remove_entry},
   script_meaning.specs.State.{with_name},
-  frame_store.specs.{declared.{object.ObjId.{ObjId}, arguments.Value.{Value, TheVariants.{Object, Scalar}}}, Objects.{Tables, with_object}, Shown.{shown}, World.{World, IsKnownValue}},
   script_work.specs.Bindings.{Bindings, bindings_of, bound, unbound, value_at, is_named, contains, AreNoted, AreNamed, KeepNamed, is_object, released, noted_old, AreLive, AreGiven},
-  table_meaning.specs.{Settled.{IsSettled}, Table.{NumberedTable, table_value}},
 }
 
 pub nat_same : (a b : ℕ) → nat_eq a b ≡ true → a ≡ b

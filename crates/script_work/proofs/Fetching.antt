@@ -1,11 +1,9 @@
 -- The file of a name, as it is fetched.
 use Rattle.{
-  std.{proofs.{Common.{◌≡◌, ◌<◌, ◌^◌, ℕ, List, [], ◌∷◌, length, Some, None, arith}, lemmas.Bool.Decides.{nat_tests}}, specs.{Prelude.{Result, Ok, Err}, FinMap.{get}}},
+  form_parts.proofs.Common.{◌≡◌, ◌<◌, ◌^◌, ℕ, List, [], ◌∷◌, length, Some, None, arith, nat_tests, Result, Ok, Err, Text, Contents, FaultValue, limit, Given, NamedGiven, Kind},
+  meaning.proofs.Common.{get},
   outside_io.specs.{Count.{HasRisen, raised}, Whole.{IsAbsent}, Files.{FilesValue}},
-  meaning.specs.{Text.{Text, Contents}, Fault.{FaultValue, limit}},
-  table_meaning.specs.Value.{Given, NamedGiven},
-  form_meaning.specs.{declared.{Function.TheVariants.{ReadCsv}, Parameter.{Parameter}}, Signature.{function_parameters}},
-  cell_core.specs.declared.cell.Kind.{Kind},
+  call_meaning.specs.{declared.{Function.TheVariants.{ReadCsv}, Parameter.{Parameter}}, Signature.{function_parameters}},
   csv_meaning.specs.CsvRead.{beyond_limits, columns_of_file},
   method_meaning.specs.Readers.{file_name_of, csv_result, read_result},
   script_meaning.specs.Reading.{Reads, at_once, path_of_name, of_bytes, of_file},

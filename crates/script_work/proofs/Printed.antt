@@ -1,14 +1,10 @@
 -- The printed text and the length of an object are those of its table.
-use native.Mathlib.Nat.{mod-eq_of_lt}
 use Rattle.{
-  std.{proofs.{Common.{arith, ◌≡◌, List, length, Some, ℕ, ℤ, pos, Ok, ◌<◌, w64, to_z, of_z}, lemmas.{Int.{of_z-to_z}, List.{length-map}}}, specs.Int.{int_wrap, cast_signed}},
-  cell_core.specs.declared.grid.Shape.{Shape},
-  meaning.specs.{Text.{Text}, Cell.{int_cell}},
-  table_meaning.specs.{Table.{NumberedTable}, Valid.{IsWhole}, Value.{cell}},
-  multi_index.specs.Axes.{HaveLevels},
+  meaning.proofs.Common.{mod-eq_of_lt, w64, int_cell},
+  form_parts.proofs.Common.{arith, ◌≡◌, List, length, Some, ℕ, ℤ, pos, Ok, ◌<◌, to_z, of_z, length-map, cast_signed, Shape, Text, NumberedTable, IsWhole, cell, HaveLevels, Tables, grid_of, entry_of, ObjId, Value, Object, World, entry_in},
+  std.{specs.Int.{int_wrap}, proofs.lemmas.Int.{of_z-to_z}},
   format_meaning.specs.{Told.{told}, Print.{text_of_shape}},
   frame_format.proofs.{ToldLaws.{shape_told}, WholeLaws.{told_whole}},
-  frame_store.specs.{Objects.{Tables}, Grids.{grid_of}, Arguments.{entry_of}, declared.{object.ObjId.{ObjId}, arguments.Value.{Value, TheVariants.{Object}}}, World.{World, entry_in}},
   script_meaning.specs.Statement.{entry_text},
   form_meaning.specs.Select.{length_result},
 }

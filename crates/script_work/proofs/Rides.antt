@@ -1,11 +1,8 @@
 -- Readings one after the other, and how far they have come.
 use Rattle.{
-  std.{proofs.Common.{◌≡◌, ◌≤◌, ◌+◌, ℕ, Bool, List, Option, Some, None, ◌∙◌, arith}, specs.Prelude.{Result, Ok, Err, IfOk, IfErr, option_map}},
-  cell_core.specs.declared.code.Code.{Code},
+  form_parts.proofs.Common.{◌≡◌, ◌≤◌, ◌+◌, ℕ, Bool, List, Option, Some, None, ◌∙◌, arith, Result, Ok, Err, IfOk, IfErr, Code, Text, Contents, FaultValue, fault_of, Entry, Value, OpFault, World, entry_in, Forms},
+  meaning.proofs.Common.{option_map},
   outside_io.specs.Files.{FilesValue, Serves},
-  meaning.specs.{Text.{Text, Contents}, Fault.{FaultValue}, FaultOf.{fault_of}},
-  table_meaning.specs.Value.{Entry},
-  frame_store.specs.{declared.{arguments.Value.{Value}, fault.OpFault.{OpFault}}, World.{World, entry_in, Forms}},
   script_meaning.specs.{Reading.{Files, Reading, Reads, at_once, gives, after, then_or, then_read}, Expression.{where_named, value_of_name}},
   script_work.{specs.{Bindings.{Bindings, value_at}, declared.fault.EvalFault.{EvalFault, TheVariants.{Refused, Input, NoMemory}}, Faults.{IsNoAttribute, IsNoName, evaluated}, Reads.{both_of, Holds, Goes, Stuck, Spends, Halts, Reaches, ReachesBytes, IsCaused, absent_name, count_after}}, proofs.Worlds.{entry_seen}},
   fault_laws.specs.FormFault.{HasFormFault},

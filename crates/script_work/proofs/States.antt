@@ -1,11 +1,9 @@
 -- What changes of names, objects and texts do to the state, and the names of objects.
 use Rattle.{
-  std.{proofs.{Common.{arith, ◌≡◌, nat_eq, Option, Some, ◌↔◌, ℕ, zero, suc, Bool, true, false, List, [], ◌∷◌, None, IsSome, refl, sym, ◌∙◌, subst, string_bytes}, lemmas.Map.Entries.{lookup_from_place}}, specs.{Prelude.{slice_get, if◌then◌else◌, Result, Ok, IfOk}, declared.string.String.{String}, String.{string_eq, string_eq_equiv}, List.{IsDistinct}, Map.{keys_of}}},
-  meaning.specs.{Text.{Text}, Fault.{FaultValue}},
-  frame_store.specs.{declared.{arguments.Value.{Value, TheVariants.{Object, Scalar}}, object.ObjId.{ObjId}, fault.OpFault.{OpFault}}, World.{World, entry_in, IsSettledWorld, Keeps, IsKnownValue, objects_of, Forms}, Objects.{Tables}},
+  form_parts.proofs.Common.{arith, ◌≡◌, nat_eq, Option, Some, ◌↔◌, ℕ, zero, suc, Bool, true, false, List, [], ◌∷◌, None, IsSome, refl, sym, ◌∙◌, subst, string_bytes, slice_get, if◌then◌else◌, Result, Ok, IfOk, String, string_eq, IsDistinct, keys_of, Text, FaultValue, Value, Object, Scalar, ObjId, OpFault, World, entry_in, IsSettledWorld, Keeps, IsKnownValue, objects_of, Forms, Tables, Entry},
+  std.{proofs.lemmas.Map.Entries.{lookup_from_place}, specs.String.{string_eq_equiv}},
   script_meaning.specs.{State.{State}, Statement.{with_value}},
   script_work.{specs.{Bindings.{Bindings, bound, value_at, state_over, AreLive, AreGiven, KeepNamed, IsOf, bindings_of, is_named, is_object, AreNamed}, Work.{names_in, world_of, state_in}, declared.work.Work.{Work}}, proofs.{Bindings.{nat_same, nat_eq_self, names-bound, value_at-bound, named_object, some_none, value_at-bindings_of}, Worlds.{object_known, some_shown, none_shown}}},
-  table_meaning.specs.Value.{Entry},
 }
 
 -- two states that answer alike are one

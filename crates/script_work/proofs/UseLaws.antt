@@ -1,8 +1,6 @@
 -- How many names stand for an object, as names get values and lose them.
 use Rattle.{
-  std.{proofs.{Common.{rules, suc, ◌≡◌, ◌<◌, ℕ, Bool, true, [], ◌∷◌, Option, Some, refl, arith}, lemmas.Bool.Decides.{nat_tests}}, specs.Prelude.{if◌then◌else◌, cond, nat_lt}},
-  meaning.specs.Text.{Text},
-  frame_store.specs.declared.{object.ObjId.{ObjId}, arguments.Value.{Value, TheVariants.{Object}}},
+  form_parts.proofs.Common.{rules, suc, ◌≡◌, ◌<◌, ℕ, Bool, true, [], ◌∷◌, Option, Some, refl, arith, nat_tests, if◌then◌else◌, cond, nat_lt, Text, ObjId, Value, Object},
   script_work.{specs.{Bindings.{Bindings, bound, unbound, value_at, is_named, uses_of}, Uses.{or_none, with_one, with_left, CanTake}}, proofs.Bindings.{named_object}},
 }
 

@@ -1,10 +1,10 @@
 -- The tables of live objects stay valid, also where an object ends that no name stands for.
 use Rattle.{
-  std.{proofs.{Common.{arith, ◌≡◌, ℕ, Bool, true, false, nat_eq, List, Option, Some, None, refl, sym, subst, IsSome}, lemmas.List.Elements.{All-nil}}, specs.Prelude.{if◌then◌else◌, option_map, ⊤, Result, Ok, Err, IfOk, IfSome, List, [], ◌∷◌, All}},
-  meaning.specs.{Cell.{IsLonger}, Text.{Text}, Fault.{FaultValue}},
-  table_meaning.specs.{Settled.{IsSettled}, Table.{NumberedTable, Table, table_value}, Valid.{IsValid}, Value.{Entry, scalar_in}},
+  form_parts.proofs.Common.{arith, ◌≡◌, ℕ, Bool, true, false, nat_eq, List, Option, Some, None, refl, sym, subst, IsSome, All-nil, if◌then◌else◌, ⊤, Result, Ok, Err, IfOk, IfSome, [], ◌∷◌, All, IsLonger, Text, FaultValue, IsSettled, NumberedTable, Table, table_value, Entry, scalar_in, Tables, with_object, argument_of, IsLive, IsLiveArgument, item_of, items_of, IsLiveItem, AreLiveItems, AreLive as AreLiveArguments, ObjId, Argument, One, Many, Value, Object, Scalar, Item, Row' as RowItem', Named, OpFault, Refused, NoMemory, Shown, shown, with_shown, table_in, World, IsSettledWorld, objects_of, entry_in, Forms, Sets, arguments_in, AreKnownArguments, seen_later},
+  meaning.proofs.Common.{option_map},
+  table_meaning.specs.Valid.{IsValid},
   table_laws.{specs.Validity.{IsHeldCell, IsValidObject, IsValidEntry, IsValidGiven, AreValid, IsValidArgument, AreValidArguments}, proofs.ArgumentLaws.{more_valid}},
-  frame_store.{specs.{Objects.{Tables, with_object}, Arguments.{argument_of, IsLive, IsLiveArgument, item_of, items_of, IsLiveItem, AreLiveItems, AreLive as AreLiveArguments}, declared.{object.ObjId.{ObjId}, arguments.{Argument.{Argument, One, Many}, Value.{Value, TheVariants.{Object, Scalar}}, Item.{Item, One as OneItem, Row' as RowItem'}, Named.{Named}}, fault.OpFault.{OpFault, TheVariants.{Refused, NoMemory}}}, Shown.{Shown, shown, with_shown, table_in, spent}, World.{World, IsSettledWorld, objects_of, entry_in, Forms, Sets, arguments_in, AreKnownArguments}}, proofs.Settling.{seen_later}},
+  frame_store.specs.{declared.arguments.Item.{One as OneItem}, Shown.{spent}},
   script_work.{specs.{Bindings.{Bindings, released, noted, AreNamed, KeepNamed, AreLive, AreGiven, AreNoted, is_named, state_over}, Work.{names_in, world_of, IsUnnamedValue}, declared.work.Work.{Work}}, proofs.{Worlds.{made_noted, form_keeps, live_after, given_after, noted_after}, Bindings.{nat_same, kept_ended}, States.{state_swept}}},
   method_meaning.specs.Concat.{tables_of},
   settings.specs.Assigned.{without, IsOther},

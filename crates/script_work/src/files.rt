@@ -3,7 +3,7 @@ ghost use Rattle.std.specs.Prelude.{◌≡◌, ℕ, List, Result, IfOk};
 ghost use Rattle.meaning.specs.Text.{Text, Contents};
 ghost use Rattle.meaning.specs.Fault.{FaultValue};
 ghost use Rattle.table_meaning.specs.Value.{Entry};
-ghost use Rattle.form_meaning.specs.declared.Function.TheVariants.{ReadCsv};
+ghost use Rattle.call_meaning.specs.declared.Function.TheVariants.{ReadCsv};
 ghost use Rattle.method_meaning.specs.Readers.{file_name_of, read_result};
 ghost use Rattle.script_meaning.specs.Reading.{at_once, then_read, of_file};
 ghost use Rattle.script_meaning.specs.Expression.{made};

@@ -1,10 +1,9 @@
 -- Laws that the goals of functions want, by the name of the first that does.
 use Rattle.{
+  form_parts.proofs.Common.{length-map, length-range_with_len, get_or-tabulate},
   frame_store.proofs.RowLaws.{item_of-Row},
-  selections.proofs.{PlaceLaws.{place_met, place_passed, absent_is, no_place}, PickedLaws.{places_inside, places_count, read_is}, PlanLaws.{whole_axis}, CutLaws.{frame_taken}, CarryLaws.{gathered_with, gathered}, TakeLaws.{one_more_chosen, one_more_single, chosen_whole}},
-  std.proofs.lemmas.List.{length-map, FromFn.{length-range_with_len}},
+  selections.proofs.{HeadingLaws.{place_met, place_passed, absent_is, no_place}, CutLaws.{places_inside, places_count, read_is, whole_axis, frame_taken, gathered_with, gathered, one_more_chosen, one_more_single, chosen_whole}},
   indexers.proofs.SpanLaws.{place_pushed},
-  column_core.proofs.MoveLaws.{get_or-tabulate},
 }
 
 pub ruleset whole_item = (item_of-Row)

@@ -10,9 +10,7 @@ pub mod SeenKeys
 pub mod ReachLaws
 pub mod PlanLaws
 pub mod BracketLaws
-pub mod RowLaws
 pub mod TruthLaws
-pub mod SeriesLaws
 pub mod TakenLaws
 pub mod CutLaws
 pub mod CarryLaws

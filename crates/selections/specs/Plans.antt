@@ -20,8 +20,8 @@ use Rattle.indexers.specs.declared.keys.Picked.{Picked}
 use Rattle.selections.specs.Chosen.{chosen, chosen_under}
 use Rattle.selections.specs.declared.planning.Taken.{Taken}
 use Rattle.selections.specs.declared.planning.Taken.TheVariants.{Slice, Listed, Under}
-use Rattle.selections.specs.declared.planning.Form.{Form}
-use Rattle.selections.specs.declared.planning.Form.TheVariants as form
+use Rattle.selections.specs.declared.planning.Extent.{Extent}
+use Rattle.selections.specs.declared.planning.Extent.TheVariants as extent
 use Rattle.selections.specs.declared.planning.Plan.{Plan}
 
 -- the rows that are taken, and of how many leading levels the answer loses
@@ -60,14 +60,14 @@ taken_table shape headings (Listed places) columns t = chosen shape headings pla
 taken_table shape headings (Under places count) columns t = chosen_under count shape headings places columns t
 
 -- whether the rows and whether the columns are single
-abbrev pub has_single_row : Form → Bool
-has_single_row form.Cell = true
-has_single_row form.Row = true
+abbrev pub has_single_row : Extent → Bool
+has_single_row extent.Cell = true
+has_single_row extent.Row = true
 has_single_row f = false
 
-abbrev pub has_single_column : Form → Bool
-has_single_column form.Cell = true
-has_single_column form.Column = true
+abbrev pub has_single_column : Extent → Bool
+has_single_column extent.Cell = true
+has_single_column extent.Column = true
 has_single_column f = false
 
 abbrev pub pick_as : Bool → ℕ → List ℕ → Pick
@@ -75,7 +75,7 @@ pick_as single lost places = record { rows = places; single = single; dropped = 
 
 -- what a plan reaches
 abbrev pub reach_of_plan : Plan → Reach
-reach_of_plan plan = record { rows = pick_as (has_single_row plan.form) (levels_lost plan.rows) (rows_in plan.rows); columns = pick_as (has_single_column plan.form) 0 plan.columns }
+reach_of_plan plan = record { rows = pick_as (has_single_row plan.extent) (levels_lost plan.rows) (rows_in plan.rows); columns = pick_as (has_single_column plan.extent) 0 plan.columns }
 
 -- the rows and columns of a table that it takes, without the levels that it loses
 abbrev pub cut_by : Plan → Table → Table
@@ -86,10 +86,10 @@ cut_by plan t = without_leading (levels_lost plan.rows) (cut t (rows_in plan.row
 pub record IsPlanFor (t : NumberedTable) (plan : Plan) : Type 0 where
   pub rows : AreTakenFrom t plan.rows
   pub columns : All (λ place. place < length t.columns) plan.columns
-  pub one_row : has_single_row plan.form ≡ true → length (rows_in plan.rows) ≡ 1
-  pub whole_row : has_single_row plan.form ≡ true → levels_lost plan.rows ≡ 0
-  pub one_column : has_single_column plan.form ≡ true → length plan.columns ≡ 1
-  pub frame : has_single_column plan.form ≡ false → t.shape ≡ Frame
+  pub one_row : has_single_row plan.extent ≡ true → length (rows_in plan.rows) ≡ 1
+  pub whole_row : has_single_row plan.extent ≡ true → levels_lost plan.rows ≡ 0
+  pub one_column : has_single_column plan.extent ≡ true → length plan.columns ≡ 1
+  pub frame : has_single_column plan.extent ≡ false → t.shape ≡ Frame
 
 -- What is picked where keys reach this is what the plan takes, or the first fault is answered. Want of memory may come
 -- in place of any answer.

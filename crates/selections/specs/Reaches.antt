@@ -12,7 +12,7 @@ use Rattle.meaning.specs.Fault.{FaultValue, wrong_kind}
 use Rattle.meaning.specs.Symbol.{Accessor, loc, iloc, at, iat}
 use Rattle.table_meaning.specs.Table.{NumberedTable, Table, tuple_value}
 use Rattle.table_meaning.specs.Value.{GivenList, GivenSub, row, key_given, span_given, object_in, tuple_in}
-use Rattle.form_meaning.specs.Binding.{each, is_scalar, is_tuple_of}
+use Rattle.form_meaning.specs.Given.{each, is_scalar, is_tuple_of}
 use Rattle.form_meaning.specs.Select.{labels_of}
 use Rattle.meaning.specs.Operator.{cell_label}
 use Rattle.multi_index.specs.Axes.{AxisValue, HaveLevels}

@@ -6,7 +6,7 @@ use Rattle.meaning.specs.Cell.{CellValue}
 use Rattle.meaning.specs.Symbol.{loc, iloc, at, iat}
 use Rattle.table_meaning.specs.Table.{NumberedTable}
 use Rattle.table_meaning.specs.Value.{Given, GivenList, cell, one}
-use Rattle.form_meaning.specs.Binding.{each, is_scalar, is_truth}
+use Rattle.form_meaning.specs.Given.{each, is_scalar, is_truth}
 use Rattle.form_meaning.specs.Select.{cells_of}
 use Rattle.select_meaning.specs.Select.{Way, plain, through}
 use Rattle.frame_store.specs.declared.arguments.Selector.{Selector}

@@ -1,7 +1,6 @@
 // The forms of keys, which are tested before anything is looked up.
 ghost use Rattle.std.specs.Prelude.{◌≡◌, ◌≤◌, ◌∷◌, [], ℕ, List, map, take, length, IfOk, IfSome};
 ghost use Rattle.std.specs.Option.{option_map};
-ghost use Rattle.cell_core.specs.declared.code.Code.TheVariants as code;
 ghost use Rattle.meaning.specs.Text.{Text as OneText};
 ghost use Rattle.meaning.specs.Cell.{datum};
 ghost use Rattle.table_meaning.specs.Table.{tuple_value};
@@ -12,25 +11,17 @@ ghost use Rattle.form_parts.specs.Makes.{MakesBy};
 ghost use Rattle.multi_index.specs.Axes.{HaveLevels, AreLeading};
 ghost use Rattle.indexers.specs.Keys.{FitsLevels};
 ghost use Rattle.frame_store.specs.Shown.{cells_value};
-ghost use Rattle.frame_store.specs.declared.fault.OpFault.TheVariants.{Refused};
 ghost use Rattle.frame_store.specs.Objects.{Tables};
 ghost use Rattle.frame_store.specs.Arguments.{item_of, argument_of, subscript_of, items_of, IsLiveSubscript};
 ghost use Rattle.selections.specs.Reaches.{accessor_of, label_key_value, bound_value, tuples_value, place_key_value, labels_in, scalar_tuple, label_alone, full_tuple, whole_or_fault};
 ghost use Rattle.selections.specs.Selected.{as_it_is};
 
 use crate::subscripts::scalars_of;
-use cell_core::{Cell, Cells, Code, Label, Tuple, Tuples};
-use form_parts::label_of;
+use cell_core::{Cell, Cells, Label, Tuple, Tuples};
+use form_parts::{label_of, wrong_kind};
 use frame_store::{Argument, Item, Items, OpFault, Selector, Subscript, Value};
 use indexers::{LocKey, PosKey, Positions};
 use std::alloc::Global;
-
-// The fault of a form that isn't taken.
-pub(crate) fn wrong_kind() -> OpFault
-    ensures { result ≡ Refused code.WrongKind }
-{
-    OpFault::Refused(Code::WrongKind)
-}
 
 // The tuple of one label.
 fn single_label(alloc: Global, cell: Cell) -> Tuple

@@ -16,12 +16,11 @@ ghost use Rattle.selections.specs.Plans.{rows_in, TakesPicked, TakesAll, has_sin
 ghost use Rattle.selections.specs.Reaches.{accessor_of, reach_value, PicksBelow, ReachesWithin};
 ghost use Rattle.selections.specs.Selected.{each_truth, way_of};
 
-use crate::keys::wrong_kind;
 use crate::labels::{column_place, column_places};
 use crate::reaching::{Reach, all_columns, mask_rows, reach_by};
 use crate::subscripts::scalars_of;
 use cell_core::{Cell, Grid, Places, Rows, Shape, TextDict};
-use form_parts::label_of;
+use form_parts::{label_of, wrong_kind};
 use frame_store::{Argument, Item, ObjId, ObjRef, OpFault, Selector, Store, Subscript, Value};
 use indexers::Picked;
 use std::alloc::Global;
@@ -37,9 +36,9 @@ pub(crate) enum Taken {
     Under(Places, usize),
 }
 
-/// In which form a selection answers.
+/// How far a selection reaches.
 #[derive(Clone, Copy)]
-pub(crate) enum Form {
+pub(crate) enum Extent {
     /// The one cell.
     Cell,
     /// The rows of one column, as a Series.
@@ -58,7 +57,7 @@ pub(crate) struct Plan {
     /// The places of the columns.
     pub columns: Places,
     /// How they are answered.
-    pub form: Form,
+    pub extent: Extent,
 }
 
 impl Taken {
@@ -87,15 +86,15 @@ impl Taken {
     }
 }
 
-fn form_of(single_row: bool, single_column: bool) -> Form
+fn extent_of(single_row: bool, single_column: bool) -> Extent
     ensures row { has_single_row result ≡ single_row }
     ensures column { has_single_column result ≡ single_column }
 {
     match (single_row, single_column) {
-        (true, true) => Form::Cell,
-        (false, true) => Form::Column,
-        (true, false) => Form::Row,
-        (false, false) => Form::Frame,
+        (true, true) => Extent::Cell,
+        (false, true) => Extent::Column,
+        (true, false) => Extent::Row,
+        (false, false) => Extent::Frame,
     }
 }
 
@@ -118,11 +117,11 @@ fn plan_of(reach: Reach) -> Plan
         ≡ meant.picked_result (table_value texts t) (reach_value texts reach) }
     ensures whole { (t : NumberedTable) → ReachesWithin t reach → IsPlanFor t result }
 {
-    let form = form_of(reach.rows.single, reach.columns.single);
+    let extent = extent_of(reach.rows.single, reach.columns.single);
     Plan {
         rows: rows_taken(reach.rows),
         columns: reach.columns.places,
-        form,
+        extent,
     }
 }
 
@@ -138,15 +137,15 @@ pub(crate) fn all_rows(on: &ObjRef<'_>) -> Taken
 }
 
 /// All rows of these columns.
-pub(crate) fn whole_columns(on: &ObjRef<'_>, columns: Places, form: Form) -> Plan
+pub(crate) fn whole_columns(on: &ObjRef<'_>, columns: Places, extent: Extent) -> Plan
     ensures rows { TakesAll on.now result.rows }
     ensures columns { result.columns ≡ columns }
-    ensures form { result.form ≡ form }
+    ensures extent { result.extent ≡ extent }
 {
     Plan {
         rows: all_rows(on),
         columns,
-        form,
+        extent,
     }
 }
 
@@ -167,7 +166,7 @@ fn list_plan(
     match scalars_of(alloc, items)? {
         Some(cells) => {
             let places = column_places(alloc, dict, on, &cells)?;
-            Ok(whole_columns(on, places, Form::Frame))
+            Ok(whole_columns(on, places, Extent::Frame))
         }
         None => Err(wrong_kind()),
     }
@@ -218,7 +217,7 @@ fn value_plan(
             let place = column_place(alloc, dict, on, label_of(cell))?;
             let mut columns = Places::new(alloc);
             columns.push(place)?;
-            Ok(whole_columns(on, columns, Form::Column))
+            Ok(whole_columns(on, columns, Extent::Column))
         }
         Value::Object(mask) => mask_plan(alloc, store, dict, on, mask),
     }

@@ -15,9 +15,10 @@ ghost use Rattle.frame_store.specs.World.{world, subscript_in, IsKnownSubscript,
 ghost use Rattle.indexers.specs.Keys.{FitsLevels};
 ghost use Rattle.selections.specs.Reaches.{label_key_value, tuples_value, accessor_of, pick_value, reach_value, refusal_of, found_result, columns_axis, object_key, PicksBelow, ReachesWithin, CanSelect, is_series, is_row};
 
-use crate::keys::{joined_key, label_key, position_key, whole_key, wrong_kind};
+use crate::keys::{joined_key, label_key, position_key, whole_key};
 use crate::new_objects::places_below;
 use cell_core::{Code, Grid, Kind, NoMemory, Places, Reason, Rows, Shape, TextDict, Tuple, Tuples};
+use form_parts::wrong_kind;
 use frame_store::{Argument, ObjId, ObjRef, OpFault, Selector, Store, Subscript};
 use indexers::{KeyFault, LocKey, Picked, iloc_places, loc_places, mask_places};
 use multi_index::Axis;

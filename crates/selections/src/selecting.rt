@@ -21,15 +21,14 @@ ghost use Rattle.selections.specs.Chosen.{AreSettledHeadings};
 ghost use Rattle.selections.specs.Across.{HaveKind, cells_across};
 
 use crate::headings::different_headings;
-use crate::keys::wrong_kind;
 use crate::labels::headings_at;
 use crate::new_objects::places_below;
-use crate::planning::{Form, Plan, Taken, plan_for, whole_columns};
+use crate::planning::{Extent, Plan, Taken, plan_for, whole_columns};
 use crate::reaching::columns_axis;
 use crate::taking::{chosen_table, table_under};
 use cell_core::{Code, Grid, Kind, Label, NoMemory, Places, Rows, Shape, TextDict};
 use column_core::Column;
-use form_parts::{headings_of, placed, within_limits};
+use form_parts::{headings_of, placed, within_limits, wrong_kind};
 use frame_store::{
     Blocks, Headings, ObjId, ObjRef, OpFault, Selector, Store, Subscript, Table, Value,
 };
@@ -215,7 +214,7 @@ pub(crate) fn cut_within(
 fn take_column(alloc: Global, store: &mut Store, on: ObjId, plan: &Plan) -> Result<Value, OpFault>
     requires live { IsLiveObject (tables store.old) on }
     requires plan { IsPlanFor (table_at (tables store.old) on.0) plan.now }
-    requires single { has_single_column plan.now.form ≡ true }
+    requires single { has_single_column plan.now.extent ≡ true }
     ensures { (texts : List OneText) → IsSettledWorld (world store.old texts) → Forms result
         (limited (meant.as_series (cut_by plan.now (object_value (tables store.old) texts on))))
         (world store.old texts) (world store.new texts) }
@@ -246,7 +245,7 @@ fn take_frame(
     requires live { IsLiveObject (tables store.old) on }
     requires settled { IsSettledWorld (world store.old dict.now) }
     requires plan { IsPlanFor (table_at (tables store.old) on.0) plan.now }
-    requires several { has_single_column plan.now.form ≡ false }
+    requires several { has_single_column plan.now.extent ≡ false }
     ensures { Forms result
         (finished (cut_by plan.now (object_value (tables store.old) dict.now on)))
         (world store.old dict.now) (world store.new dict.now) }
@@ -290,7 +289,7 @@ pub fn columns_of(
         (finished (columns_frame (object_value (tables store.old) dict.now on) columns))
         (world store.old dict.now) (world store.new dict.now) }
 {
-    let plan = whole_columns(&store.read(on), columns, Form::Frame);
+    let plan = whole_columns(&store.read(on), columns, Extent::Frame);
     take_frame(alloc, store, dict, on, &plan)
 }
 
@@ -330,18 +329,18 @@ fn carry_out(
     ensures { Forms result (meant.picked_result (object_value (tables store.old) dict.now on)
         (reach_of_plan plan)) (world store.old dict.now) (world store.new dict.now) }
 {
-    match plan.form {
-        Form::Cell => {
+    match plan.extent {
+        Extent::Cell => {
             let cell = store.read(on).cell(plan.rows.first(), *plan.columns.at(0));
             Ok(Value::Scalar(cell))
         }
-        Form::Row => {
+        Extent::Row => {
             let row = plan.rows.first();
             let series = row_series(alloc, dict, &store.read(on), row, &plan.columns);
             placed(store, dict, series)
         }
-        Form::Column => take_column(alloc, store, on, &plan),
-        Form::Frame => take_frame(alloc, store, dict, on, &plan),
+        Extent::Column => take_column(alloc, store, on, &plan),
+        Extent::Frame => take_frame(alloc, store, dict, on, &plan),
     }
 }
 

@@ -8,7 +8,7 @@ ghost use Rattle.frame_store.specs.Parts.{block_column, IsSingle};
 ghost use Rattle.selections.specs.Chosen.{cells_by_place, columns_at, chosen, chosen_under};
 
 use cell_core::{NoMemory, Places, Shape};
-use column_core::{Borrowed, ColRef, Column, Lane, Nothing, RowOp, Source, Value, by_rows};
+use column_core::{Borrowed, ColRef, Column, Element, Lane, Nothing, RowOp, Source, by_rows};
 use frame_store::{Blocks, Headings, ObjRef, Table};
 use std::alloc::Global;
 
@@ -61,7 +61,7 @@ impl<T, A: Source<T>> RowOp<usize, (), T> for RowAt<'_, A> {
 }
 
 // The rows of a source at these places.
-fn chosen_rows<T: Value, A: Source<T>>(
+fn chosen_rows<T: Element, A: Source<T>>(
     alloc: Global,
     a: &A,
     places: &Places,
@@ -85,7 +85,7 @@ fn chosen_rows<T: Value, A: Source<T>>(
 }
 
 // The values at these places, by a walk of its own where they lie side by side.
-fn chosen_lane<T: Value>(
+fn chosen_lane<T: Element>(
     alloc: Global,
     lane: &Lane<'_, T>,
     places: &Places,

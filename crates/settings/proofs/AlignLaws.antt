@@ -1,15 +1,9 @@
 -- Series that are aligned to labels: by their numbers as by their texts.
 use Rattle.{
-  std.{proofs.{lemmas.{Slice.Eq.{slice_eq-Decides}, Simd.{map-map}, List.{map_more, length-map, FromFn.{fill_by_all}, Elements.{All-map}}, Bool.Decides.{nat_tests}, Option.{get_or_from_slice_get}}, Common.{◌≡◌, refl, sym, arith, ℕ, ◌+◌, ◌<◌, true, false, List, [], ◌∷◌, ◌++◌, map, length, take, nat_eq, All, Option, Some, None, Ok}, Math.ListN.{get_or-map}}, specs.{Bool.{Decides}, Prelude.{◌≢◌, ◌||◌, slice_get}, List.{range_with_len}}},
-  meaning.specs.{Cell.{label_datum, na_cell, LabelValue, datum, IsGiven, AreGiven}, Text.{Text}, Column.{gap_cell, taken}},
-  cell_core.specs.declared.cell.{Cell.{Cell, TheVariants.{Na}}, Label.{Label}},
-  column_core.specs.Moves.{IsPlaceOf},
-  multi_index.specs.Axes.{AxisValue, HaveLevels},
-  table_meaning.specs.Table.{Table, tuple_value, column_at},
-  form_meaning.specs.Infix.{same_tuple, same_tuples},
+  form_parts.proofs.Common.{map-map, map_more, length-map, fill_by_all, All-map, nat_tests, get_or_from_slice_get, ◌≡◌, refl, sym, arith, ℕ, ◌+◌, ◌<◌, true, false, List, [], ◌∷◌, ◌++◌, map, length, take, nat_eq, All, Option, Some, None, Ok, get_or-map, Decides, ◌≢◌, ◌||◌, slice_get, range_with_len, label_datum, na_cell, LabelValue, datum, IsGiven, AreGiven, Text, taken, Cell, Na, Label, IsPlaceOf, AxisValue, HaveLevels, Table, tuple_value, column_at, same_tuple, same_tuples, labels_value, cells_value, value_decides},
+  meaning.proofs.Common.{gap_cell},
+  std.proofs.lemmas.Slice.Eq.{slice_eq-Decides},
   select_meaning.specs.Set.{aligned_rows, aligned_column},
-  frame_store.specs.Shown.{labels_value, cells_value},
-  form_parts.proofs.LabelLaws.{value_decides},
 }
 
 -- labels on other numbers of levels are others, unless there are none

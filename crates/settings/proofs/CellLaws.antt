@@ -1,13 +1,9 @@
 -- Cells that are set: the table that a target grows, with the values.
 use Rattle.{
-  std.{proofs.{Common.{◌∙◌, sym, ◌++◌, nat_eq, ◌≡◌, ℕ, zero, suc, ◌+◌, ◌<◌, ◌%◌, ◌/◌, Bool, true, false, List, [], ◌∷◌, length, map, refl, arith, if◌then◌else◌, Option, Some, None, option_map, Result, Ok, Err}, lemmas.{Simd.{map-map}, List.{get_or_append_left, get_or_push, get_or-map, length-map, length-set, map-append, map-set}, Bool.{and_parts, Decides.{nat_tests}}}, Math.ListN.{get_or-map as get_or-map0}}, specs.Prelude.{slice_index, slice_index_or, not, IfOk}},
-  frame_store.{proofs.{Settling.{columns_part, cells_settled}, ColumnLaws.{map-put_at}}, specs.{Shown.{cells_value, columns_value, labels_value}, Parts.{axis_of}}},
-  table_meaning.specs.{Table.{no_column, ColumnOf, NumberedTable, Table, table_value, tuple_value, column_at}, Settled.{IsSettled}, Change.{with_cell, with_column, with_values, with_values_from}},
+  form_parts.proofs.Common.{◌∙◌, sym, ◌++◌, nat_eq, ◌≡◌, ℕ, zero, suc, ◌+◌, ◌<◌, ◌%◌, ◌/◌, Bool, true, false, List, [], ◌∷◌, length, map, refl, arith, if◌then◌else◌, Option, Some, None, Result, Ok, Err, map-map, get_or_push, length-map, length-set, map-append, map-set, and_parts, nat_tests, get_or-map as get_or-map0, slice_index, slice_index_or, not, IfOk, columns_part, cells_settled, map-put_at, cells_value, columns_value, labels_value, axis_of, no_column, ColumnOf, NumberedTable, Table, table_value, tuple_value, column_at, IsSettled, with_column, with_values, with_values_from, Cell, Na, Kind, Label, Text, CellValue, LabelValue, datum, label_datum, holds, AreGiven, Accessor, FaultValue, wrong_kind, limit, then_value, within_limits, limited_table, missing_column as missing_value, AxisValue, taken_axis},
+  meaning.proofs.Common.{option_map, get_or_append_left, get_or-map},
+  table_meaning.specs.Change.{with_cell},
   selections.proofs.AnswerLaws.{column_seen as seen_column},
-  cell_core.specs.declared.cell.{Cell.{Cell, TheVariants.{Na}}, Kind.{Kind}, Label.{Label}},
-  meaning.specs.{Text.{Text}, Cell.{CellValue, LabelValue, datum, label_datum, holds, AreGiven}, Symbol.{Accessor}, Fault.{FaultValue, wrong_kind, limit, then_value}},
-  form_meaning.specs.Finish.{within_limits, limited_table, missing_column as missing_value},
-  multi_index.specs.Axes.{AxisValue, taken_axis},
   settings.{specs.{declared.targets.{Reached.{Reached}, Target.{Target}}, Grown.{column_added, grown_table, reached_tuples, row_added, with_gap}, Values.{ArePlacesOf, HasKinds, columns_after, kind_added, kind_there, reached_value, rows_after, target_value}}, proofs.{ColumnLaws.{map-replicate}, GrowLaws.{grown_columns, grown_rows, reached_below}}},
 }
 use Rattle.select_meaning.specs.Set as meant

@@ -1,11 +1,7 @@
 -- Columns of scalars.
 use Rattle.{
-  std.{proofs.{lemmas.{List.{drop_more, take_more, Folds.{list_all_at, list_all-map}}, Bool.{cases_Bool}, Option.{get_or_from_slice_get}}, Common.{◌≡◌, ℕ, zero, suc, ◌+◌, ◌<◌, Bool, true, List, [], ◌∷◌, ◌++◌, length, take, drop, map, replicate, refl, ap, arith, Some}, Math.Seq.{drop-length}}, specs.{Prelude.{slice_get}, List.{list_all}}},
-  cell_core.specs.declared.cell.{Cell.{Cell, TheVariants.{Na}}, Kind.{Kind, TheVariants.{Int64}}},
-  meaning.specs.{Text.{Text}, Cell.{CellValue, datum}},
-  column_core.specs.Columns.{CellColumn},
-  form_meaning.specs.Set.{first_kind},
-  frame_store.specs.Shown.{cells_value},
+  form_parts.proofs.Common.{drop_more, take_more, list_all-map, get_or_from_slice_get, ◌≡◌, ℕ, zero, suc, ◌+◌, ◌<◌, Bool, true, List, [], ◌∷◌, ◌++◌, length, take, drop, map, replicate, refl, ap, arith, Some, drop-length, slice_get, list_all, Cell, Na, Kind, Int64, Text, CellValue, datum, CellColumn, first_kind, cells_value},
+  meaning.proofs.Common.{list_all_at, cases_Bool},
   settings.specs.Assigned.{column_seen},
 }
 

@@ -1,12 +1,7 @@
 -- Values for the cells that a setting reaches.
 use Rattle.{
-  std.{proofs.{lemmas.{Option.{slice_get_within, get_or_from_slice_get}, List.{drop_more, take_more}}, Common.{◌≡◌, ℕ, ◌+◌, ◌<◌, ◌%◌, Bool, true, false, List, [], ◌∷◌, ◌++◌, length, take, drop, arith, Some, Result, Ok}, Math.Seq.{drop-length}}, specs.Prelude.{slice_get, slice_index}},
-  cell_core.specs.declared.cell.{Cell.{Cell, TheVariants.{Na}}, Kind.{Kind}},
-  meaning.specs.{Text.{Text}, Cell.{CellValue, datum, holds}, Fault.{FaultValue, then_value}},
-  table_meaning.specs.Table.{ColumnOf, NumberedTable, Table, column_at},
+  form_parts.proofs.Common.{slice_get_within, get_or_from_slice_get, drop_more, take_more, ◌≡◌, ℕ, ◌+◌, ◌<◌, ◌%◌, Bool, true, false, List, [], ◌∷◌, ◌++◌, length, take, drop, arith, Some, Result, Ok, drop-length, slice_get, slice_index, Cell, Na, Kind, Text, CellValue, datum, holds, FaultValue, then_value, ColumnOf, NumberedTable, Table, column_at, MakesBy, OpFault, cells_value},
   select_meaning.specs.Set.{fit_from},
-  form_parts.specs.Makes.{MakesBy},
-  frame_store.specs.{declared.fault.OpFault.{OpFault}, Shown.{cells_value}},
   selections.specs.Selected.{as_it_is},
   settings.specs.{Assigned.{column_listed}, Values.{kind_there, HasKinds}},
 }
@@ -36,5 +31,3 @@ module _ (texts : List Text) (grown : Table) (places : List ℕ) (values : List 
 
 pub fit_done : (texts : List Text) (grown : Table) (places : List ℕ) (values : List Cell) (k : ℕ) (whole : Bool) → k ≡ length values → fit_from k grown places (cells_value texts (drop k values)) ≡ whole → whole ≡ true
 fit_done _ _ _ values k _ end before = cc (drop-length values)
-
--- the label of a row

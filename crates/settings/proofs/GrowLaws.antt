@@ -1,11 +1,10 @@
 -- Tables that get a row or a column.
 use Rattle.{
-  std.{proofs.{Common.{◌≡◌, ◌∙◌, ℕ, suc, ◌+◌, ◌<◌, ◌%◌, ◌/◌, List, [], ◌∷◌, ◌++◌, length, take, drop, map, refl, ap, arith, All, Option, Some, None}, lemmas.{List.{set_at, get_or_default, get_or_push, map_push, map_more, length-map, length-append, length-set, Elements.{All-map, All-push}}, Bool.Decides.{nat_tests}}}, specs.Prelude.{slice_get, slice_index}},
-  cell_core.specs.declared.cell.{Cell.{Cell, TheVariants.{Na}}, Kind.{Kind}, Label.{Label}},
-  column_core.specs.{Blocks.{CellBlock}, Columns.{CellColumn}},
-  table_meaning.specs.{Table.{ColumnOf, NumberedTable, column_at, no_column}, Valid.{IsWhole, AreHeadings}, Change.{with_cell_at, with_values_from, put_at, with_column, with_values}},
-  frame_store.{specs.Parts.{HaveRows, block_column, IsSingle, AreHeld, IsHeld}, proofs.ValueLaws.{one_more_put}},
-  meaning.specs.Block.{with_cell as with_block_cell},
+  form_parts.proofs.Common.{◌≡◌, ◌∙◌, ℕ, suc, ◌+◌, ◌<◌, ◌%◌, ◌/◌, List, [], ◌∷◌, ◌++◌, length, take, drop, map, refl, ap, arith, All, Option, Some, None, get_or_default, get_or_push, map_push, map_more, length-map, length-append, length-set, All-map, All-push, nat_tests, slice_get, slice_index, Cell, Na, Kind, Label, CellBlock, CellColumn, ColumnOf, NumberedTable, column_at, no_column, IsWhole, AreHeadings, with_values_from, put_at, with_column, with_values, HaveRows, block_column, IsSingle},
+  meaning.proofs.Common.{with_cell as with_block_cell},
+  std.proofs.lemmas.List.{set_at},
+  table_meaning.specs.Change.{with_cell_at},
+  frame_store.{specs.Parts.{AreHeld, IsHeld}, proofs.ValueLaws.{one_more_put}},
   settings.{specs.{declared.targets.Target.{Target}, Grown.{grown_table, missing_column, new_column, with_gap, with_row}, Values.{count_with, rows_after, columns_after, ArePlacesOf, IsFreshIn}}, proofs.PutLaws.{put_headed}},
 }
 

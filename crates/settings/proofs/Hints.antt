@@ -1,8 +1,6 @@
 -- Laws that the goals of functions want, by the name of the first that does.
 use Rattle.{
-  frame_store.proofs.Settling.{labels_part},
-  std.proofs.{lemmas.List.{length-map}, Common.{nat_eq}},
-  form_parts.proofs.GapLaws.{rows_met, found_rows, rows_refused, rows_counted, rows_below},
+  form_parts.proofs.{Common.{labels_part, length-map, nat_eq, rows_met, rows_refused, rows_counted, rows_below}, GapLaws.{found_rows}},
   settings.proofs.{CellLaws.{reached_settled, reached_seen}, ColumnLaws.{map-replicate}, GrowLaws.{column_filled, one_added, fresh_headed}},
 }
 

@@ -1,14 +1,8 @@
 -- Columns that move, with which a Series ends.
 use Rattle.{
-  std.{proofs.{lemmas.Bool.Decides.{nat_tests}, Common.{arith, ◌≡◌, ℕ, true, List, length, refl, Option, Some, Ok}}, specs.Prelude.{IsSome, IfSome}},
+  form_parts.proofs.Common.{nat_tests, arith, ◌≡◌, ℕ, true, List, length, refl, Option, Some, Ok, IsSome, IfSome, Series, Cell, Label, Text, label_datum, CellColumn, IsSettled, ColumnOf, NumberedTable, Table, table_value, column_at, with_column, IsWhole, one, table, same_tuples, Tables, with_object, labels_value, headings_value, ObjId, columns_given, columns_part},
   selections.proofs.AnswerLaws.{column_seen as first_column},
-  cell_core.specs.declared.{grid.Shape.TheVariants.{Series}, cell.{Cell.{Cell}, Label.{Label}}},
-  meaning.specs.{Text.{Text}, Cell.{label_datum}},
-  column_core.specs.Columns.{CellColumn},
-  table_meaning.specs.{Settled.{IsSettled}, Table.{ColumnOf, NumberedTable, Table, table_value, column_at}, Change.{with_column}, Valid.{IsWhole}, Value.{one, table}},
-  form_meaning.specs.Infix.{same_tuples},
   select_meaning.specs.Set.{SetValue, series_set, set_value},
-  frame_store.{specs.{Objects.{Tables, with_object}, Shown.{labels_value, headings_value}, declared.object.ObjId.{ObjId}}, proofs.Settling.{columns_given, columns_part}},
   settings.{specs.{Assigned.{put_place}, Changes.{ended, MayEnd}}, proofs.{PutCases.{has_column, series_fits}, PutLaws.{put_meant, put_settled}}},
 }
 

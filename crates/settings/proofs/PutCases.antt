@@ -1,17 +1,9 @@
 -- Columns for the rows of a frame, and rows that a frame gets with a column.
 use Rattle.{
+  form_parts.proofs.Common.{length-map, All-replicate, length-map-range_with_len, nat_tests, ◌≡◌, ℕ, ◌<◌, true, List, [], ◌∷◌, length, replicate, arith, Option, Some, None, Result, Ok, IfOk, map-put_at, cell_given, cells_given, columns_given, columns_part, labels_value, headings_value, columns_value, Tables, OpFault, Cell, Na, Label, Series, taken, Text, CellValue, LabelValue, datum, label_datum, na_cell, IsGiven, AreGiven, AxisValue, range_axis, CellColumn, IsSettled, NumberedTable, table_value, column_at, no_column, with_column, IsWhole, default_labels, same_tuples, default_seen},
   settings.{proofs.{CellLaws.{none_seen}, AlignLaws.{tuples_decide, own_column, taken_seen}, PutLaws.{put_by, put_settled, rows_seen, rows_settled}}, specs.{declared.values.SetValue.{SetValue, TheVariants.{Same, Listed}}, Values.{value_in}, Assigned.{table_column, column_seen, put_place, with_axis}}},
-  std.{proofs.{lemmas.{List.{length-map, Elements.{All-replicate}, FromFn.{length-map-range_with_len}}, Bool.Decides.{nat_tests}}, Common.{◌≡◌, ℕ, ◌<◌, true, List, [], ◌∷◌, length, replicate, arith, Option, Some, None, Result, Ok}}, specs.Prelude.{IfOk}},
   selections.proofs.AnswerLaws.{column_seen as first_column},
-  frame_store.{proofs.{ColumnLaws.{map-put_at}, Settling.{cell_given, cells_given, columns_given, columns_part}}, specs.{Shown.{labels_value, headings_value, columns_value}, Objects.{Tables}, declared.fault.OpFault.{OpFault}}},
-  cell_core.specs.declared.{cell.{Cell.{Cell, TheVariants.{Na}}, Label.{Label}}, grid.Shape.TheVariants.{Series}},
-  meaning.specs.{Column.{taken}, Text.{Text}, Cell.{CellValue, LabelValue, datum, label_datum, na_cell, IsGiven, AreGiven}},
-  multi_index.specs.Axes.{AxisValue, range_axis},
-  column_core.specs.Columns.{CellColumn},
-  table_meaning.specs.{Settled.{IsSettled}, Table.{NumberedTable, table_value, column_at, no_column}, Change.{with_column}, Valid.{IsWhole}},
-  form_meaning.specs.{Finish.{default_labels}, Infix.{same_tuples}},
   select_meaning.specs.Set.{put_result, with_rows, list_set, column_at_rows, series_set},
-  form_parts.proofs.LabelLaws.{default_seen},
 }
 use Rattle.select_meaning.specs.Set as meant
 

@@ -1,14 +1,8 @@
 -- Columns that are put into a frame.
 use Rattle.{
-  std.{proofs.{lemmas.{Simd.{map-map}, List.{set-get_or, length-map, length-set, length-append, Elements.{All-map, All-push}, Quantifiers.{all_pairs_push}}, Bool.Decides.{nat_tests}}, Common.{◌≡◌, ℕ, ◌<◌, List, [], ◌∷◌, ◌++◌, length, map, refl, arith, All, Option, Some, None, Result, Ok}}, specs.Prelude.{◌≢◌, IsSome, IfSome, IfNone, slice_index_or, unwrap_or}},
-  table_meaning.specs.{Table.{ColumnOf, NumberedTable, Table, table_value, tuple_value}, Settled.{IsSettled}, Change.{put_at, with_column}, Valid.{AreHeadings, IsWhole}},
-  cell_core.specs.declared.{cell.{Cell.{Cell, TheVariants.{Na}}, Label.{Label}}, grid.Shape.{Shape, TheVariants.{Frame}}},
-  meaning.specs.{Text.{Text}, Cell.{CellValue, LabelValue, label_datum, AreGiven}, Fault.{FaultValue, then_value}},
-  multi_index.specs.Axes.{AxisValue},
-  column_core.specs.Columns.{CellColumn},
-  form_meaning.specs.Finish.{missing_column},
+  form_parts.proofs.Common.{map-map, length-map, length-set, length-append, All-map, All-push, nat_tests, ◌≡◌, ℕ, ◌<◌, List, [], ◌∷◌, ◌++◌, length, map, refl, arith, All, Option, Some, None, Result, Ok, ◌≢◌, IsSome, IfSome, slice_index_or, unwrap_or, ColumnOf, NumberedTable, Table, table_value, tuple_value, IsSettled, put_at, with_column, AreHeadings, IsWhole, Cell, Na, Label, Shape, Frame, Text, CellValue, LabelValue, label_datum, AreGiven, FaultValue, then_value, AxisValue, CellColumn, missing_column, HeadingList, HaveRows, table_with, Tables, with_object, labels_value, headings_value, columns_value, map-put_at, table_settled, columns_name_part, headings_part, columns_part, column_settled},
+  meaning.proofs.Common.{set-get_or, all_pairs_push, IfNone},
   select_meaning.specs.Set.{put_result, with_rows},
-  frame_store.{specs.{Parts.{HeadingList, HaveRows, table_with}, Objects.{Tables, with_object}, Shown.{labels_value, headings_value, columns_value}}, proofs.{ColumnLaws.{map-put_at}, Settling.{table_settled, columns_name_part, headings_part, columns_part, column_settled}}},
   settings.{specs.Assigned.{table_column, column_seen, put_place, missing_cells, with_axis}, proofs.ColumnLaws.{map-replicate, length-replicate}},
 }
 

@@ -1,13 +1,10 @@
 -- What settings make of the table of an object.
 use Rattle.{
-  std.{proofs.{lemmas.{Bool.{cond_both, Decides.{nat_tests}}, List.Quantifiers.{all_pairs_remove}}, Common.{◌≡◌, ℕ, ◌<◌, List, ◌++◌, length, refl, arith, nat_eq, Option, Some, None, Result, Ok, Err}}, specs.Prelude.{◌≢◌, option_map, IsSome}},
-  cell_core.specs.declared.{grid.Shape.TheVariants.{Frame}, cell.{Cell.{Cell}, Label.{Label}}, code.Code.{Code}},
-  meaning.specs.{Text.{Text}, Cell.{datum, label_datum}, Operator.{cell_label}, Fault.{FaultValue, then_value}, FaultOf.{fault_of}, Symbol.{loc}},
-  table_meaning.specs.{Settled.{IsSettled}, Table.{NumberedTable, Table, table_value}, Change.{without_column}, Valid.{AreHeadings, IsWhole}, Value.{Given, GivenSub}},
-  form_meaning.specs.Select.{column_place},
+  meaning.proofs.Common.{cond_both, all_pairs_remove, option_map},
+  form_parts.proofs.Common.{nat_tests, ◌≡◌, ℕ, ◌<◌, List, ◌++◌, length, refl, arith, nat_eq, Option, Some, None, Result, Ok, Err, ◌≢◌, IsSome, Frame, Cell, Label, Code, Text, datum, label_datum, cell_label, FaultValue, then_value, fault_of, loc, IsSettled, NumberedTable, Table, table_value, AreHeadings, IsWhole, Given, GivenSub, column_place, MakesBy, Value, Object, Scalar, Subscript, ObjId, OpFault, Refused, NoMemory, Tables, with_object, table_at, entry_of, subscript_of, shown, World, Sets, map-remove, longer_self, settled_by, settled_with, object_settled},
+  table_meaning.specs.Change.{without_column},
   select_meaning.specs.{Set.{removal_result, added_label, assign_result, table_set}, Select.{Way}},
-  form_parts.specs.Makes.{MakesBy},
-  frame_store.{specs.{declared.{arguments.{Value.{Value, TheVariants.{Object, Scalar}}, Subscript.{Subscript}}, object.ObjId.{ObjId}, fault.OpFault.{OpFault, TheVariants.{Refused, NoMemory}}}, Objects.{Tables, with_object, table_at}, Arguments.{entry_of, subscript_of}, Shown.{shown}, World.{World, Sets}}, proofs.{ColumnLaws.{map-remove, All-remove}, Settling.{longer_self, shown_with, settled_by, settled_with, object_settled}}},
+  frame_store.proofs.{ColumnLaws.{All-remove}, Settling.{shown_with}},
   settings.specs.{declared.changes.Setting.{Setting}, Assigned.{without}, Changes.{ended, table_after, RefusesBy, SetsBy}},
 }
 

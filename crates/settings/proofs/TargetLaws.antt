@@ -1,15 +1,10 @@
 -- What a setting reaches: keys whose label isn't there.
 use Rattle.{
-  std.{proofs.{Common.{◌≡◌, ◌∙◌, ℕ, ◌+◌, pos, false, List, [], ◌∷◌, ◌++◌, length, map, refl, arith, All, Option, Some, None, option_map, Result, Err}, lemmas.{Bool.Decides.{nat_tests}, List.{length-map, Elements.{All-tail, All-map}}}}, specs.{Prelude.{◌≢◌, unwrap_or, IfOk}, List.{list_any}}},
-  cell_core.specs.declared.{cell.Label.{Label}, grid.Shape.TheVariants.{Frame}, code.Code.TheVariants.{NoKey}},
-  meaning.specs.{Text.{Text}, Cell.{LabelValue, int, label_datum}, Symbol.{Accessor, loc, at}, Fault.{FaultValue}},
-  multi_index.specs.Axes.{HaveLevels},
-  table_meaning.specs.{Table.{NumberedTable, Table, table_value, tuple_value, heading_value}, Value.{GivenSub, key_given, one, cell}, Settled.{IsSettled}},
-  form_meaning.specs.{Binding.{same_label}, Finish.{column_labels}, Infix.{same_tuple}},
+  form_parts.proofs.Common.{◌≡◌, ◌∙◌, ℕ, ◌+◌, pos, false, List, [], ◌∷◌, ◌++◌, length, map, refl, arith, All, Option, Some, None, Result, Err, nat_tests, length-map, All-tail, All-map, ◌≢◌, unwrap_or, IfOk, list_any, Label, Frame, NoKey, Text, LabelValue, int, label_datum, Accessor, loc, FaultValue, HaveLevels, NumberedTable, Table, table_value, tuple_value, heading_value, GivenSub, one, cell, IsSettled, same_label, column_labels, same_tuple, labels_value, headings_value, OpFault, Refused, Subscript, subscript_of, Tables, MakesBy, value_decides},
+  meaning.{proofs.Common.{option_map}, specs.Symbol.{at}},
+  table_meaning.specs.Value.{key_given},
   pick_meaning.specs.{Keys.{Pick, one_key}, Leading.{leads}, Rows.{rows_where, are_some}},
   select_meaning.specs.{Keys.{rows_by, columns_by, found_labels}, Set.{added_label, row_to_add, or_added}},
-  frame_store.specs.{Shown.{labels_value, headings_value}, declared.{fault.OpFault.{OpFault, TheVariants.{Refused}}, arguments.Subscript.{Subscript}}, Arguments.{subscript_of}, Objects.{Tables}},
-  form_parts.{specs.Makes.{MakesBy}, proofs.LabelLaws.{value_decides}},
   indexers.specs.declared.keys.Picked.{Picked as CodePicked},
   selections.specs.Reaches.{pick_value},
   settings.specs.{declared.targets.Reached.{Reached as CodeReached}, Values.{reached_value, target_value, IsFreshIn, TellsAbsence}},

@@ -20,8 +20,9 @@ use crate::filling::{expect_fit, expect_room, kind_for, values_for};
 use crate::growing::filled;
 use crate::putting::{column_change, series_setting};
 use crate::targets::{Target, label_to_add, target_of};
-use crate::values::{NewValue, SetValue, moved_object, set_value, wrong_kind};
+use crate::values::{NewValue, SetValue, moved_object, set_value};
 use cell_core::{Code, Grid, Kind, Reason, Shape, TextDict};
+use form_parts::wrong_kind;
 use frame_store::{ObjRef, OpFault, Selector, Store, Subscript, Value};
 use std::alloc::Global;
 

@@ -1,10 +1,8 @@
 // Columns of scalars.
-ghost use Rattle.std.specs.Prelude.{◌≡◌, ◌∷◌, List, map, length, replicate, true, unwrap_or, All, IfOk};
+ghost use Rattle.std.specs.Prelude.{◌≡◌, List, map, length, replicate, true, unwrap_or, All, IfOk};
 ghost use Rattle.std.specs.List.{list_all};
-ghost use Rattle.cell_core.specs.declared.cell.Kind.TheVariants.{Int64 as numbers};
 ghost use Rattle.meaning.specs.Text.{Text as OneText};
-ghost use Rattle.meaning.specs.Cell.{CellValue, datum, holds};
-ghost use Rattle.meaning.specs.Operator as operator;
+ghost use Rattle.meaning.specs.Cell.{datum, holds};
 ghost use Rattle.form_meaning.specs.Set as set;
 ghost use Rattle.select_meaning.specs.Set as meant;
 ghost use Rattle.form_parts.specs.Makes.{MakesBy};
@@ -14,25 +12,9 @@ ghost use Rattle.settings.specs.Assigned.{column_seen, column_listed, missing_ce
 
 use cell_core::{Cell, Cells, Code, Grid, Kind, NoMemory};
 use column_core::{Block, Column};
+use form_parts::present_kind;
 use frame_store::{Blocks, ObjRef, OpFault};
 use std::alloc::Global;
-
-// The kind of a cell that is present.
-pub(crate) fn present_kind(cell: Cell) -> Option<Kind>
-    ensures kind { (texts : List OneText) → operator.scalar_kind numbers (datum texts cell)
-        ≡ unwrap_or result numbers }
-    ensures first { (texts : List OneText) (rest : List CellValue)
-        → set.first_kind (datum texts cell ∷ rest) ≡ unwrap_or result (set.first_kind rest) }
-    ensures held { (texts : List OneText)
-        → holds (unwrap_or result numbers) (datum texts cell) ≡ true }
-{
-    match cell {
-        Cell::Int(_) => Some(Kind::Int64),
-        Cell::Bool(_) => Some(Kind::Boolean),
-        Cell::Text(_) => Some(Kind::Text),
-        Cell::Na => None,
-    }
-}
 
 // A scalar in so many rows.
 pub(crate) fn scalar_column(alloc: Global, cell: Cell, rows: usize) -> Result<Column, NoMemory>

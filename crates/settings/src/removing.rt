@@ -2,9 +2,8 @@
 ghost use Rattle.select_meaning.specs.Set as meant;
 ghost use Rattle.frame_store.specs.World.{world, entry_in, IsKnownValue, IsSettledWorld, Sets};
 
-use crate::values::wrong_kind;
 use cell_core::{Grid, Shape, TextDict};
-use form_parts::label_of;
+use form_parts::{label_of, wrong_kind};
 use frame_store::{OpFault, Store, Value};
 use selections::column_place;
 use std::alloc::Global;

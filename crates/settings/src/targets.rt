@@ -17,9 +17,8 @@ ghost use Rattle.selections.specs.Reaches.{accessor_of, pick_value, CanSelect, P
 ghost use Rattle.settings.specs.Assigned.{second_in};
 ghost use Rattle.settings.specs.Values.{reached_value, target_value, rows_of_pair, IsReachedOf, IsTargetOf, AddsOnOne, IsFreshIn, TellsAbsence};
 
-use crate::values::wrong_kind;
 use cell_core::{Code, Grid, Label, NoMemory, Places, Shape, TextDict};
-use form_parts::label_of;
+use form_parts::{label_of, wrong_kind};
 use frame_store::{Argument, ObjRef, OpFault, Selector, Store, Subscript, Value};
 use indexers::Picked;
 use selections::{all_columns, columns_by, joined_key, may_stand_alone, rows_by};

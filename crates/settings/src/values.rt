@@ -1,17 +1,16 @@
 // The value of a setting.
 ghost use Rattle.std.specs.Prelude.{◌≡◌, List, IfOk};
-ghost use Rattle.cell_core.specs.declared.code.Code.TheVariants as code;
 ghost use Rattle.meaning.specs.Text.{Text as OneText};
 ghost use Rattle.table_meaning.specs.Value.{one, table};
 ghost use Rattle.select_meaning.specs.Set as meant;
 ghost use Rattle.form_parts.specs.Makes.{MakesBy};
-ghost use Rattle.frame_store.specs.declared.fault.OpFault.TheVariants.{Refused};
 ghost use Rattle.frame_store.specs.Objects.{tables};
 ghost use Rattle.frame_store.specs.Arguments.{argument_of, object_value as table_of, IsLiveArgument, IsLiveObject};
 ghost use Rattle.settings.specs.Assigned.{new_value, moved_object, IsLiveNew};
 ghost use Rattle.settings.specs.Values.{value_in, IsLiveSetValue};
 
-use cell_core::{Cell, Cells, Code, Grid, Shape};
+use cell_core::{Cell, Cells, Grid, Shape};
+use form_parts::wrong_kind;
 use frame_store::{Argument, ObjId, OpFault, Store, Value};
 use selections::scalars_of;
 use std::alloc::Global;
@@ -32,13 +31,6 @@ pub(crate) enum SetValue {
     Same(Cell),
     Listed(Cells),
     Aligned(ObjId),
-}
-
-// The fault of a form or a kind that isn't taken.
-pub(crate) fn wrong_kind() -> OpFault
-    ensures { result ≡ Refused code.WrongKind }
-{
-    OpFault::Refused(Code::WrongKind)
 }
 
 // The object that ends with a setting.

@@ -1,8 +1,7 @@
 -- Whether arguments fit, by the first of them.
 use Rattle.{
-  std.proofs.{Common.{◌≡◌, ◌≤◌, ◌-◌, ℕ, Bool, true, false, List, [], ◌∷◌, length, take, drop, get_or, arith, if◌then◌else◌}, lemmas.List.{take_rest}},
-  meaning.specs.Text.{Text},
-  form_meaning.specs.{declared.Parameter.{Parameter}, Binding.{fits, fit, counted}},
+  meaning.proofs.Common.{◌≡◌, ◌≤◌, ◌-◌, ℕ, Bool, true, false, List, [], ◌∷◌, length, take, drop, get_or, arith, if◌then◌else◌, take_rest, Text},
+  call_meaning.specs.{declared.Parameter.{Parameter}, Binding.{fits, fit, counted}},
   frame_store.specs.{declared.arguments.Named.{Named}, Objects.{Tables}, Arguments.{named_of, arguments_of}},
 }
 

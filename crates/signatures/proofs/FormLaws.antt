@@ -1,9 +1,9 @@
 -- What is seen of a list of parts.
 use Rattle.{
-  std.{proofs.Common.{◌≡◌, ◌&&◌, Bool, refl, zero, suc, List, [], ◌∷◌, length, arith}, specs.{Prelude.{◌↔◌, IsTrue, true}, List.{All}}},
-  meaning.specs.Text.{Text},
+  meaning.proofs.Common.{◌≡◌, ◌&&◌, Bool, refl, zero, suc, List, [], ◌∷◌, length, arith, ◌↔◌, IsTrue, true, Text},
+  std.specs.List.{All},
   table_meaning.specs.Value.{Given},
-  form_meaning.specs.Binding.{each, count_of},
+  call_meaning.specs.Binding.{each, count_of},
   frame_store.specs.{Objects.{Tables}, Arguments.{item_of, items_of}, declared.arguments.Item.{Item}},
 }
 

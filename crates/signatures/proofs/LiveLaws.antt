@@ -1,6 +1,6 @@
 -- What is live in a list of arguments is live in its parts.
 use Rattle.{
-  std.proofs.Common.{◌≤◌, ℕ, zero, suc, List, [], ◌∷◌, length, take, drop, get_or, arith},
+  meaning.proofs.Common.{◌≤◌, ℕ, zero, suc, List, [], ◌∷◌, length, take, drop, get_or, arith},
   frame_store.specs.{declared.arguments.Named.{Named}, Objects.{Tables}, Arguments.{IsLiveArgument, AreLive}},
 }
 

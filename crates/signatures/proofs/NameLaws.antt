@@ -1,12 +1,11 @@
 -- The rows of the code are the names of the definition.
 use Rattle.{
-  std.{proofs.Common.{arith, ◌≡◌, refl, Bool, List, [], ◌∷◌, Option, map, find, Bor}, specs.{Prelude.{option_map, option_and_then}, Option.{option_copied}}},
-  cell_core.specs.declared.grid.Shape.{Shape},
-  meaning.specs.Text.{Text, same_text},
-  form_meaning.specs.Signature.{method_names, method_at, method_named},
+  meaning.proofs.Common.{arith, ◌≡◌, refl, Bool, List, [], ◌∷◌, Option, map, find, option_map, option_and_then, option_copied, Shape, Text, same_text},
+  std.proofs.Common.{Bor},
+  call_meaning.specs.Signature.{method_names, method_at, method_named},
   signatures.specs.{Names.{meant}, declared.table.MethodName.{MethodName}},
 }
-use Rattle.form_meaning.specs.Signature as signature
+use Rattle.call_meaning.specs.Signature as signature
 
 find_meant : (p : signature.MethodName → Bool) (rows : List MethodName) → find p (map meant rows) ≡ option_map meant (find (λ row. p (meant row)) rows)
 find_meant p [] = refl

@@ -1,12 +1,12 @@
 -- Binding by walks meets its rule.
 use Rattle.{
-  std.{proofs.{Common.{◌≡◌, ◌∙◌, ◌+◌, ℕ, zero, suc, Bool, true, false, not, cond, List, [], ◌∷◌, length, take, refl, sym, arith, if◌then◌else◌}, lemmas.{Bool.{eqb-true, eqb-false, lt-ltb}, List.Sums.{sum_by-cons}, Option.{slice_get_within}}}, specs.Prelude.{slice_get, count_by, nat_eq, Option, Some, None}},
-  meaning.specs.Text.{Text},
+  meaning.proofs.Common.{◌≡◌, ◌∙◌, ◌+◌, ℕ, zero, suc, Bool, true, false, not, cond, List, [], ◌∷◌, length, take, refl, sym, arith, if◌then◌else◌, eqb-true, eqb-false, lt-ltb, sum_by-cons, slice_get_within, slice_get, nat_eq, Option, Some, None, Text},
+  std.specs.Prelude.{count_by},
   table_meaning.specs.Value.{Given, NamedGiven},
-  form_meaning.specs.{declared.Parameter.{Parameter}, Binding.{takes, or_stand_in, goes_to, counted, given_at, is_given, taken_by, listed_by, fit, are_listed, argument_at, arguments_from, may_be_omitted, none_missing, Bound, not_taken, not_listed, bound, bound_of}},
+  call_meaning.specs.{declared.Parameter.{Parameter}, Binding.{takes, or_stand_in, goes_to, counted, given_at, is_given, taken_by, listed_by, fit, are_listed, argument_at, arguments_from, may_be_omitted, none_missing, Bound, not_taken, not_listed, bound, bound_of}},
   signatures.specs.{Filled.{Fills}, Rule.{is_unnamed, HasPlace, IsTaken, HasArgument, AreTaken, AreListed, AreInOrder, IsBinding}},
 }
-use Rattle.form_meaning.specs.declared.Omitted.TheVariants as omitted
+use Rattle.call_meaning.specs.declared.Omitted.TheVariants as omitted
 
 -- cases
 

@@ -1,7 +1,6 @@
 -- The scalars of a list are the same among any objects.
 use Rattle.{
-  std.proofs.Common.{arith, ◌≡◌, refl, ℕ, List, [], ◌∷◌, ◌++◌, Some},
-  meaning.specs.Text.{Text},
+  meaning.proofs.Common.{arith, ◌≡◌, refl, ℕ, List, [], ◌∷◌, ◌++◌, Some, Text},
   table_meaning.specs.{Settled.{IsSettled}, Value.{Given, GivenList, more_given, scalar_in, list_in}},
   form_meaning.specs.Select.{cells_of},
   frame_store.specs.{declared.arguments.Item.{Item, One as OneItem}, Objects.{Tables}, Arguments.{item_of, items_of, arguments_of}},

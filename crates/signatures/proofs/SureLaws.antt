@@ -1,67 +1,67 @@
 -- What always stands at a place.
 use mathlib.Core.Bool.{Bool-set}
 use Rattle.{
-  std.{proofs.{Math.Logic.{∥∥₁_elim}, Common.{ℕ, List, rules, arith, ◌≡◌, Bool, true, false, not, ◌&&◌, ◌||◌, ⊎_elim, Option, Some, None, if◌then◌else◌}}, specs.{Prelude.{IsSome}, Option.{option_map}}},
-  meaning.specs.Text.{Text},
+  meaning.proofs.Common.{ℕ, List, rules, arith, ◌≡◌, Bool, true, false, not, ◌&&◌, ◌||◌, ⊎_elim, Option, Some, None, if◌then◌else◌, IsSome, Text},
+  std.{proofs.Math.Logic.{∥∥₁_elim}, specs.Option.{option_map}},
   frame_store.specs.Objects.{Tables},
-  signatures.specs.{Bound.{form_at, stands_at}, declared.bound.Bound.{Bound}, Filled.{Fills, is_sure, sure_form}},
+  signatures.specs.{Bound.{accepted_at, stands_at}, declared.bound.Bound.{Bound}, Filled.{Fills, is_sure, sure_accepted}},
   table_meaning.specs.Value.{Given, nothing, scalar_in, object_in, list_in, dict_in},
-  form_meaning.specs.{declared.{Form.{Form}, Parameter.{Parameter}}, Binding.{takes, stands_for, may_be_omitted, whole_in, truth_in, text_in}},
+  call_meaning.specs.{declared.{Accepted.{Accepted}, Parameter.{Parameter}}, Binding.{takes, stands_for, may_be_omitted, whole_in, truth_in, text_in}},
 }
-use Rattle.form_meaning.specs.declared.Form.TheVariants as form
+use Rattle.call_meaning.specs.declared.Accepted.TheVariants as accepted
 
 first_of : (a b : Bool) → (not a && b) ≡ true → a ≡ false
 first_of = grind arith
 
 -- a parameter of the form takes it, and doesn't take None
-record IsTaken (f : Form) (g : Given) : Type 0 where
+record IsTaken (f : Accepted) (g : Given) : Type 0 where
   parameter : Parameter
-  taken : takes (record parameter { form = f }) g ≡ true
-  refused : takes (record parameter { form = f }) nothing ≡ false
+  taken : takes (record parameter { accepted = f }) g ≡ true
+  refused : takes (record parameter { accepted = f }) nothing ≡ false
 
 -- the form where there is one
-form_is : (p : Parameter) (f : Form) (sure : Bool) → (if sure then Some p.form else None) ≡ Some f → (sure ≡ true) × (p.form ≡ f)
-form_is = grind arith
+accepted_is : (p : Parameter) (f : Accepted) (sure : Bool) → (if sure then Some p.accepted else None) ≡ Some f → (sure ≡ true) × (p.accepted ≡ f)
+accepted_is = grind arith
 
-sure_at : (o : Option Parameter) (f : Form) (g : Given) → sure_form o ≡ Some f → ((p : Parameter) → o ≡ Some p → Fills p g) → IsTaken f g
+sure_at : (o : Option Parameter) (f : Accepted) (g : Given) → sure_accepted o ≡ Some f → ((p : Parameter) → o ≡ Some p → Fills p g) → IsTaken f g
 sure_at None f g is fills = cc
 sure_at (Some p) f g is fills =
-    let h = form_is p f (is_sure p) is in
+    let h = accepted_is p f (is_sure p) is in
     record {
       parameter = p;
       taken = grind (arith, ⊎_elim);
       refused = cc (h.1, first_of (takes p nothing) (not (may_be_omitted p.omitted) || takes p (stands_for p.omitted)) h.0);
     }
 
-abbrev of_form : Parameter → Form → Parameter
-of_form p f = record p { form = f }
+abbrev of_accepted : Parameter → Accepted → Parameter
+of_accepted p f = record p { accepted = f }
 
-frame_taken : (p : Parameter) (g : Given) → takes (of_form p form.Frame) g ≡ true → takes (of_form p form.Frame) nothing ≡ false → IsSome (object_in g)
+frame_taken : (p : Parameter) (g : Given) → takes (of_accepted p accepted.Frame) g ≡ true → takes (of_accepted p accepted.Frame) nothing ≡ false → IsSome (object_in g)
 frame_taken = grind arith
 
 -- what is read where a form always stands
-abbrev Sure : Form → {A : Type 0} → (Given → Option A) → Type 0
-Sure f read = (o : Option Parameter) (g : Given) → sure_form o ≡ Some f → ((p : Parameter) → o ≡ Some p → Fills p g) → IsSome (read g)
+abbrev Sure : Accepted → {A : Type 0} → (Given → Option A) → Type 0
+Sure f read = (o : Option Parameter) (g : Given) → sure_accepted o ≡ Some f → ((p : Parameter) → o ≡ Some p → Fills p g) → IsSome (read g)
 
-pub scalar_sure : Sure form.Scalar scalar_in
+pub scalar_sure : Sure accepted.Scalar scalar_in
 scalar_sure = grind (arith, sure_at)
 
-pub whole_sure : Sure form.Whole whole_in
+pub whole_sure : Sure accepted.Whole whole_in
 whole_sure = grind (rules, sure_at, arith)
 
-pub truth_sure : Sure form.Truth truth_in
+pub truth_sure : Sure accepted.Truth truth_in
 truth_sure = search (rules, sure_at)
 
-pub text_sure : Sure form.Text text_in
+pub text_sure : Sure accepted.Text text_in
 text_sure = search (rules, sure_at)
 
-pub frame_sure : Sure form.Frame object_in
+pub frame_sure : Sure accepted.Frame object_in
 frame_sure = grind (arith, sure_at, frame_taken)
 
-pub list_sure : Sure form.Scalars list_in
+pub list_sure : Sure accepted.Scalars list_in
 list_sure = grind (arith, sure_at)
 
-pub dict_sure : Sure form.Dict dict_in
+pub dict_sure : Sure accepted.Dict dict_in
 dict_sure = grind (arith, sure_at)
 
 -- there is what is told, where there is what is read
@@ -69,6 +69,6 @@ pub told_there : {A B : Type 0} (f : A → B) (o : Option A) (read : Option B) �
 told_there = grind arith
 
 -- what a test says is so, where what always stands at the place says it
-pub sure_told : {B : Type 0} {f : Form} (read : Given → Option B) → Sure f read → (b : Bound) (place : ℕ) (test : Bool) → form_at b place ≡ Some f
+pub sure_told : {B : Type 0} {f : Accepted} (read : Given → Option B) → Sure f read → (b : Bound) (place : ℕ) (test : Bool) → accepted_at b place ≡ Some f
     → ((live : Tables) (texts : List Text) → IsSome (read (stands_at live texts b place)) → test ≡ true) → test ≡ true
 sure_told _ sure b place test at told = ∥∥₁_elim b.filled (Bool-set _ _) (λ d. told d.live d.texts (sure _ _ at (d.filled place)))

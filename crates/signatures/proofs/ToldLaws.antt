@@ -1,8 +1,7 @@
 -- What is read of settled arguments is settled.
 use Rattle.{
-  std.{proofs.Common.{arith, ◌≡◌, ℕ, List, ◌++◌, Option, Some}, specs.Option.{option_map}},
-  cell_core.specs.declared.cell.{Cell.{Cell}, Label.{Label}},
-  meaning.specs.{Text.{Text}, Cell.{datum, IsGiven}, Operator.{cell_label}},
+  meaning.proofs.Common.{arith, ◌≡◌, ℕ, List, ◌++◌, Option, Some, Cell, Label, Text, datum, IsGiven, cell_label},
+  std.specs.Option.{option_map},
   table_meaning.specs.{Settled.{IsSettled}, Table.{heading_value}, Value.{Given, scalar_in}},
   frame_store.{specs.{Objects.{Tables}, Arguments.{arguments_of}}, proofs.Settling.{cell_given}},
   signatures.specs.{Bound.{Tells}, declared.bound.Bound.{Bound}},

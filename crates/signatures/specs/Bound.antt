@@ -5,14 +5,14 @@ use Rattle.cell_core.specs.declared.code.Code.TheVariants.{WrongKind, BadValue}
 use Rattle.cell_core.specs.declared.code.Reason.TheVariants.{Argument}
 use Rattle.meaning.specs.Text.{Text}
 use Rattle.table_meaning.specs.Value.{Given}
-use Rattle.form_meaning.specs.declared.Form.{Form}
-use Rattle.form_meaning.specs.declared.Parameter.{Parameter}
-use Rattle.form_meaning.specs.Binding.{not_taken, not_listed, bound, bound_of, argument_at, arguments_from}
+use Rattle.call_meaning.specs.declared.Accepted.{Accepted}
+use Rattle.call_meaning.specs.declared.Parameter.{Parameter}
+use Rattle.call_meaning.specs.Binding.{not_taken, not_listed, bound, bound_of, argument_at, arguments_from}
 use Rattle.frame_store.specs.declared.arguments.Named.{Named}
 use Rattle.frame_store.specs.Objects.{Tables}
 use Rattle.frame_store.specs.Arguments.{arguments_of}
 use Rattle.frame_store.specs.World.{World, arguments_in}
-use Rattle.signatures.specs.Filled.{sure_form}
+use Rattle.signatures.specs.Filled.{sure_accepted}
 use Rattle.signatures.specs.declared.bound.Bound.{Bound}
 use Rattle.signatures.specs.declared.binding.Unbound.{Unbound}
 use Rattle.signatures.specs.declared.binding.Unbound.TheVariants.{NotTaken, NotListed}
@@ -25,8 +25,8 @@ given_in w b = arguments_from b.parameters.now (arguments_in w b.args.now) 0 b.p
 abbrev pub stands_at : Tables → List Text → Bound → ℕ → Given
 stands_at live texts b place = argument_at b.parameters.now (arguments_of live texts b.args.now) place
 
-abbrev pub form_at : Bound → ℕ → Option Form
-form_at b place = sure_form (slice_get b.parameters.now place)
+abbrev pub accepted_at : Bound → ℕ → Option Accepted
+accepted_at b place = sure_accepted (slice_get b.parameters.now place)
 
 -- what a reader gives is what stands at the place, whatever the tables and texts
 abbrev pub Tells : {A : Type 0} → Bound → ℕ → (Given → Option A) → (Tables → List Text → Option A) → Type 0

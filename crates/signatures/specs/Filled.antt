@@ -2,9 +2,9 @@
 use Rattle.std.specs.Prelude.{◌≡◌, ℕ, Bool, true, not, ◌&&◌, ◌||◌, ◌⊎◌, List, slice_get, Option, Some, None, if◌then◌else◌}
 use Rattle.meaning.specs.Text.{Text}
 use Rattle.table_meaning.specs.Value.{Given, nothing}
-use Rattle.form_meaning.specs.declared.Form.{Form}
-use Rattle.form_meaning.specs.declared.Parameter.{Parameter}
-use Rattle.form_meaning.specs.Binding.{takes, stands_for, may_be_omitted, argument_at}
+use Rattle.call_meaning.specs.declared.Accepted.{Accepted}
+use Rattle.call_meaning.specs.declared.Parameter.{Parameter}
+use Rattle.call_meaning.specs.Binding.{takes, stands_for, may_be_omitted, argument_at}
 use Rattle.frame_store.specs.declared.arguments.Named.{Named}
 use Rattle.frame_store.specs.Objects.{Tables}
 use Rattle.frame_store.specs.Arguments.{arguments_of}
@@ -24,6 +24,6 @@ abbrev pub is_sure : Parameter → Bool
 is_sure p = not (takes p nothing) && (not (may_be_omitted p.omitted) || takes p (stands_for p.omitted))
 
 -- the form of what always stands at a parameter, where it has one
-abbrev pub sure_form : Option Parameter → Option Form
-sure_form None = None
-sure_form (Some p) = if is_sure p then Some p.form else None
+abbrev pub sure_accepted : Option Parameter → Option Accepted
+sure_accepted None = None
+sure_accepted (Some p) = if is_sure p then Some p.accepted else None

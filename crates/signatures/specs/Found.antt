@@ -2,7 +2,7 @@
 use Rattle.std.specs.Prelude.{List}
 use Rattle.meaning.specs.Text.{Text}
 use Rattle.table_meaning.specs.Value.{Given as Value}
-use Rattle.form_meaning.specs.Binding.{stands_for, IsNoText}
+use Rattle.call_meaning.specs.Binding.{stands_for, IsNoText}
 use Rattle.frame_store.specs.Objects.{Tables}
 use Rattle.frame_store.specs.Arguments.{argument_of, IsLiveArgument}
 use Rattle.signatures.specs.declared.places.Found.{Found}

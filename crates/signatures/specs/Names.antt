@@ -1,5 +1,5 @@
 -- A name in the table of the code, as the definition has it.
-use Rattle.form_meaning.specs.Signature as signature
+use Rattle.call_meaning.specs.Signature as signature
 use Rattle.signatures.specs.declared.table.MethodName.{MethodName}
 
 abbrev pub meant : MethodName → signature.MethodName

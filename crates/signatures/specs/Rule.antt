@@ -2,10 +2,10 @@
 use Rattle.std.specs.Prelude.{◌≡◌, ℕ, Bool, true, false, IsTrue, List, length, slice_get, take, count_by, position, Option, Some, None}
 use Rattle.meaning.specs.Text.{Text, same_text}
 use Rattle.table_meaning.specs.Value.{Given, NamedGiven}
-use Rattle.form_meaning.specs.declared.Parameter.{Parameter}
-use Rattle.form_meaning.specs.declared.Omitted.TheVariants.{Required}
-use Rattle.form_meaning.specs.Signature.{spelled}
-use Rattle.form_meaning.specs.Binding.{takes, lists, stands_for, Bound, not_taken, not_listed, bound}
+use Rattle.call_meaning.specs.declared.Parameter.{Parameter}
+use Rattle.call_meaning.specs.declared.Omitted.TheVariants.{Required}
+use Rattle.call_meaning.specs.Signature.{spelled}
+use Rattle.call_meaning.specs.Binding.{takes, lists, stands_for, Bound, not_taken, not_listed, bound}
 
 abbrev pub is_unnamed : Option Text → Bool
 is_unnamed None = true

@@ -2,8 +2,8 @@
 ghost use Rattle.std.specs.Prelude.{◌≡◌, ◌+◌, ◌<◌, ◌^◌, length, slice_get};
 ghost use Rattle.std.specs.List.{position_or_len};
 ghost use Rattle.meaning.specs.Text.{same_text};
-ghost use Rattle.form_meaning.specs.Signature as signature;
-ghost use Rattle.form_meaning.specs.Binding as plain;
+ghost use Rattle.call_meaning.specs.Signature as signature;
+ghost use Rattle.call_meaning.specs.Binding as plain;
 ghost use Rattle.frame_store.specs.Objects.{tables};
 ghost use Rattle.frame_store.specs.Arguments.{argument_of, named_of, arguments_of, IsLiveArgument, AreLive};
 ghost use Rattle.frame_store.specs.Readers.{Agrees, AgreesBy, AgreesSeen, IsLiveWith, lent_argument, IsLiveLent};
@@ -13,8 +13,8 @@ ghost use Rattle.signatures.specs.Bound.{IsBound};
 use crate::bound::Bound;
 use crate::forms::{lists, takes};
 use crate::table::spelled;
+use call_meaning::{Omitted, Parameter};
 use cell_core::{Code, Reason, TextDict, Words};
-use form_meaning::{Omitted, Parameter};
 use frame_store::{Argument, Named, OpFault, Store};
 
 /// Why arguments aren't bound. As a `Code` it is `WrongKind`, or `BadValue` of an argument.

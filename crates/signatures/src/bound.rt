@@ -1,7 +1,7 @@
 // Arguments that are bound to a signature.
 ghost use Rattle.signatures.specs.Filled.{AreFilled};
 
-use form_meaning::Parameter;
+use call_meaning::Parameter;
 use frame_store::Named;
 
 /// The arguments of a call that are bound to the parameters of a signature, as [`bind`](crate::bind)

@@ -3,14 +3,14 @@ ghost use Rattle.std.specs.Prelude.{◌≡◌, Bool, List};
 ghost use Rattle.meaning.specs.Text.{Text};
 ghost use Rattle.meaning.specs.Cell.{datum, label_datum, int_cell, text_cell, truth_cell, na_cell};
 ghost use Rattle.table_meaning.specs.Value.{row};
-ghost use Rattle.form_meaning.specs.Binding as plain;
+ghost use Rattle.call_meaning.specs.Binding as plain;
 ghost use Rattle.frame_store.specs.Objects.{Tables, tables};
 ghost use Rattle.frame_store.specs.Arguments.{shape_at, IsLiveObject, item_of, items_of, argument_of, entries_of, IsLiveArgument};
 ghost use Rattle.frame_store.specs.Readers.{Agrees, AgreesBy};
 ghost use Rattle.frame_store.specs.World.{world, argument_in};
 
+use call_meaning::{Accepted, Choices, Omitted, Parameter};
 use cell_core::{Cell, Grid, Label, Shape, TextDict};
-use form_meaning::{Form, Listed, Omitted, Parameter};
 use frame_store::{Argument, Item, ObjId, Store, Value};
 
 fn is_scalar(item: &Item) -> bool
@@ -162,7 +162,7 @@ fn is_kind_name(dict: &TextDict, argument: &Argument) -> bool
     ensures { AgreesBy dict.now plain.is_kind_name argument_of argument.now result }
 {
     match argument {
-        Argument::One(Value::Scalar(cell)) => lists_scalar(dict, Listed::KindNames, *cell),
+        Argument::One(Value::Scalar(cell)) => lists_scalar(dict, Choices::KindNames, *cell),
         Argument::One(Value::Object(_)) => false,
         Argument::Nothing => false,
         Argument::Row(_) => false,
@@ -185,60 +185,60 @@ fn are_kind_names(dict: &TextDict, pairs: &[(Label, Argument)]) -> bool
     true
 }
 
-fn none_has(form: Form) -> bool
-    ensures { result ≡ plain.none_has form }
+fn none_has(accepted: Accepted) -> bool
+    ensures { result ≡ plain.none_has accepted }
 {
-    matches!(form, Form::ScalarOrNone | Form::Names)
+    matches!(accepted, Accepted::ScalarOrNone | Accepted::Names)
 }
 
-fn scalar_has(form: Form, cell: Cell) -> bool
-    ensures { (texts : List Text) → result ≡ plain.scalar_has form (datum texts cell) }
+fn scalar_has(accepted: Accepted, cell: Cell) -> bool
+    ensures { (texts : List Text) → result ≡ plain.scalar_has accepted (datum texts cell) }
 {
-    match form {
-        Form::Truth => matches!(cell, Cell::Bool(_)),
-        Form::Whole => matches!(cell, Cell::Int(_)),
-        Form::Text => matches!(cell, Cell::Text(_)),
-        Form::Scalar => true,
-        Form::ScalarOrNone => true,
-        Form::Labels => true,
-        Form::SomeLabels => true,
-        Form::Names => true,
-        Form::Level => matches!(cell, Cell::Int(_) | Cell::Text(_)),
+    match accepted {
+        Accepted::Truth => matches!(cell, Cell::Bool(_)),
+        Accepted::Whole => matches!(cell, Cell::Int(_)),
+        Accepted::Text => matches!(cell, Cell::Text(_)),
+        Accepted::Scalar => true,
+        Accepted::ScalarOrNone => true,
+        Accepted::Labels => true,
+        Accepted::SomeLabels => true,
+        Accepted::Names => true,
+        Accepted::Level => matches!(cell, Cell::Int(_) | Cell::Text(_)),
         _ => false,
     }
 }
 
-fn object_has(form: Form, shape: Shape) -> bool
-    ensures { result ≡ plain.object_has form shape }
+fn object_has(accepted: Accepted, shape: Shape) -> bool
+    ensures { result ≡ plain.object_has accepted shape }
 {
-    match form {
-        Form::Frame => matches!(shape, Shape::Frame),
+    match accepted {
+        Accepted::Frame => matches!(shape, Shape::Frame),
         _ => false,
     }
 }
 
 #[tactic(auto, using(crate::proofs::FormLaws::count_is))]
-fn list_has(form: Form, items: &[Item]) -> bool
-    ensures { Agrees (plain.list_has form) items_of items.now result }
+fn list_has(accepted: Accepted, items: &[Item]) -> bool
+    ensures { Agrees (plain.list_has accepted) items_of items.now result }
 {
-    match form {
-        Form::Scalars => are_scalars(items),
-        Form::Labels => are_scalars(items),
-        Form::SomeLabels => 0 < items.len() && are_scalars(items),
-        Form::Keys => are_keys(items),
-        Form::RowLabels => are_row_labels(items),
-        Form::Names => are_scalars(items),
-        Form::Objects => are_objects(items),
+    match accepted {
+        Accepted::Scalars => are_scalars(items),
+        Accepted::Labels => are_scalars(items),
+        Accepted::SomeLabels => 0 < items.len() && are_scalars(items),
+        Accepted::Keys => are_keys(items),
+        Accepted::RowLabels => are_row_labels(items),
+        Accepted::Names => are_scalars(items),
+        Accepted::Objects => are_objects(items),
         _ => false,
     }
 }
 
-fn dict_has(dict: &TextDict, form: Form, pairs: &[(Label, Argument)]) -> bool
-    ensures { AgreesBy dict.now (plain.dict_has form) entries_of pairs.now result }
+fn dict_has(dict: &TextDict, accepted: Accepted, pairs: &[(Label, Argument)]) -> bool
+    ensures { AgreesBy dict.now (plain.dict_has accepted) entries_of pairs.now result }
 {
-    match form {
-        Form::Dict => true,
-        Form::TextDict => are_texts(dict, pairs),
+    match accepted {
+        Accepted::Dict => true,
+        Accepted::TextDict => are_texts(dict, pairs),
         _ => false,
     }
 }
@@ -268,30 +268,30 @@ pub(crate) fn takes(
         ≡ plain.takes parameter (argument_in (world store.now dict.now) argument.now) }
 {
     match argument {
-        Argument::Nothing => none_stands(parameter.omitted) || none_has(parameter.form),
-        Argument::One(Value::Scalar(cell)) => scalar_has(parameter.form, *cell),
-        Argument::One(Value::Object(on)) => object_has(parameter.form, shape_of(store, *on)),
+        Argument::Nothing => none_stands(parameter.omitted) || none_has(parameter.accepted),
+        Argument::One(Value::Scalar(cell)) => scalar_has(parameter.accepted, *cell),
+        Argument::One(Value::Object(on)) => object_has(parameter.accepted, shape_of(store, *on)),
         Argument::Row(_) => false,
-        Argument::Many(items) => list_has(parameter.form, items.as_slice()),
-        Argument::Table(pairs) => dict_has(dict, parameter.form, pairs.as_slice()),
+        Argument::Many(items) => list_has(parameter.accepted, items.as_slice()),
+        Argument::Table(pairs) => dict_has(dict, parameter.accepted, pairs.as_slice()),
     }
 }
 
-fn lists_text(listed: Listed, text: &str) -> bool
+fn lists_text(listed: Choices, text: &str) -> bool
     ensures { result ≡ plain.lists_scalar listed (text_cell text.now) }
 {
     match listed {
-        Listed::Any => true,
-        Listed::KindNames => matches!(text, "Int64" | "boolean" | "string"),
-        Listed::KindNameDict => true,
-        Listed::Backends => matches!(text, "numpy_nullable"),
-        Listed::Hows => matches!(text, "inner" | "left" | "right" | "outer"),
-        Listed::Joins => matches!(text, "inner" | "outer"),
-        Listed::Validations => is_validation(text),
-        Listed::Aggregations => {
+        Choices::Any => true,
+        Choices::KindNames => matches!(text, "Int64" | "boolean" | "string"),
+        Choices::KindNameDict => true,
+        Choices::Backends => matches!(text, "numpy_nullable"),
+        Choices::Hows => matches!(text, "inner" | "left" | "right" | "outer"),
+        Choices::Joins => matches!(text, "inner" | "outer"),
+        Choices::Validations => is_validation(text),
+        Choices::Aggregations => {
             matches!(text, "sum" | "min" | "max" | "count" | "first" | "last")
         }
-        Listed::Axes => false,
+        Choices::Axes => false,
     }
 }
 
@@ -311,30 +311,30 @@ fn is_validation(text: &str) -> bool
     )
 }
 
-fn lists_whole(listed: Listed, number: i64) -> bool
+fn lists_whole(listed: Choices, number: i64) -> bool
     ensures { result ≡ plain.lists_scalar listed (int_cell number) }
 {
     match listed {
-        Listed::Any => true,
-        Listed::KindNameDict => true,
-        Listed::Axes => number == 0 || number == 1,
+        Choices::Any => true,
+        Choices::KindNameDict => true,
+        Choices::Axes => number == 0 || number == 1,
         _ => false,
     }
 }
 
 // Whether a truth value or NA is among the listed values.
-fn lists_others(listed: Listed) -> bool
+fn lists_others(listed: Choices) -> bool
     ensures truth { (b : Bool) → result ≡ plain.lists_scalar listed (truth_cell b) }
     ensures na { result ≡ plain.lists_scalar listed na_cell }
 {
     match listed {
-        Listed::Any => true,
-        Listed::KindNameDict => true,
+        Choices::Any => true,
+        Choices::KindNameDict => true,
         _ => false,
     }
 }
 
-fn lists_scalar(dict: &TextDict, listed: Listed, cell: Cell) -> bool
+fn lists_scalar(dict: &TextDict, listed: Choices, cell: Cell) -> bool
     ensures { result ≡ plain.lists_scalar listed (datum dict.now cell) }
 {
     match cell {
@@ -345,17 +345,17 @@ fn lists_scalar(dict: &TextDict, listed: Listed, cell: Cell) -> bool
     }
 }
 
-fn lists_dict(dict: &TextDict, listed: Listed, pairs: &[(Label, Argument)]) -> bool
+fn lists_dict(dict: &TextDict, listed: Choices, pairs: &[(Label, Argument)]) -> bool
     ensures { AgreesBy dict.now (plain.lists_dict listed) entries_of pairs.now result }
 {
     match listed {
-        Listed::KindNameDict => are_kind_names(dict, pairs),
+        Choices::KindNameDict => are_kind_names(dict, pairs),
         _ => true,
     }
 }
 
 // Whether an argument is among the listed values.
-pub(crate) fn lists(dict: &TextDict, listed: Listed, argument: &Argument) -> bool
+pub(crate) fn lists(dict: &TextDict, listed: Choices, argument: &Argument) -> bool
     ensures { AgreesBy dict.now (plain.lists listed) argument_of argument.now result }
 {
     match argument {

@@ -8,7 +8,7 @@
 //! form, as [`Bound::whole`]. Nothing here takes memory or changes anything.
 //!
 //! The signatures are those of the pandas API reference, as far as this library has them; their
-//! definition is `specs/Signature.antt` of the crate `form_meaning`, and that of binding is
+//! definition is `specs/Signature.antt` of the crate `call_meaning`, and that of binding is
 //! `specs/Binding.antt` there. [`binds_by_place`] says by what rule that definition binds.
 //!
 //! ```text

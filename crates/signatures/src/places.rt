@@ -4,20 +4,20 @@ ghost use Rattle.std.specs.Option.{option_map};
 ghost use Rattle.meaning.specs.Text.{Text};
 ghost use Rattle.meaning.specs.Cell.{datum};
 ghost use Rattle.table_meaning.specs.Value.{scalar_in, object_in, list_in, dict_in};
-ghost use Rattle.form_meaning.specs.Binding as plain;
+ghost use Rattle.call_meaning.specs.Binding as plain;
 ghost use Rattle.form_meaning.specs.Make.{kind_given};
-ghost use Rattle.form_meaning.specs.declared.Form.TheVariants as form;
+ghost use Rattle.call_meaning.specs.declared.Accepted.TheVariants as accepted;
 ghost use Rattle.frame_store.specs.Objects.{Tables};
 ghost use Rattle.frame_store.specs.Arguments.{argument_of, items_of, entries_of, arguments_of, object_value, AreLiveItems, AreLivePairs, AreLive, IsLiveObject};
 ghost use Rattle.frame_store.specs.Readers.{Agrees, AgreesSeen, IsLiveWith, lent_argument, IsLiveLent, AreLiveLentItems, AreLiveLentPairs};
 ghost use Rattle.signatures.specs.Found.{found_value, IsFoundLive, StandsNoText};
-ghost use Rattle.signatures.specs.Bound.{Tells, stands_at, form_at};
+ghost use Rattle.signatures.specs.Bound.{Tells, stands_at, accepted_at};
 
 use crate::binding::given_after;
 use crate::bound::Bound;
 use crate::table::{default_text, kind_named};
+use call_meaning::{Omitted, Parameter};
 use cell_core::{Cell, Kind, Label, TextDict};
-use form_meaning::{Omitted, Parameter};
 use frame_store::{Argument, Item, Named, ObjId};
 
 // The argument at a place, or what stands there where none is given.
@@ -193,7 +193,7 @@ impl<'a> Bound<'a> {
     /// The scalar that stands at a place, where the parameter always has one. Its default is no text.
     /// Takes no memory.
     pub fn scalar(&self, place: usize) -> Cell
-        requires sure { form_at self.now place ≡ Some form.Scalar }
+        requires sure { accepted_at self.now place ≡ Some accepted.Scalar }
         requires no_text { plain.HasNoText (slice_get self.now.parameters.now place) }
         ensures { Tells self.now place scalar_in (λ _ texts. Some (datum texts result)) }
     {
@@ -211,7 +211,7 @@ impl<'a> Bound<'a> {
 
     /// The whole number that stands at a place, where the parameter always has one. Takes no memory.
     pub fn whole(&self, place: usize) -> i64
-        requires { form_at self.now place ≡ Some form.Whole }
+        requires { accepted_at self.now place ≡ Some accepted.Whole }
         ensures { Tells self.now place plain.whole_in (λ _ _. Some result) }
     {
         self.whole_or_none(place).unwrap()
@@ -228,7 +228,7 @@ impl<'a> Bound<'a> {
 
     /// The truth value that stands at a place, where the parameter always has one. Takes no memory.
     pub fn truth(&self, place: usize) -> bool
-        requires { form_at self.now place ≡ Some form.Truth }
+        requires { accepted_at self.now place ≡ Some accepted.Truth }
         ensures { Tells self.now place plain.truth_in (λ _ _. Some result) }
     {
         self.truth_or_none(place).unwrap()
@@ -250,7 +250,7 @@ impl<'a> Bound<'a> {
 
     /// The text that stands at a place, where the parameter always has one. Takes no memory.
     pub fn text<'d>(&self, dict: &'d TextDict, place: usize) -> &'d str
-        requires { form_at self.now place ≡ Some form.Text }
+        requires { accepted_at self.now place ≡ Some accepted.Text }
         ensures { (live : Tables)
             → Some result.now ≡ plain.text_in (stands_at live dict.now self.now place) }
     {
@@ -271,7 +271,7 @@ impl<'a> Bound<'a> {
 
     /// The kind whose name stands at a place, where the parameter always has one. Takes no memory.
     pub fn kind(&self, dict: &TextDict, place: usize) -> Kind
-        requires { form_at self.now place ≡ Some form.Text }
+        requires { accepted_at self.now place ≡ Some accepted.Text }
         ensures { (live : Tables)
             → Some result ≡ kind_given (scalar_in (stands_at live dict.now self.now place)) }
     {
@@ -294,7 +294,7 @@ impl<'a> Bound<'a> {
     /// The parts of the list of scalars that stands at a place, where the parameter always has one. Takes
     /// no memory.
     pub fn list(&self, place: usize) -> &'a [Item]
-        requires { form_at self.now place ≡ Some form.Scalars }
+        requires { accepted_at self.now place ≡ Some accepted.Scalars }
         ensures value { Tells self.now place list_in
             (λ live texts. Some (items_of live texts result.now)) }
         ensures live { (live : Tables) → AreLive live self.now.args.now
@@ -316,7 +316,7 @@ impl<'a> Bound<'a> {
 
     /// The frame that stands at a place, where the parameter always has one. Takes no memory.
     pub fn frame(&self, place: usize) -> ObjId
-        requires { form_at self.now place ≡ Some form.Frame }
+        requires { accepted_at self.now place ≡ Some accepted.Frame }
         ensures table { Tells self.now place object_in
             (λ live texts. Some (object_value live texts result)) }
         ensures live { (live : Tables) → AreLive live self.now.args.now
@@ -341,7 +341,7 @@ impl<'a> Bound<'a> {
     /// The pairs of the dict that stands at a place, in their order, also where a key stands twice, where
     /// the parameter always has one. Takes no memory.
     pub fn dict(&self, place: usize) -> &'a [(Label, Argument)]
-        requires { form_at self.now place ≡ Some form.Dict }
+        requires { accepted_at self.now place ≡ Some accepted.Dict }
         ensures value { Tells self.now place dict_in
             (λ live texts. Some (entries_of live texts result.now)) }
         ensures live { (live : Tables) → AreLive live self.now.args.now

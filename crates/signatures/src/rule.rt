@@ -1,8 +1,8 @@
 // The rule of binding.
 ghost use Rattle.std.specs.Prelude.{List};
 ghost use Rattle.table_meaning.specs.Value.{NamedGiven};
-ghost use Rattle.form_meaning.specs.declared.Parameter.{Parameter};
-ghost use Rattle.form_meaning.specs.Binding.{bound_of};
+ghost use Rattle.call_meaning.specs.declared.Parameter.{Parameter};
+ghost use Rattle.call_meaning.specs.Binding.{bound_of};
 ghost use Rattle.signatures.specs.Rule.{IsBinding};
 
 /// The rule of binding, for every signature and the arguments of every call. It does nothing; the words

@@ -3,37 +3,37 @@ ghost use Rattle.std.specs.Prelude.{◌≡◌, find, map};
 ghost use Rattle.std.specs.Option.{option_copied};
 ghost use Rattle.meaning.specs.Text.{same_text};
 ghost use Rattle.form_meaning.specs.Make as make;
-ghost use Rattle.form_meaning.specs.Signature as signature;
+ghost use Rattle.call_meaning.specs.Signature as signature;
 ghost use Rattle.signatures.specs.Names.{meant};
 
-use cell_core::{Kind, Shape};
-use form_meaning::Method::{Columns, Labels, Levels, Other, Rows, Summary, Table};
-use form_meaning::{
-    ColumnMethod, DefaultText, Form, Function, LabelMethod, LevelMethod, Listed, Method, Omitted,
-    OtherMethod, Parameter, ParameterName, RowMethod, SummaryMethod, TableMethod,
+use call_meaning::Method::{Columns, Labels, Levels, Other, Rows, Summary, Table};
+use call_meaning::{
+    Accepted, Choices, ColumnMethod, DefaultText, Function, LabelMethod, LevelMethod, Method,
+    Omitted, OtherMethod, Parameter, ParameterName, RowMethod, SummaryMethod, TableMethod,
 };
+use cell_core::{Kind, Shape};
 
 // A parameter that must be given: its name and form, and its listed values.
 macro_rules! needed {
-    ($name:ident: $form:ident) => {
-        needed!($name: $form in Any)
+    ($name:ident: $accepted:ident) => {
+        needed!($name: $accepted in Any)
     };
-    ($name:ident: $form:ident in $listed:ident) => {
-        optional!($name: $form in $listed = Omitted::Required)
+    ($name:ident: $accepted:ident in $listed:ident) => {
+        optional!($name: $accepted in $listed = Omitted::Required)
     };
 }
 
 // A parameter that may be left out, with what then stands there.
 macro_rules! optional {
-    ($name:ident: $form:ident = $omitted:expr) => {
-        optional!($name: $form in Any = $omitted)
+    ($name:ident: $accepted:ident = $omitted:expr) => {
+        optional!($name: $accepted in Any = $omitted)
     };
-    ($name:ident: $form:ident in $listed:ident = $omitted:expr) => {
+    ($name:ident: $accepted:ident in $listed:ident = $omitted:expr) => {
         Parameter {
             name: ParameterName::$name,
-            form: Form::$form,
+            accepted: Accepted::$accepted,
             omitted: $omitted,
-            listed: Listed::$listed,
+            listed: Choices::$listed,
         }
     };
 }

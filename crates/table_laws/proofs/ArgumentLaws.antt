@@ -1,14 +1,12 @@
 -- Arguments that are bound are valid where those of the call are, and have the form of their parameter.
 use Rattle.{
-  std.{proofs.{Common.{arith, ◌≡◌, refl, ℕ, List, [], ◌∷◌}, lemmas.{Bool.{eqb-true}, List.Elements.{All-head, All-tail}, Option.{same_Some}}}, specs.Prelude.{Bool, true, false, slice_get, nat_eq, Option, Some, IfSome, Result, All, if◌then◌else◌}},
-  cell_core.specs.declared.grid.Shape.{Shape, TheVariants.{Frame}},
-  meaning.specs.Fault.{FaultValue},
+  meaning.proofs.Common.{arith, ◌≡◌, refl, ℕ, List, [], ◌∷◌, eqb-true, All-head, All-tail, same_Some, Bool, true, false, slice_get, nat_eq, Option, Some, IfSome, Result, All, if◌then◌else◌, Shape, Frame, FaultValue},
   table_meaning.specs.{Valid.{IsValid}, Value.{Entry, Given, GivenList, NamedGiven, more_given, object_in}},
-  form_meaning.specs.{declared.Parameter.{Parameter}, Binding.{is_frame, takes, or_stand_in, goes_to, counted, given_at, taken_by, fit, argument_at, arguments_from, bound_of, on_bound}},
+  call_meaning.specs.{declared.Parameter.{Parameter}, Binding.{is_frame, takes, or_stand_in, goes_to, counted, given_at, taken_by, fit, argument_at, arguments_from, bound_of, on_bound}},
   method_meaning.specs.Concat.{tables_of},
   table_laws.{specs.Validity.{IsValidArgument, AreValidArguments}, proofs.Words.{Keeps, IsFrame}},
 }
-use Rattle.form_meaning.specs.declared.Form.TheVariants as form
+use Rattle.call_meaning.specs.declared.Accepted.TheVariants as accepted
 
 -- an argument that goes to a place
 given_valid : (ps : List Parameter) (k : ℕ) (gs : List NamedGiven) (place : ℕ) → AreValidArguments gs → IfSome (given_at ps k gs place) IsValidArgument
@@ -20,12 +18,13 @@ given_valid ps k (g ∷ gs) place h =
 or_valid : (o : Option Given) (p : Option Parameter) → IfSome o IsValidArgument → IsValidArgument (or_stand_in o p)
 or_valid = grind arith
 
-pub argument_valid : (ps : List Parameter) (gs : List NamedGiven) (place : ℕ) → AreValidArguments gs → IsValidArgument (argument_at ps gs place)
-argument_valid = search (or_valid, given_valid)
+module _ (ps : List Parameter) (gs : List NamedGiven) where
+  pub argument_valid : (place : ℕ) → AreValidArguments gs → IsValidArgument (argument_at ps gs place)
+  argument_valid = search (or_valid, given_valid)
 
--- where arguments are bound each was taken
-pub bound_taken : (ps : List Parameter) (gs : List NamedGiven) (go : List Given → Result Entry FaultValue) → (fit ps 0 gs ≡ true → Keeps (go (arguments_from ps gs 0 ps))) → Keeps (on_bound (bound_of ps gs) go)
-bound_taken = grind arith
+  -- where arguments are bound each was taken
+  pub bound_taken : (go : List Given → Result Entry FaultValue) → (fit ps 0 gs ≡ true → Keeps (go (arguments_from ps gs 0 ps))) → Keeps (on_bound (bound_of ps gs) go)
+  bound_taken = grind arith
 
 if_both : (a b : Bool) → (if a then b else false) ≡ true → (a ≡ true) × (b ≡ true)
 if_both = grind arith
@@ -45,11 +44,11 @@ given_taken ps k (g ∷ gs) place a fitted is =
 frame_is : (s : Shape) → is_frame s ≡ true → s ≡ Frame
 frame_is = grind arith
 
-frame_taken : (p : Parameter) (a : Given) → p.form ≡ form.Frame → takes p a ≡ true → IfSome (object_in a) (λ t. IsFrame t)
-frame_taken = grind (arith, frame_is)
+frame_taken : (p : Parameter) (a : Given) → p.accepted ≡ accepted.Frame → takes p a ≡ true → IfSome (object_in a) (λ t. IsFrame t)
+frame_taken = grind arith
 
 -- an object at the place of such a parameter is a frame
-pub frame_at : (ps : List Parameter) (gs : List NamedGiven) (place : ℕ) (p : Parameter) → slice_get ps place ≡ Some p → p.form ≡ form.Frame → fit ps 0 gs ≡ true → IfSome (object_in (argument_at ps gs place)) (λ t. IsFrame t)
+pub frame_at : (ps : List Parameter) (gs : List NamedGiven) (place : ℕ) (p : Parameter) → slice_get ps place ≡ Some p → p.accepted ≡ accepted.Frame → fit ps 0 gs ≡ true → IfSome (object_in (argument_at ps gs place)) (λ t. IsFrame t)
 frame_at ps gs place p there is fitted =
     let taken : (a : Given) → given_at ps 0 gs place ≡ Some a → IfSome (object_in a) (λ t. IsFrame t) = λ a e. frame_taken p a is (cc (given_taken ps 0 gs place a fitted e)) in
     grind arith
@@ -60,4 +59,4 @@ object_valid = grind arith
 
 -- a list with one part more
 pub more_valid : (a : Given) (rest : GivenList) → IsValidArgument a → All IsValid (tables_of rest) → All IsValid (tables_of (more_given a rest))
-more_valid = grind (arith, object_valid)
+more_valid = grind arith

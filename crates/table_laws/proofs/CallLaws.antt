@@ -1,16 +1,15 @@
 -- Calls behind values and calls of functions of `pd` make valid tables of valid values and arguments.
 use Rattle.{
-  std.{proofs.{Common.{rules, ◌≡◌, refl, ℕ, List, ◌<◌, [], ◌∷◌, length, map, length-append, arith}, lemmas.{Bool.{eqb-true}, List.{length-map, Elements.{All-nil, All-append}}}}, specs.{Prelude.{true, Option, Some, None, IfOk, nat_eq, slice_get, codes, IsSome, IfSome, All}, List.{position_or_len}}},
-  meaning.specs.Text.{Text},
+  meaning.proofs.Common.{rules, ◌≡◌, refl, ℕ, List, ◌<◌, [], ◌∷◌, length, map, length-append, arith, eqb-true, length-map, All-nil, All-append, true, Option, Some, None, IfOk, nat_eq, slice_get, codes, IsSome, IfSome, All, position_or_len, Text, Int64},
   table_meaning.{specs.{Table.{Table, column_at}, Value.{Entry, cell, table, NamedGiven, Given, object_in}, Valid.{IsValid}}, proofs.KindLaws.{kind_is}},
-  form_meaning.{specs.{declared.{Method.{Method, TheVariants.{Other}}, OtherMethod.TheVariants.{Merge}}, Signature.{method_names, fits_shape, parameters_of}, Binding.{argument_at, text_in}, Finish.{finished}, Select.{heading_at}}, proofs.ShapeLaws.{named_fits, of_frame}},
+  call_meaning.{specs.{declared.{Method.{Method, TheVariants.{Other}}, OtherMethod.TheVariants.{Merge}}, Signature.{method_names, fits_shape, parameters_of}, Binding.{argument_at, text_in}}, proofs.ShapeLaws.{named_fits, of_frame}},
+  form_meaning.specs.{Finish.{finished}, Select.{heading_at}},
   method_meaning.specs.{Calls.{ChainValue, plain, is_merge, plain_result, call_result, merge_call}, Functions.{function_result}, Rows.{all_places}, Merge.{MergeKeys, kinds_at, are_same_kinds, keys_of_merge, suffixed_heading, right_places, left_heading, right_heading, column_of_side, key_cell, joined_key_column, right_key, joined_or_left, left_column, merged, merged_rows, merge_result}},
   table_laws.{specs.Validity.{IsValidObject, IsValidEntry, AreValidArguments}, proofs.{ListLaws.{if_keeps, all_made, all_mapped, at_or, then_keeps, on_keeps, on_some_keeps}, Words.{Keeps, IsFrame, Name, Below}, TableLaws.{shaped, IsShaped}, MethodLaws.{method_result_keeps, chain_result_keeps}, CsvLaws.{make_with_keeps}, ConcatLaws.{concat_call_keeps}, ColumnLaws.{IsColumn, Held}, ReachLaws.{below_all, some_below}, InfixLaws.{gap_held}, GroupLaws.{AreLabels, frame_keeps}, SetLaws.{length_default, default_levels}, ArgumentLaws.{argument_valid, object_valid, frame_at, bound_taken}}},
-  cell_core.specs.declared.cell.Kind.TheVariants.{Int64},
   join_meaning.specs.{declared.{How.{How}, Validate.{Validate}}, Pairs.{Pair}},
 }
-use Rattle.form_meaning.specs.declared.Method.TheVariants as method
-use Rattle.form_meaning.specs.declared.OtherMethod.TheVariants as other_method
+use Rattle.call_meaning.specs.declared.Method.TheVariants as method
+use Rattle.call_meaning.specs.declared.OtherMethod.TheVariants as other_method
 
 -- `merge` makes a valid frame of valid ones
 -- as many keys on either side, of the same kinds
@@ -33,9 +32,7 @@ kinds_meet : (l r : Table) (lefts rights : List ℕ) (place other : ℕ) → are
 kinds_meet l r [] [] place other alike found = cc
 kinds_meet l r [] (b ∷ rights) place other alike found = cc
 kinds_meet l r (a ∷ lefts) [] place other alike found = cc
-kinds_meet l r (a ∷ lefts) (b ∷ rights) place other alike found =
-    let later = kinds_meet l r lefts rights place other in
-    grind (arith, eqb-true, kind_is)
+kinds_meet l r (a ∷ lefts) (b ∷ rights) place other alike found = grind (arith, eqb-true, kind_is, kinds_meet l r lefts rights place other)
 
 -- the frame of two frames
 module _ (l r : Table) (s : IsShaped l) (w : IsShaped r) (is : IsFrame l) (is' : IsFrame r) (keys : MergeKeys) (are : AreKeys l r keys) (pairs : List Pair) where
@@ -56,7 +53,7 @@ module _ (l r : Table) (s : IsShaped l) (w : IsShaped r) (is : IsFrame l) (is' :
       by None e = search (length-map, all_mapped, gap_held, cells_held)
 
   left_some : (place : ℕ) → place < length l.columns → IsSome (left_heading l r keys place)
-  left_some = grind (arith, beside_some)
+  left_some = grind arith
 
   right_below : Below (length r.columns) (right_places r keys)
   right_below = some_below _ _
@@ -92,7 +89,7 @@ merge_result_keeps l right how labels once s h =
     (λ keys are. rows_keep l r s.fits w.fits s.frame w.frame _ _ keys are)))
 
 both_fit : (o : Option Table) → IfSome o IsValid → IfSome o (λ t. IsFrame t) → IfSome o IsShapedFrame
-both_fit = grind (arith, shaped)
+both_fit = grind arith
 
 -- a call of `merge`
 pub merge_call_keeps : (t : Table) (gs : List NamedGiven) → IsShapedFrame t → AreValidArguments gs → Keeps (merge_call t gs)

@@ -1,7 +1,7 @@
 -- Columns of so many rows whose kinds hold their cells.
 use Rattle.{
-  std.{proofs.{Common.{arith, ◌≡◌, ℕ, ℤ, length, refl, ap, suc, ◌-◌, pos, negsuc, List, [], ◌∷◌, ◌++◌}, lemmas.{List.{length-map, length-replicate, Elements.{All-replicate, All-nil, All-cons, All-head, All-tail, All-filter, All-append}}, Bool.{lt-ltb}, Int.{SFits-int_wrap}}}, specs.{Prelude.{Bool, true, if◌then◌else◌, replicate, Option, Some, None, Result, Ok, Err, IfOk, All, fold, IfSome}, Int.{int_wrap, w64, RustNames.{FitsSigned}}}},
-  meaning.specs.{Cell.{CellValue, Kind, Int64, Boolean, na_cell, holds, has_64_bits}, Column.{ColumnValue, ColumnFault, column_of, column_if, shifted_row, shifted}, Cumulate.{Cumulation, cumulation_cell, cumulation_takes, running, unless_missing}, Operator.{scalar_kind, scalar_column, inverted as inverted_value, operator_kind, operator_cell, invert_cell}, Symbol.{Binary}, Fault.{FaultValue, then_value}, Cast.{cast_cell}, Reduce.{Reduction, sum, min, max, any, all, count, present, reduction_cell}},
+  meaning.{proofs.Common.{arith, ◌≡◌, ℕ, ℤ, length, refl, ap, suc, ◌-◌, pos, negsuc, List, [], ◌∷◌, ◌++◌, length-map, length-replicate, All-replicate, All-nil, All-cons, All-head, All-tail, All-filter, All-append, lt-ltb, Bool, true, if◌then◌else◌, replicate, Option, Some, None, Result, Ok, Err, IfOk, All, fold, IfSome, int_wrap, CellValue, Kind, Int64, Boolean, na_cell, holds, ColumnValue, ColumnFault, column_of, column_if, shifted_row, shifted, Cumulation, cumulation_cell, cumulation_takes, running, unless_missing, scalar_kind, scalar_column, operator_cell, invert_cell, Binary, FaultValue, then_value, cast_cell, present, reduction_cell}, specs.{Cell.{has_64_bits}, Operator.{inverted as inverted_value, operator_kind}, Reduce.{Reduction, sum, min, max, any, all, count}}},
+  std.{proofs.lemmas.Int.{SFits-int_wrap}, specs.Int.{w64, RustNames.{FitsSigned}}},
   form_meaning.specs.{Finish.{value_of_column, made_column}, Infix.{Meeting, met, inverted_column}, Set.{list_column}, Make.{cast_to}},
   method_meaning.specs.Methods.{mapped, filled, filled_column, shifted_column, cast_as, cumulated},
   table_laws.{proofs.{Words.{Column, Cells}, ListLaws.{all_pass, all_made, then_keeps, all_mapped, each_keeps, pairs_keep, length_tabulate, where_keeps, both_true, at_or, all_tabulated}}, specs.Validity.{IsHeldCell}},
@@ -23,11 +23,9 @@ held_cell = grind arith
 abbrev pub OfKind : Kind → CellValue → Type 0
 OfKind kind c = scalar_kind kind c ≡ kind
 
-pub held_of_kind : (kind : Kind) (c : CellValue) → Held kind c → OfKind kind c
-held_of_kind = grind arith
-
-pub scalar_of_kind : (kind : Kind) (c : CellValue) → OfKind (scalar_kind kind c) c
-scalar_of_kind = grind arith
+module _ (kind : Kind) (c : CellValue) where
+  pub scalar_of_kind : OfKind (scalar_kind kind c) c
+  scalar_of_kind = grind arith
 
 fits_bits : (z : ℤ) → FitsSigned w64 z → has_64_bits z ≡ true
 fits_bits = grind (arith, lt-ltb)
@@ -44,8 +42,6 @@ invert_held = grind arith
 -- the kind of an operator's answer holds what it makes of two cells
 pub operator_held : (op : Binary) (k l m : Kind) → operator_kind op k l ≡ Some m → (a b : CellValue) → OfKind k a → IfSome (operator_cell op a b) (Held m)
 operator_held = grind (arith, wrap_fits)
-
--- casts
 
 -- a kind holds what is cast to it
 pub cast_held : (kind : Kind) (c : CellValue) → IsHeldCell c → IfSome (cast_cell kind c) (Held kind)
@@ -104,14 +100,15 @@ cumulated_held op kind cells takes h = running_held _ Int64 (cumulation_cell op)
 
 -- shifts
 
-shifted_row_held : (kind : Kind) (cells : Cells) → All (Held kind) cells → (periods : ℤ) (row : ℕ) → Held kind (shifted_row na_cell cells periods row)
-shifted_row_held kind cells h (pos n) row =
-    let held = at_or (Held kind) cells (row - n) na_cell refl h in
-    grind arith
-shifted_row_held kind cells h (negsuc n) row = at_or (Held kind) _ _ _ refl h
+module _ (kind : Kind) (cells : Cells) where
+  shifted_row_held : All (Held kind) cells → (periods : ℤ) (row : ℕ) → Held kind (shifted_row na_cell cells periods row)
+  shifted_row_held h (pos n) row =
+      let held = at_or (Held kind) cells (row - n) na_cell refl h in
+      grind arith
+  shifted_row_held h (negsuc n) row = at_or (Held kind) _ _ _ refl h
 
-pub shifted_held : (kind : Kind) (cells : Cells) (periods : ℤ) → All (Held kind) cells → All (Held kind) (shifted na_cell cells periods)
-shifted_held = search (all_tabulated, shifted_row_held)
+  pub shifted_held : (periods : ℤ) → All (Held kind) cells → All (Held kind) (shifted na_cell cells periods)
+  shifted_held = search (all_tabulated, shifted_row_held)
 
 -- columns
 -- so many cells, which the kind holds
@@ -128,7 +125,7 @@ pub record IsSide (rows : ℕ) (c : ColumnValue) : Type 0 where
   pub fits : All (OfKind c.kind) c.cells
 
 pub side : (rows : ℕ) (kind : Kind) (cells : Cells) → IsColumnOf rows kind cells → IsSide rows record { kind = kind; cells = cells }
-side = grind (arith, held_of_kind)
+side = grind arith
 
 -- two columns that meet
 pub record IsMeeting (rows : ℕ) (m : Meeting) : Type 0 where

@@ -1,18 +1,13 @@
 -- `pd.concat` makes a valid table of valid ones.
 use Rattle.{
-  std.{proofs.{Common.{◌≡◌, ◌≢◌, ◌∙◌, refl, sym, ap, ℕ, suc, ◌+◌, ◌<◌, List, [], ◌∷◌, length, map, filter, length-append, arith}, lemmas.{Bool.{eqb-true, false≢true, Decides.{nat_tests}}, List.{length-map, FromFn.{length-map-range_with_len}, Elements.{All-nil, All-cons, All-head, All-tail, All-filter, All-append, filter_passes}, Kept.{AllPairs-cons, AllPairs-filter}}}}, specs.{Prelude.{Bool, true, false, not, nat_lt, fold, slice_index_or, unwrap_or, Option, Some, None, IsSome, IfSome, Result, IfOk, All}, Bool.{Decides}, List.{list_all, flat_map}, Cmp.Lexicographic.{as_long}}},
-  cell_core.specs.declared.{cell.Kind.{Kind}, grid.Shape.{Shape, TheVariants.{Series, Frame}}},
-  meaning.specs.{Column.{ColumnValue}, Fault.{FaultValue}, Reduce.{distinct}},
+  meaning.proofs.Common.{◌≡◌, ◌≢◌, ◌∙◌, refl, sym, ap, ℕ, suc, ◌+◌, ◌<◌, List, [], ◌∷◌, length, map, filter, length-append, arith, eqb-true, false≢true, nat_tests, length-map, length-map-range_with_len, All-nil, All-cons, All-head, All-tail, All-filter, All-append, filter_passes, AllPairs-cons, AllPairs-filter, Bool, true, false, not, nat_lt, fold, slice_index_or, unwrap_or, Option, Some, None, IsSome, IfSome, Result, IfOk, All, Decides, list_all, flat_map, as_long, Kind, Shape, Series, Frame, ColumnValue, FaultValue, distinct},
   align_meaning.proofs.OrderLaws.{all_flat, all_distinct},
   join_meaning.specs.Concat.{same_kind, united, labels_under},
   table_meaning.{specs.{Table.{Table, column_at}, Valid.{IsValid, AreHeadings}, Value.{Entry, Given, NamedGiven, list_in}}, proofs.KindLaws.{kind_is}},
   form_meaning.specs.{Finish.{finished, same_heading, value_of_column}, Infix.{same_tuple, common_name}},
   method_meaning.specs.Concat.{Concatenation, tables_of, kept_names, level_names_of_all, columns_name_of_all, have_same_levels, labels_of_tables, RowAxis, rows_below, columns_below, column_under, column_or_missing, frame_column_below, is_series, table_below, finished_below, series_below, frames_below, are_series, are_frames, numbered_from, headings_beside, rows_met, columns_beside, table_beside, beside, with_keys, along, concatenated, concat_result, concat_call},
-  table_laws.{specs.Validity.{IsValidArgument, AreValidArguments}, proofs.{Words.{Keeps, Column, Name, Tuple, Cells, Apart, Levelled, IsFrame}, ListLaws.{both_true, all_pass, all_made, all_mapped, then_keeps, try_keeps, on_keeps, on_some_keeps, of_length_keeps}, ColumnLaws.{IsColumn, spread_column, Held, na_held}, TableLaws.{IsShaped, shaped, limited_keeps, column_of_table, series_heading, frame_headings, one_column, label_decides}, InfixLaws.{columns_on}, GroupLaws.{AreLabels, frame_keeps}, LevelLaws.{on_levels_keep}, SetLaws.{length_default, default_levels}, ArgumentLaws.{argument_valid}}},
+  table_laws.{specs.Validity.{IsValidArgument, AreValidArguments}, proofs.{Words.{Has, AllOf, Keeps, Column, Name, Tuple, Cells, Apart, Levelled, IsFrame}, ListLaws.{both_true, all_pass, all_made, all_mapped, then_keeps, try_keeps, on_keeps, on_some_keeps, of_length_keeps}, ColumnLaws.{IsColumn, spread_column, Held, na_held}, TableLaws.{IsShaped, shaped, column_of_table, series_heading, frame_headings, one_column, label_decides}, InfixLaws.{columns_on}, GroupLaws.{AreLabels, frame_keeps}, SetLaws.{length_default, default_levels}, ArgumentLaws.{argument_valid}}},
 }
-
-abbrev Has : ℕ → Tuple → Type 0
-Has n tuple = length tuple ≡ n
 
 abbrev AreShaped : List Table → Type 0
 AreShaped ts = All IsShaped ts
@@ -38,8 +33,7 @@ module _ (f : Table → Column) where
 
   cells_count : (ts : List Table) → AreColumns f ts → length (cells ts) ≡ length (all_labels ts)
   cells_count [] h = refl
-  cells_count (t ∷ ts) h =
-      length-append (f t).cells (cells ts) ∙ (λ i. (All-head Fits t ts h).filled i + cells_count ts (All-tail Fits t ts h) i) ∙ sym (length-append t.labels (all_labels ts))
+  cells_count (t ∷ ts) h = grind (arith, length-append, h 0 t, cells_count ts (All-tail Fits t ts h))
 
   cells_held : (kind : Kind) (ts : List Table) → AreColumns f ts → list_all (λ (other : ColumnValue). same_kind kind other.kind) (parts ts) ≡ true → All (Held kind) (cells ts)
   cells_held kind [] h alike = All-nil (Held kind)
@@ -52,7 +46,7 @@ module _ (f : Table → Column) where
   below_held [] h = grind arith
   below_held (t ∷ ts) h =
       let count = cells_count (t ∷ ts) h in
-      let all : list_all (λ other. same_kind (f t).kind other.kind) (parts ts) ≡ true → All (Held (f t).kind) (cells (t ∷ ts)) = λ e. All-append (Held (f t).kind) (f t).cells (cells ts) (All-head Fits t ts h).held (cells_held _ ts (All-tail Fits t ts h) e) in
+      let all = λ (e : list_all (λ other. same_kind (f t).kind other.kind) (parts ts) ≡ true). All-append (Held (f t).kind) (f t).cells (cells ts) (All-head Fits t ts h).held (cells_held _ ts (All-tail Fits t ts h) e) in
       grind arith
 
 below_is : (a b : ℕ) → nat_lt a b ≡ true → a < b
@@ -71,8 +65,7 @@ frame_column_held = search (below_held, column_held)
 
 kept_count : (as' bs : List Name) → length (kept_names as' bs) ≡ length as'
 kept_count [] bs = refl
-kept_count (a ∷ as') [] = ap suc (kept_count as' [])
-kept_count (a ∷ as') (b ∷ bs) = ap suc (kept_count as' bs)
+kept_count (a ∷ as') bs = grind (arith, kept_count as')
 
 fold_count : (names : List Name) (more : List (List Name)) → length (fold kept_names names more) ≡ length names
 fold_count names [] = refl
@@ -84,18 +77,18 @@ names_count = search fold_count
 -- Series have no name of columns
 no_common : (names : List Name) → fold common_name None names ≡ None
 no_common [] = refl
-no_common (None ∷ names) = no_common names
-no_common (Some l ∷ names) = no_common names
+no_common (name ∷ names) = grind (arith, no_common names)
 
 -- tables of so many levels
 abbrev HaveLevels : ℕ → List Table → Type 0
 HaveLevels n ts = All (λ t. Levelled n t.labels) ts
 
-labels_have : (n : ℕ) (ts : List Table) → HaveLevels n ts → All (All (Has n)) (labels_of_tables ts)
-labels_have n ts h = all_made (λ t. Levelled n t.labels) (All (Has n)) (λ t. t.labels) (λ t k. k) ts h
+module _ (n : ℕ) (ts : List Table) (h : HaveLevels n ts) where
+  labels_have : All (All (Has n)) (labels_of_tables ts)
+  labels_have = all_made (λ t. Levelled n t.labels) (All (Has n)) (λ t. t.labels) (λ t k. k) ts h
 
-all_have : (n : ℕ) (ts : List Table) → HaveLevels n ts → Levelled n (all_labels ts)
-all_have n ts h = all_flat (Has n) _ (λ labels. labels) (λ labels k. k) (labels_of_tables ts) (labels_have n ts h)
+  all_have : Levelled n (all_labels ts)
+  all_have = all_flat (Has n) _ (λ labels. labels) (λ labels k. k) (labels_of_tables ts) (labels_have)
 
 -- the labels of the parts
 
@@ -105,12 +98,11 @@ under_count (key ∷ keys) (t ∷ ts) e = search (length-map, length-append, und
 under_count _ _ e = search
 
 under_have : (n : ℕ) (keys : Tuple) (ts : List Table) → HaveLevels n ts → Levelled (suc n) (labels_under keys (labels_of_tables ts))
-under_have n [] ts h = All-nil (Has (suc n))
-under_have n (key ∷ keys) [] h = All-nil (Has (suc n))
 under_have n (key ∷ keys) (t ∷ ts) h =
     let first = all_made _ (Has (suc n)) (λ tuple. key ∷ tuple) (λ tuple k. ap suc k) t.labels (All-head (λ t. Levelled n t.labels) t ts h) in
     let rest = under_have n keys ts (All-tail (λ t. Levelled n t.labels) t ts h) in
     search All-append
+under_have n _ _ h = grind arith
 
 -- a label for each part
 abbrev AreKeys : ℕ → Bool → Option Tuple → Type 0
@@ -128,9 +120,6 @@ axis_is t ts false (Some keys) = search (under_count, names_count, under_have)
 
 -- one below the other
 
-series_is : (s : Shape) → is_series s ≡ true → s ≡ Series
-series_is = grind arith
-
 frame_is : (s : Shape) → not (is_series s) ≡ true → s ≡ Frame
 frame_is = grind arith
 
@@ -138,10 +127,10 @@ abbrev AreOf : Shape → List Table → Type 0
 AreOf shape ts = All (λ t. t.shape ≡ shape) ts
 
 all_series : (ts : List Table) → are_series ts ≡ true → AreOf Series ts
-all_series = grind (arith, series_is, all_pass)
+all_series = grind (arith, all_pass)
 
 all_frames : (ts : List Table) → are_frames ts ≡ true → AreOf Frame ts
-all_frames = grind (arith, frame_is, all_pass)
+all_frames = grind (arith, all_pass)
 
 -- labels of columns that differ
 
@@ -178,7 +167,7 @@ module _ (t : Table) (ts : List Table) (s : AreShaped (t ∷ ts)) (c : Concatena
   module _ (levels : HaveLevels (length t.level_names) all) (keys : AreKeys (length all) c.renumbered c.keys) where
     below_keeps : (shape : Shape) (headings : List Name) (columns : List Column) → AreHeadings shape (columns_name_of_all all) headings → length headings ≡ length columns → All (IsColumn rows) columns
         → Keeps (finished_below (table_below shape all c headings columns))
-    below_keeps = grind (arith, axis_is, on_levels_keep, limited_keeps)
+    below_keeps = grind (arith, axis_is, nat_tests)
 
     series_keep : AreOf Series all → Keeps (series_below all c)
     series_keep are =
@@ -193,7 +182,7 @@ module _ (t : Table) (ts : List Table) (s : AreShaped (t ∷ ts)) (c : Concatena
         let labelled = all_made (λ u. IsShaped u × (IsFrame u)) _ (λ u. u.headings) (λ u both. both.0.headings.labelled both.1) all (λ k d lt. (s k d lt, are k d lt)) in
         let some : All IsSome hs = search united_all in
         let apart = united_apart _ heading_decides c.inner _ _ (grind arith) in
-        then_keeps (λ columns. (length columns ≡ length hs) × All (IsColumn rows) columns) _ _ _
+        then_keeps (AllOf (IsColumn rows) (length hs)) _ _ _
         (try_keeps (λ h. Unit {0}) _ _ (λ h _. frame_column_held all h s) hs _)
         (λ columns made. below_keeps _ hs _ (frame_headings _ _ hs refl some apart) (sym made.0) made.1)
 
@@ -201,13 +190,11 @@ module _ (t : Table) (ts : List Table) (s : AreShaped (t ∷ ts)) (c : Concatena
 
 numbered_count : (n : ℕ) (hs : List Name) → length (numbered_from n hs) ≡ length hs
 numbered_count n [] = refl
-numbered_count n (None ∷ hs) = ap suc (numbered_count (n + 1) hs)
-numbered_count n (Some l ∷ hs) = ap suc (numbered_count n hs)
+numbered_count n (h ∷ hs) = grind (arith, numbered_count (n + 1) hs, numbered_count n hs)
 
 numbered_some : (n : ℕ) (hs : List Name) → AreLabels (numbered_from n hs)
 numbered_some n [] = All-nil IsSome
-numbered_some n (None ∷ hs) = grind (arith, numbered_some (n + 1) hs)
-numbered_some n (Some l ∷ hs) = grind (arith, numbered_some n hs)
+numbered_some n (h ∷ hs) = grind (arith, numbered_some (n + 1) hs, numbered_some n hs)
 
 headings_count : (renumbered : Bool) (hs : List Name) → length (headings_beside renumbered hs) ≡ length hs
 headings_count = grind (arith, length-map-range_with_len, numbered_count)
@@ -219,28 +206,28 @@ headings_some false hs = numbered_some 0 hs
 met_count : (own labels : List Tuple) → length (rows_met own labels) ≡ length labels
 met_count own labels = grind (arith, length-map-range_with_len, as_long, length-map)
 
-beside_held : (labels : List Tuple) (t : Table) → IsShaped t → All (IsColumn (length labels)) (columns_beside labels t)
-beside_held labels t s = search (columns_on, met_count)
+module _ (labels : List Tuple) where
+  beside_held : (t : Table) → IsShaped t → All (IsColumn (length labels)) (columns_beside labels t)
+  beside_held t s = search (columns_on, met_count)
 
-beside_count : (labels : List Tuple) (ts : List Table) → AreShaped ts → length (flat_map (λ t. t.headings) ts) ≡ length (flat_map (columns_beside labels) ts)
-beside_count labels [] s = refl
-beside_count labels (t ∷ ts) s =
-    let own : length t.headings ≡ length (columns_beside labels t) = (All-head IsShaped t ts s).headed ∙ sym (length-map t.columns _) in
-    grind (arith, length-append, beside_count labels ts (All-tail IsShaped t ts s))
+  beside_count : (ts : List Table) → AreShaped ts → length (flat_map (λ t. t.headings) ts) ≡ length (flat_map (columns_beside labels) ts)
+  beside_count [] s = refl
+  beside_count (t ∷ ts) s = grind (arith, length-append, length-map, (All-head IsShaped t ts s).headed, beside_count ts (All-tail IsShaped t ts s))
 
-module _ (t : Table) (ts : List Table) (s : AreShaped (t ∷ ts)) (renumbered : Bool) where
-  beside_keeps : (labels : List Tuple) → Levelled (length t.level_names) labels → Keeps (finished (table_beside (t ∷ ts) renumbered labels))
-  beside_keeps labels has =
-      let own : IsShaped t = grind arith in
-      search (names_count, frame_keeps, headings_count, beside_count, all_flat, beside_held, headings_some)
+module _ (t : Table) (ts : List Table) where
+  module _ (s : AreShaped (t ∷ ts)) (renumbered : Bool) where
+    beside_keeps : (labels : List Tuple) → Levelled (length t.level_names) labels → Keeps (finished (table_beside (t ∷ ts) renumbered labels))
+    beside_keeps labels has =
+        let own : IsShaped t = grind arith in
+        search (names_count, frame_keeps, headings_count, beside_count, all_flat, beside_held, headings_some)
 
-beside_all_keeps : (t : Table) (ts : List Table) (c : Concatenation) → AreShaped (t ∷ ts) → Keeps (beside (t ∷ ts) c)
-beside_all_keeps t ts c s =
-    let n = length t.level_names in
-    let has : have_same_levels (t ∷ ts) ≡ true → All (Levelled n) (labels_of_tables (t ∷ ts)) = λ e. labels_have n (t ∷ ts) (grind (arith, all_pass, eqb-true)) in
-    let all : have_same_levels (t ∷ ts) ≡ true → Levelled n (united same_tuple c.inner (labels_of_tables (t ∷ ts))) = λ e. united_all same_tuple (Has n) c.inner _ _ (has e) in
-    let own = (All-head IsShaped t ts s).levels in
-    grind (arith, beside_keeps)
+  beside_all_keeps : (c : Concatenation) → AreShaped (t ∷ ts) → Keeps (beside (t ∷ ts) c)
+  beside_all_keeps c s =
+      let n = length t.level_names in
+      let has : have_same_levels (t ∷ ts) ≡ true → All (Levelled n) (labels_of_tables (t ∷ ts)) = λ e. labels_have n (t ∷ ts) (grind (arith, all_pass, eqb-true)) in
+      let all : have_same_levels (t ∷ ts) ≡ true → Levelled n (united same_tuple c.inner (labels_of_tables (t ∷ ts))) = λ e. united_all same_tuple (Has n) c.inner _ _ (has e) in
+      let own = (All-head IsShaped t ts s).levels in
+      grind (arith, beside_keeps)
 
 -- along either axis
 

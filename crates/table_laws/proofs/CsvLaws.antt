@@ -1,12 +1,11 @@
 -- A file of comma-separated values reads as a valid frame.
 use Rattle.{
-  std.{proofs.{Common.{◌≡◌, ◌≢◌, refl, ap, ℕ, suc, List, [], ◌∷◌, length, map, arith}, lemmas.{Bool.Decides.{nat_tests}, List.{length-map, Elements.{All-nil}, Kept.{AllPairs-cons}}, Map.Keys.{IsDistinct-head, IsDistinct-tail}, Slice.Eq.{bytes_eq-Decides}}}, specs.{Prelude.{Bool, true, false, if◌then◌else◌, slice_get, unwrap_or, Option, Some, None, IsSome, IfSome, Result, IfOk, All, AllPairs}, List.{IsDistinct, AllByRecursion}}},
-  cell_core.specs.Texts.{with_text},
-  meaning.specs.{Text.{Text, same_text}, Cell.{CellValue, na_cell, text_cell, LabelValue, text, Kind}, Cast.{cast_cell}},
-  table_meaning.specs.Value.{Given, NamedGiven},
+  meaning.proofs.Common.{◌≡◌, ◌≢◌, refl, ap, ℕ, suc, List, [], ◌∷◌, length, map, arith, nat_tests, length-map, All-nil, AllPairs-cons, bytes_eq-Decides, Bool, true, false, if◌then◌else◌, slice_get, unwrap_or, Option, Some, None, IsSome, IfSome, Result, IfOk, All, AllPairs, IsDistinct, AllByRecursion, with_text, Text, same_text, CellValue, na_cell, text_cell, LabelValue, text, Kind, cast_cell},
+  std.proofs.lemmas.Map.Keys.{IsDistinct-head, IsDistinct-tail},
+  table_meaning.specs.Value.{NamedGiven},
   csv_meaning.{specs.CsvRead.{CsvValue, CsvRefusal, is_missing, cell_of_field, column_of_fields, columns_from, labels_after, labels_of, labelled_columns, columns_of_rows, columns_of_records, columns_of_file}, proofs.DifferentLaws.{labels_differ}},
-  method_meaning.specs.Readers.{frame_of_columns, frame_or_fault, csv_result, read_result, make_with},
-  table_laws.{specs.Validity.{IsValidEntry}, proofs.{ListLaws.{both_true, both_ways, all_mapped, if_keeps}, ColumnLaws.{IsColumn, Held, cast_held}, TableLaws.{IsShaped, valid, frame_headings}, SetLaws.{length_default, default_levels}, MethodLaws.{on_bound_keeps}, MakeLaws.{make_result_keeps}}},
+  method_meaning.specs.Readers.{frame_of_columns, frame_or_fault, read_result, make_with},
+  table_laws.{specs.Validity.{IsValidEntry}, proofs.{ListLaws.{both_true, both_ways, all_mapped, if_keeps}, ColumnLaws.{IsColumn, Held, cast_held}, TableLaws.{IsShaped, valid, frame_headings}, SetLaws.{length_default, default_levels}, MakeLaws.{make_result_keeps}}},
 }
 
 -- fields
@@ -78,15 +77,13 @@ rows_read = grind (arith, length_after, both_true, nat_tests, labels_differ, val
 records_read : (kinds : List (Text × Kind)) (records : List (List Text)) → IsRead (columns_of_records kinds records)
 records_read = grind (arith, rows_read, length-map)
 
-file_read : (bytes : List ℕ) (kinds : List (Text × Kind)) → IsRead (columns_of_file bytes kinds)
-file_read = grind (arith, records_read)
+module _ (bytes : List ℕ) where
+  file_read : (kinds : List (Text × Kind)) → IsRead (columns_of_file bytes kinds)
+  file_read = grind (arith, records_read)
 
-csv_result_keeps : (bytes : List ℕ) (gs : List Given) → IfOk (csv_result bytes gs) IsValidEntry
-csv_result_keeps = grind (arith, file_read)
-
--- a file that is read
-pub read_result_keeps : (bytes : List ℕ) (gs : List NamedGiven) → IfOk (read_result bytes gs) IsValidEntry
-read_result_keeps = search (on_bound_keeps, csv_result_keeps)
+  -- a file that is read
+  pub read_result_keeps : (gs : List NamedGiven) → IfOk (read_result bytes gs) IsValidEntry
+  read_result_keeps = grind (arith, file_read)
 
 -- a function of `pd`, with the file that it reads
 pub make_with_keeps : (file : Option (List ℕ)) (name : Text) (gs : List NamedGiven) → IfOk (make_with file name gs) IsValidEntry

@@ -1,15 +1,15 @@
 -- Calls behind `groupby` make valid tables of valid ones.
 use Rattle.{
-  std.{proofs.{Common.{rules, ◌≡◌, ◌∙◌, refl, ℕ, ◌<◌, ◌≤◌, List, [], ◌∷◌, length, map, arith}, lemmas.{Bool.Decides.{nat_tests}, List.{length-map, length-append, Elements.{All-filter, All-append}}}}, specs.Prelude.{Bool, true, false, slice_index_or, codes, Option, Some, None, IsSome, Result, IfOk, All}},
-  cell_core.specs.declared.grid.Shape.{Shape, TheVariants.{Series, Frame}},
-  meaning.specs.{Text.{Text}, Cell.{CellValue, na_cell, Kind, Int64}, Column.{ColumnValue, ColumnFault}, Operator.{cell_label}, Cumulate.{cumulation_takes}, Fault.{FaultValue}},
+  meaning.proofs.Common.{rules, ◌≡◌, refl, ℕ, ◌<◌, ◌≤◌, List, [], ◌∷◌, length, map, arith, nat_tests, length-map, All-filter, All-append, Bool, true, false, slice_index_or, codes, Option, Some, None, IsSome, Result, IfOk, All, Shape, Series, Frame, Text, CellValue, na_cell, Kind, Int64, ColumnValue, ColumnFault, cell_label, cumulation_takes, FaultValue},
+  std.proofs.lemmas.List.{length-append},
   table_meaning.specs.{Table.{Table, column_at}, Value.{Entry, Given, GivenList, NamedGiven}},
-  form_meaning.specs.{Binding.{Bound}, Finish.{finished, default_labels, value_of_column, column_of_value, made_column}, Select.{column_places, labels_of}},
+  call_meaning.specs.Binding.{Bound},
+  form_meaning.specs.{Finish.{finished, default_labels, value_of_column, column_of_value, made_column}, Select.{column_places, labels_of}},
   select_meaning.specs.Select.{shown_as},
   align_meaning.proofs.OrderLaws.{all_in_order, all_distinct},
   group_meaning.specs.{Keys.{KeyRules, is_kept, ordered_if, group_keys}, Rows.{GroupsValue, cells_of_group, rows_of_group}, Reductions.{GroupReduction, earlier, later, group_cell, group_kind, reduced_cells, column_if_taken, reduce_groups, transform_groups, of_group, running_cell, cumsum_groups, group_sizes, group_places}},
-  method_meaning.specs.{Rows.{cells_by_row, labels_in}, Groups.{Grouping, Values, GroupCall, reduced, size, transformed, cumsum, cumcount, row_keys, keys_of, groups_of, each_of, under_keys, key_column, beside_keys, grouped_rows, same_rows, headings_of, group_answer, of_bound, grouping_in, grouping_of, values_named, values_in, group_call_of, grouped_frame, grouped_of, grouped_result}},
-  table_laws.{specs.Validity.{IsValidObject, IsValidEntry}, proofs.{Words.{Keeps, Column, Name, Tuple, Cells, Below, Levelled, IsFrame}, ListLaws.{all_made, all_mapped, all_tabulated, length_tabulate, at_or, then_keeps, any_then, try_keeps, if_keeps}, ColumnLaws.{IsColumn, if_made, Held, wrap_fits, fold_keeps, unless_held, reduction_held, cumulation_held}, TableLaws.{IsShaped, some_labelled, shaped, limited_keeps, column_of_table, series_heading, frame_headings, different, finished_keeps, column_place_found}, ReachLaws.{some_below}, RowLaws.{rows_counted, cells_have}, SetLaws.{length_default, default_levels}, InfixLaws.{gap_held}}},
+  method_meaning.specs.{Rows.{labels_in}, Groups.{Grouping, Values, GroupCall, reduced, size, transformed, cumsum, cumcount, row_keys, keys_of, groups_of, each_of, under_keys, key_column, beside_keys, grouped_rows, same_rows, headings_of, group_answer, of_bound, grouping_in, grouping_of, values_named, values_in, group_call_of, grouped_frame, grouped_of, grouped_result}},
+  table_laws.{specs.Validity.{IsValidObject, IsValidEntry}, proofs.{Words.{AllOf, Keeps, Column, Name, Tuple, Cells, Below, Levelled, IsFrame}, ListLaws.{all_made, all_mapped, all_tabulated, length_tabulate, at_or, then_keeps, any_then, try_keeps, if_keeps}, ColumnLaws.{IsColumn, if_made, Held, wrap_fits, fold_keeps, unless_held, reduction_held, cumulation_held}, TableLaws.{IsShaped, some_labelled, column_of_table, different, column_place_found}, ReachLaws.{some_below}, RowLaws.{cells_have}, SetLaws.{length_default, default_levels}, InfixLaws.{gap_held}}},
 }
 use Rattle.meaning.specs.Reduce as reduction
 use Rattle.meaning.specs.Cumulate as cumulation
@@ -41,14 +41,16 @@ running_held = search (of_group_held, unless_held, cumulation_held, cells_held)
 abbrev Makes : (ColumnValue → Result ColumnValue ColumnFault) → ℕ → ℕ → Type 0
 Makes f rows made = (c : Column) → IsColumn rows c → IfOk (made_column (f (value_of_column c))) (IsColumn made)
 
-if_taken : (op : GroupReduction) (kind : Kind) (cells : Cells) (rows : ℕ) → length cells ≡ rows → All (Held (group_kind op kind)) cells → IfOk (made_column (column_if_taken op kind cells)) (IsColumn rows)
-if_taken = grind arith
+module _ (op : GroupReduction) where
+  if_taken : (kind : Kind) (cells : Cells) (rows : ℕ) → length cells ≡ rows → All (Held (group_kind op kind)) cells → IfOk (made_column (column_if_taken op kind cells)) (IsColumn rows)
+  if_taken = grind arith
 
-reduce_makes : (op : GroupReduction) (g : GroupsValue) (rows : ℕ) → Makes (reduce_groups op g) rows g.count
-reduce_makes op g rows c h = search (if_taken, length_tabulate, reduced_held)
+  module _ (g : GroupsValue) (rows : ℕ) where
+    reduce_makes : Makes (reduce_groups op g) rows g.count
+    reduce_makes c h = search (if_taken, length_tabulate, reduced_held)
 
-transform_makes : (op : GroupReduction) (g : GroupsValue) (rows : ℕ) → length g.codes ≡ rows → Makes (transform_groups op g) rows rows
-transform_makes op g rows as_many c h = search (if_taken, length-map, all_mapped, gap_held, reduced_held)
+    transform_makes : length g.codes ≡ rows → Makes (transform_groups op g) rows rows
+    transform_makes as_many c h = search (if_taken, length-map, all_mapped, gap_held, reduced_held)
 
 cumsum_makes : (g : GroupsValue) (rows : ℕ) → length g.codes ≡ rows → Makes (cumsum_groups g) rows rows
 cumsum_makes g rows as_many c h = search (if_made, length_tabulate, all_tabulated, running_held)
@@ -57,21 +59,19 @@ abbrev AreBelow : Table → List ℕ → Type 0
 AreBelow t places = Below (length t.columns) places
 
 each_makes : (t : Table) (f : ColumnValue → Result ColumnValue ColumnFault) (made : ℕ) → IsShaped t → Makes f (length t.labels) made → (places : List ℕ) → AreBelow t places
-    → IfOk (each_of t f places) (λ columns. (length columns ≡ length places) × All (IsColumn made) columns)
+    → IfOk (each_of t f places) (AllOf (IsColumn made) (length places))
 each_makes t f made s so places below =
     try_keeps (λ place. place < length _) _ (λ place. made_column (f (value_of_column (column_at t.columns place)))) (λ place lt. so (column_at t.columns place) (column_of_table t s place lt)) places below
 
 -- the keys of groups are keys of rows
 
-all_ordered : {K : Type 0} (P : K → Type 0) (sorted : Bool) (less : K → K → Bool) (ks : List K) → All P ks → All P (ordered_if sorted less ks)
-all_ordered P true less ks all = all_in_order P _ ks all
-all_ordered P false less ks all = all
+module _ {K : Type 0} (P : K → Type 0) where
+  all_ordered : (sorted : Bool) (less : K → K → Bool) (ks : List K) → All P ks → All P (ordered_if sorted less ks)
+  all_ordered true less ks all = all_in_order P _ ks all
+  all_ordered false less ks all = all
 
-all_keys : {K : Type 0} (P : K → Type 0) (rules : KeyRules K) (sorted dropna : Bool) (rows : List K) → All P rows → All P (group_keys rules sorted dropna rows)
-all_keys P rules sorted dropna rows all = All-filter (is_kept dropna rules.holds_na) P _ (search (all_ordered, all_distinct))
-
-abbrev Has : ℕ → Tuple → Type 0
-Has n tuple = length tuple ≡ n
+  all_keys : (rules : KeyRules K) (sorted dropna : Bool) (rows : List K) → All P rows → All P (group_keys rules sorted dropna rows)
+  all_keys rules sorted dropna rows all = All-filter (is_kept dropna rules.holds_na) P _ (search (all_ordered, all_distinct))
 
 rows_have : (t : Table) (keys : List ℕ) → Levelled (length keys) (row_keys t keys)
 rows_have t keys =
@@ -79,7 +79,7 @@ rows_have t keys =
     search (all_made, length-map)
 
 codes_counted : (t : Table) (g : Grouping) → length (groups_of t g).codes ≡ length t.labels
-codes_counted t g = length-map (row_keys t g.keys) _ ∙ length-map (cells_by_row t g.keys) _ ∙ rows_counted t _
+codes_counted = grind (arith, length-map, length_tabulate)
 
 -- tables that are shaped but for their headings, which are those of a frame
 
@@ -98,11 +98,12 @@ one_heading : (hs : List Name) → length hs ≡ 1 → (h : Name) × (hs ≡ h �
 one_heading (h ∷ []) e = (h, refl)
 one_heading _ e = grind arith
 
-pub frame_keeps : (t : Table) → IsBody t → AreLabels t.headings → Keeps (finished t)
-frame_keeps t b some = search (finished_keeps, frame_headings, different)
+module _ (t : Table) (b : IsBody t) where
+  pub frame_keeps : AreLabels t.headings → Keeps (finished t)
+  frame_keeps = grind (arith, different)
 
-series_keeps : (t : Table) → IsBody t → length t.headings ≡ 1 → Keeps (shown_as false true t)
-series_keeps = grind (arith, one_heading, limited_keeps, series_heading)
+  series_keeps : length t.headings ≡ 1 → Keeps (shown_as false true t)
+  series_keeps = grind (arith, one_heading)
 
 shown_keeps : (single : Bool) (t : Table) → IsBody t → (single ≡ true → length t.headings ≡ 1) → (single ≡ false → AreLabels t.headings) → Keeps (shown_as false single t)
 shown_keeps single t b one some = grind (arith, series_keeps, frame_keeps)
@@ -120,29 +121,29 @@ pub record AreValues (t : Table) (v : Values) : Type 0 where
 
 -- a row for each group
 
-under_body : (t : Table) (g : Grouping) (hs : List Name) (columns : List Column) → 1 ≤ length g.keys → length g.keys ≤ 4 → length hs ≡ length columns → All (IsColumn (length (keys_of t g))) columns → IsBody (under_keys t g hs columns)
-under_body = search (length-map, all_keys, rows_have)
+module _ (t : Table) (g : Grouping) where
+  under_body : (hs : List Name) (columns : List Column) → 1 ≤ length g.keys → length g.keys ≤ 4 → length hs ≡ length columns → All (IsColumn (length (keys_of t g))) columns → IsBody (under_keys t g hs columns)
+  under_body = search (length-map, all_keys, rows_have)
 
-key_columns_held : (t : Table) (g : Grouping) → IsShaped t → AreBelow t g.keys → All (IsColumn (length (keys_of t g))) (map (key_column t g) g.keys)
-key_columns_held t g s below =
-    all_made (λ place. place < length _) (IsColumn (length (keys_of t g))) _
-    (λ place lt. record {
-      filled = search length_tabulate;
-      held = reduced_held groups.first _ (groups_of t g) _ (column_of_table t s place lt).held;
-    }) g.keys below
+  key_columns_held : IsShaped t → AreBelow t g.keys → All (IsColumn (length (keys_of t g))) (map (key_column t g) g.keys)
+  key_columns_held s below =
+      all_made (λ place. place < length _) (IsColumn (length (keys_of t g))) _
+      (λ place lt. record {
+        filled = search length_tabulate;
+        held = reduced_held groups.first _ (groups_of t g) _ (column_of_table t s place lt).held;
+      }) g.keys below
 
-beside_body : (t : Table) (g : Grouping) (hs : List Name) (columns : List Column) → IsShaped t → AreBelow t g.keys → length hs ≡ length columns → All (IsColumn (length (keys_of t g))) columns → IsBody (beside_keys t g hs columns)
-beside_body t g hs columns s below headed held =
-    let rows : length (keys_of t g) ≡ length (default_labels (length (keys_of t g))) = search length_default in
-    let all = All-append (IsColumn (length (keys_of t g))) (map (key_column t g) g.keys) columns (key_columns_held t g s below) held in
-    grind (arith, default_levels, length-map, length-append)
+  beside_body : (hs : List Name) (columns : List Column) → IsShaped t → AreBelow t g.keys → length hs ≡ length columns → All (IsColumn (length (keys_of t g))) columns → IsBody (beside_keys t g hs columns)
+  beside_body hs columns s below headed held =
+      let rows : length (keys_of t g) ≡ length (default_labels (length (keys_of t g))) = search length_default in
+      let all = All-append (IsColumn (length (keys_of t g))) (map (key_column t g) g.keys) columns (key_columns_held s below) held in
+      grind (arith, default_levels, length-map, length-append)
 
-rows_keep : (t : Table) (g : Grouping) (single : Bool) (hs : List Name) (columns : List Column) → IsShaped t → IsFrame t → IsGrouping t g → length hs ≡ length columns → All (IsColumn (length (keys_of t g))) columns
-    → (single ≡ true → length hs ≡ 1) → (g.as_index ≡ true → single ≡ false → AreLabels hs) → (g.as_index ≡ false → AreLabels hs) → Keeps (grouped_rows t g single hs columns)
-rows_keep t g single hs columns s is k headed held one labels others =
-    if_keeps _ _ _ _
-    (λ e. shown_keeps _ _ (under_body t g hs _ k.some (k.few e) headed held) one (labels e))
-    (λ e. frame_keeps _ (beside_body t g hs _ s k.keys headed held) (All-append IsSome (headings_of t g.keys) hs (some_labelled t s is g.keys k.keys) (others e)))
+  rows_keep : (single : Bool) (hs : List Name) (columns : List Column) → IsShaped t → IsFrame t → IsGrouping t g → length hs ≡ length columns → All (IsColumn (length (keys_of t g))) columns → (single ≡ true → length hs ≡ 1) → (g.as_index ≡ true → single ≡ false → AreLabels hs) → (g.as_index ≡ false → AreLabels hs) → Keeps (grouped_rows t g single hs columns)
+  rows_keep single hs columns s is k headed held one labels others =
+      if_keeps _ _ _ _
+      (λ e. shown_keeps _ _ (under_body hs _ k.some (k.few e) headed held) one (labels e))
+      (λ e. frame_keeps _ (beside_body hs _ s k.keys headed held) (All-append IsSome (headings_of t g.keys) hs (some_labelled t s is g.keys k.keys) (others e)))
 
 one_column : (rows : ℕ) (c : Column) → IsColumn rows c → All (IsColumn rows) (c ∷ [])
 one_column = grind arith
@@ -151,7 +152,7 @@ one_column = grind arith
 
 same_keep : (t : Table) (single : Bool) (hs : List Name) (columns : List Column) → IsShaped t → IsFrame t → length hs ≡ length columns → All (IsColumn (length t.labels)) columns
     → (single ≡ true → length hs ≡ 1) → (single ≡ false → AreLabels hs) → Keeps (same_rows t single hs columns)
-same_keep t single hs columns s is headed held one labels = search shown_keeps
+same_keep = grind (arith, series_keeps, frame_keeps)
 
 module _ (t : Table) (s : IsShaped t) (is : IsFrame t) (g : Grouping) (k : IsGrouping t g) (v : Values) (w : AreValues t v) where
   counted : (columns : List Column) → length columns ≡ length v.places → length (headings_of t v.places) ≡ length columns
@@ -165,17 +166,17 @@ module _ (t : Table) (s : IsShaped t) (is : IsFrame t) (g : Grouping) (k : IsGro
 
   answer_keeps : (call : GroupCall) → Keeps (group_answer t g v call)
   answer_keeps (reduced op) =
-      then_keeps (λ columns. (length columns ≡ length v.places) × All (IsColumn (length (keys_of t g))) columns) _ _ _
+      then_keeps (AllOf (IsColumn (length (keys_of t g))) (length v.places)) _ _ _
       (each_makes t (reduce_groups op (groups_of t g)) _ s (reduce_makes op (groups_of t g) _) v.places w.places)
       (λ columns made. rows_keep t g _ _ _ s is k (counted _ made.0) made.1 single_one (λ _ _. own_labels) (λ _. own_labels))
   answer_keeps size =
       rows_keep t g true _ (column_of_value (group_sizes (groups_of t g)) ∷ []) s is k refl (search (one_column, length_tabulate, all_tabulated, wrap_fits)) (λ _. refl) (λ _ e. cc) (grind arith)
   answer_keeps (transformed op) =
-      then_keeps (λ columns. (length columns ≡ length v.places) × All (IsColumn (length t.labels)) columns) _ _ _
+      then_keeps (AllOf (IsColumn (length t.labels)) (length v.places)) _ _ _
       (each_makes t (transform_groups op (groups_of t g)) _ s (search (transform_makes, codes_counted)) v.places w.places)
       (λ columns made. same_keep t _ _ _ s is (counted _ made.0) made.1 single_one (λ _. own_labels))
   answer_keeps cumsum =
-      then_keeps (λ columns. (length columns ≡ length v.places) × All (IsColumn (length t.labels)) columns) _ _ _
+      then_keeps (AllOf (IsColumn (length t.labels)) (length v.places)) _ _ _
       (each_makes t (cumsum_groups (groups_of t g)) _ s (cumsum_makes (groups_of t g) _ (codes_counted t g)) v.places w.places)
       (λ columns made. same_keep t _ _ _ s is (counted _ made.0) made.1 single_one (λ _. own_labels))
   answer_keeps cumcount =
@@ -197,32 +198,33 @@ pub record AreKeys (t : Table) (as_index : Bool) (keys : List ℕ) : Type 0 wher
   pub some : 1 ≤ length keys
   pub few : as_index ≡ true → length keys ≤ 4
 
-grouping_in_keeps : (t : Table) → IsShaped t → (gs : List Given) → IfOk (grouping_in t gs) (IsGrouping t)
-grouping_in_keeps t s (by ∷ sort ∷ dropna ∷ as_index ∷ []) =
-    let found = places_found t s (labels_in by) in
-    grind (arith, nat_tests)
-grouping_in_keeps t s gs = tt
+module _ (t : Table) (s : IsShaped t) where
+  grouping_in_keeps : (gs : List Given) → IfOk (grouping_in t gs) (IsGrouping t)
+  grouping_in_keeps (by ∷ sort ∷ dropna ∷ as_index ∷ []) =
+      let found = places_found t s (labels_in by) in
+      grind (arith, nat_tests)
+  grouping_in_keeps gs = tt
 
--- the brackets
+  -- the brackets
 
-named_keep : (t : Table) → IsShaped t → (o : Option CellValue) (parts : Option GivenList) → IfOk (values_named t o parts) (AreValues t)
-named_keep t s (Some c) parts =
-    let found = column_place_found t (cell_label c) in
-    grind (arith, s.headed)
-named_keep t s None (Some parts) =
-    let found = places_found t s (labels_of parts) in
-    grind (arith, then_keeps)
-named_keep t s None None = tt
+  named_keep : (o : Option CellValue) (parts : Option GivenList) → IfOk (values_named t o parts) (AreValues t)
+  named_keep (Some c) parts =
+      let found = column_place_found t (cell_label c) in
+      grind (arith, s.headed)
+  named_keep None (Some parts) =
+      let found = places_found t s (labels_of parts) in
+      grind (arith, then_keeps)
+  named_keep None None = tt
 
-values_keep : (t : Table) → IsShaped t → (keys : List ℕ) (brackets : Option Given) → IfOk (values_in t keys brackets) (AreValues t)
-values_keep t s keys None = record { places = some_below _ _; single = λ e. cc }
-values_keep t s keys (Some g) = search named_keep
+  values_keep : (keys : List ℕ) (brackets : Option Given) → IfOk (values_in t keys brackets) (AreValues t)
+  values_keep keys None = record { places = some_below _ _; single = λ e. cc }
+  values_keep keys (Some g) = search named_keep
 
-frame_of_keeps : (t : Table) → IsShaped t → IsFrame t → (by : List NamedGiven) (brackets : Option Given) (name : Text) (gs : List NamedGiven) → Keeps (grouped_frame t by brackets name gs)
-frame_of_keeps t s is by brackets name gs =
-    then_keeps (IsGrouping t) IsValidEntry (grouping_of t by) _ (search (of_bound_keeps, grouping_in_keeps))
-    (λ g k. then_keeps (AreValues t) IsValidEntry (values_in t g.keys brackets) _ (values_keep t s g.keys brackets)
-    (λ v w. any_then IsValidEntry (group_call_of name gs) _ (answer_keeps t s is g k v w)))
+  frame_of_keeps : IsFrame t → (by : List NamedGiven) (brackets : Option Given) (name : Text) (gs : List NamedGiven) → Keeps (grouped_frame t by brackets name gs)
+  frame_of_keeps is by brackets name gs =
+      then_keeps (IsGrouping t) IsValidEntry (grouping_of t by) _ (search (of_bound_keeps, grouping_in_keeps))
+      (λ g k. then_keeps (AreValues t) IsValidEntry (values_in t g.keys brackets) _ (values_keep g.keys brackets)
+      (λ v w. any_then IsValidEntry (group_call_of name gs) _ (answer_keeps t s is g k v w)))
 
 grouped_of_keeps : (shape : Shape) (t : Table) → IsShaped t → t.shape ≡ shape → (by : List NamedGiven) (brackets : Option Given) (name : Text) (gs : List NamedGiven) → Keeps (grouped_of shape t by brackets name gs)
 grouped_of_keeps Series t s is by brackets name gs = tt
@@ -230,4 +232,4 @@ grouped_of_keeps Frame t s is by brackets name gs = search frame_of_keeps
 
 -- a call behind `groupby`
 pub grouped_result_keeps : (v : Entry) (by : List NamedGiven) (brackets : Option Given) (name : Text) (gs : List NamedGiven) → IsValidObject v → Keeps (grouped_result v by brackets name gs)
-grouped_result_keeps = grind (arith, grouped_of_keeps, shaped)
+grouped_result_keeps = grind (arith, grouped_of_keeps)

@@ -1,19 +1,11 @@
 -- Operators make valid tables of valid values.
 use Rattle.{
-  std.{proofs.{Common.{◌≡◌, ◌∙◌, refl, ap, sym, subst, ℕ, suc, List, [], ◌∷◌, length, arith, ◌≢◌, pos, map}, lemmas.List.{length-map, get_or-map, Elements.{All-head, All-tail}}}, specs.{Prelude.{replicate, Bool, true, false, if◌then◌else◌, Option, Some, None, Result, Ok, Err, IfOk, All, unwrap_or, IsSome}, Bool.{Decides}, Cmp.Lexicographic.{pointwise_decides, as_long}}},
-  cell_core.specs.declared.grid.Shape.{Shape, TheVariants.{Series, Frame}},
-  meaning.specs.{Cell.{CellValue, na_cell, Kind, int}, Column.{gap_cell, taken}, Symbol.{Binary}, Fault.{FaultValue, bad_value, not_aligned, then_value}},
+  meaning.proofs.Common.{◌≡◌, ◌∙◌, refl, ap, sym, subst, ℕ, suc, List, [], ◌∷◌, length, arith, ◌≢◌, pos, map, length-map, get_or-map, All-head, All-tail, replicate, Bool, true, false, if◌then◌else◌, Option, Some, None, Result, Ok, Err, IfOk, All, unwrap_or, IsSome, Decides, pointwise_decides, as_long, Shape, Series, Frame, CellValue, na_cell, Kind, int, gap_cell, taken, Binary, FaultValue, bad_value, not_aligned, then_value},
   align_meaning.{specs.Faults.{AlignRefusal, met_rows}, proofs.{DifferLaws.{joined_apart}, InsideLaws.{IsRowOf, AreInside, joined_inside}}},
   table_meaning.specs.{Table.{Table, column_at}, Valid.{IsValid, within_limits}, Value.{Entry, cell, table}},
   form_meaning.specs.{Finish.{same_heading, with_columns, column_labels, first_repeated, column_of_value}, Infix.{Meeting, met, infix_table, with_scalar, beside, across, turned, scalar_infix, on_levels, same_tuple, are_headings, same_count, common_name, common_names, first_heading, Joined, joined_rows, on_rows, with_joined, joined_infix, unequal_infix, rows_infix, series_infix, common_infix, unequal_columns, wide_infix, joined_frames, frame_infix, spread_frame, joined_turned, across_unequal, across_infix, table_infix, infix_result, inverted_column, inverted, sign_result, tuple_heading, column_or_missing, columns_or_missing, on_columns, spread, spread_series}},
-  table_laws.{specs.Validity.{IsValidObject, IsValidEntry}, proofs.{Words.{Keeps, Column, Name, Tuple, Cells, IsFrame, IsSeries, Apart, Levelled}, ListLaws.{both_true, all_made, all_mapped, at_or, then_keeps, try_keeps}, ColumnLaws.{columns_meet, side, IsColumn, IsMeeting, met_keeps, scalar_meets, inverted_keeps, spread_column, Held, na_held}, TableLaws.{IsShaped, shaped, valid, with_columns_shaped, column_of_table, series_heading, frame_headings, one_column, label_decides, different}}},
+  table_laws.{specs.Validity.{IsValidObject, IsValidEntry}, proofs.{Words.{Has, AllOf, Keeps, Column, Name, Tuple, Cells, IsFrame, IsSeries, Apart, Levelled}, ListLaws.{both_true, all_made, all_mapped, at_or, try_keeps}, ColumnLaws.{columns_meet, side, IsColumn, IsMeeting, met_keeps, scalar_meets, inverted_keeps, spread_column, Held, na_held}, TableLaws.{IsShaped, shaped, column_of_table, series_heading, frame_headings, one_column, label_decides, different}}},
 }
-
--- frames under joined labels of columns
-module _ {X : Type 0} where
-  abbrev head_or : X → List X → X
-  head_or d [] = d
-  head_or d (x ∷ xs) = x
 
 -- tuples of equal labels are the same
 pub tuple_decides : (a b : Tuple) → Decides (same_tuple a b) (a ≡ b)
@@ -42,11 +34,8 @@ heading_some : (tuple : Tuple) → length tuple ≡ 1 → IsSome (tuple_heading 
 heading_some = grind arith
 
 heading_apart : (s t : Tuple) → length s ≡ 1 → length t ≡ 1 → s ≢ t → tuple_heading s ≢ tuple_heading t
-heading_apart [] t = grind arith
-heading_apart (l ∷ m ∷ ls) t = grind arith
-heading_apart (l ∷ []) [] = grind arith
 heading_apart (l ∷ []) (k ∷ []) = grind arith
-heading_apart (l ∷ []) (k ∷ m ∷ ms) = grind arith
+heading_apart _ _ = grind arith
 
 keys_apart : (keys : List Tuple) → Levelled 1 keys → Apart keys → Apart (map tuple_heading keys)
 keys_apart keys single apart =
@@ -85,7 +74,7 @@ pub spread_shaped : (f s : Table) → IsShaped f → IsShaped s → IsFrame f �
 spread_shaped f s h k is is' one none =
     let held : All (Held (column_at s.columns 0).kind) (column_at s.columns 0).cells = grind (arith, column_of_table) in
     let columns = all_made _ (IsColumn (length f.labels)) (λ x. column_of_value (spread (column_at s.columns 0).kind (length f.labels) x)) (λ x held. spread_column _ _ x held) (column_at s.columns 0).cells held in
-    let some : All IsSome (map tuple_heading s.labels) = all_made (λ tuple. length tuple ≡ 1) IsSome tuple_heading heading_some s.labels (grind arith) in
+    let some : All IsSome (map tuple_heading s.labels) = all_made (Has 1) IsSome tuple_heading heading_some s.labels (grind arith) in
     grind (arith, length-map, frame_headings, different)
 
 -- operators
@@ -95,9 +84,9 @@ record AreMeetings (t : Table) (meetings : List Meeting) : Type 0 where
   each : All (IsMeeting (length t.labels)) meetings
 
 columns_keep : (t : Table) → IsShaped t → (rows : Result (List Column) FaultValue) (count : ℕ) → count ≡ length t.columns → within_limits (length t.labels) count ≡ true
-    → IfOk rows (λ columns. (length columns ≡ count) × All (IsColumn (length t.labels)) columns)
+    → IfOk rows (AllOf (IsColumn (length t.labels)) count)
     → Keeps (then_value rows (λ columns. Ok (table (with_columns t columns))))
-columns_keep t s rows count size within h = grind (arith, then_keeps, valid, with_columns_shaped)
+columns_keep = grind arith
 
 infix_keeps : (op : Binary) (t : Table) (meetings : List Meeting) → IsShaped t → AreMeetings t meetings → Keeps (infix_table op t meetings)
 infix_keeps op t meetings s m =
@@ -119,27 +108,18 @@ scalar_keeps op left t c v =
 
 length_beside : (as' bs : List Column) → length as' ≡ length bs → length (beside as' bs) ≡ length as'
 length_beside [] bs e = grind arith
-length_beside (a ∷ as') [] e = search
-length_beside (a ∷ as') (b ∷ bs) e = ap suc (length_beside as' bs (omega arith))
+length_beside (a ∷ as') bs e = grind (arith, length_beside as')
 
 beside_meet : (rows : ℕ) (as' bs : List Column) → All (IsColumn rows) as' → All (IsColumn rows) bs → All (IsMeeting rows) (beside as' bs)
-beside_meet rows (a ∷ as') (b ∷ bs) h k =
-    let first = columns_meet rows a b (All-head (IsColumn rows) a as' h) (All-head (IsColumn rows) b bs k) in
-    let rest = beside_meet rows as' bs (All-tail (IsColumn rows) a as' h) (All-tail (IsColumn rows) b bs k) in
-    grind arith
+beside_meet rows (a ∷ as') (b ∷ bs) h k = grind (arith, columns_meet rows a b, beside_meet rows as' bs (All-tail (IsColumn rows) a as' h) (All-tail (IsColumn rows) b bs k), h 0 a, k 0 b)
 beside_meet rows _ _ h k = grind arith
 
 length_across : (count : ℕ) (kind : Kind) (as' : List Column) (cells : Cells) → length as' ≡ length cells → length (across count kind as' cells) ≡ length as'
-length_across count kind [] cells e = refl
-length_across count kind (a ∷ as') [] e = search
 length_across count kind (a ∷ as') (c ∷ cs) e = ap suc (length_across _ _ as' cs (omega arith))
+length_across count kind _ _ e = grind arith
 
 across_meet : (rows : ℕ) (kind : Kind) (as' : List Column) (cells : Cells) → All (IsColumn rows) as' → All (Held kind) cells → All (IsMeeting rows) (across rows kind as' cells)
-across_meet rows kind (a ∷ as') (c ∷ cs) h k =
-    let first = side rows a.kind a.cells (All-head (IsColumn rows) a as' h) in
-    let second = side rows kind (replicate rows c) (spread_column kind rows c (All-head (Held kind) c cs k)) in
-    let rest = across_meet rows kind as' cs (All-tail (IsColumn rows) a as' h) (All-tail (Held kind) c cs k) in
-    grind arith
+across_meet rows kind (a ∷ as') (c ∷ cs) h k = grind (arith, side rows a.kind a.cells, side rows kind (replicate rows c), spread_column kind rows c, across_meet rows kind as' cs (All-tail (IsColumn rows) a as' h) (All-tail (Held kind) c cs k), h 0 a, k 0 c)
 across_meet rows kind _ _ h k = grind arith
 
 levels_keep : (kinds equal : Bool) (rest : Result Entry FaultValue) → Keeps rest → Keeps (on_levels kinds equal rest)
@@ -168,9 +148,8 @@ columns_on n count rows cs same h =
     (λ c k. record { filled = search length-map; held = search (all_mapped, gap_held) }) cs h
 
 length_names : (as' bs : List Name) → length as' ≡ length bs → length (common_names as' bs) ≡ length as'
-length_names [] bs e = refl
-length_names (a ∷ as') [] e = search
 length_names (a ∷ as') (b ∷ bs) e = ap suc (length_names as' bs (omega arith))
+length_names _ _ e = grind arith
 
 length_count : {A B : Type 0} (as' : List A) (bs : List B) → same_count as' bs ≡ true → length as' ≡ length bs
 length_count [] [] e = refl
@@ -181,71 +160,69 @@ met_is : (r : Result Joined (AlignRefusal Tuple)) (rows : Joined) → met_rows r
 met_is = grind arith
 
 -- Two tables whose columns meet in order, and the frame of the answer.
-module _ (op : Binary) (a b t : Table) (s : IsShaped a) (r : IsShaped b) (frame : IsShaped t) (columns : length t.columns ≡ length a.columns) (columns' : length a.columns ≡ length b.columns) (levels : length a.level_names ≡ length b.level_names) where
-  module _ (rows : Joined) (inside : AreInside (λ tuple. length tuple ≡ length a.level_names) (length a.labels) (length b.labels) rows) where
-    abbrev left : List Column
-    left = on_rows na_cell rows.left a.columns
+module _ (op : Binary) (a b : Table) where
+  module _ (t : Table) (s : IsShaped a) (r : IsShaped b) (frame : IsShaped t) (columns : length t.columns ≡ length a.columns) (columns' : length a.columns ≡ length b.columns) (levels : length a.level_names ≡ length b.level_names) where
+    module _ (rows : Joined) (inside : AreInside (Has (length a.level_names)) (length a.labels) (length b.labels) rows) where
+      abbrev left : List Column
+      left = on_rows na_cell rows.left a.columns
 
-    abbrev right : List Column
-    right = on_rows na_cell rows.right b.columns
+      abbrev right : List Column
+      right = on_rows na_cell rows.right b.columns
 
-    -- the answer is that of a table on these rows
-    abbrev on_these : Table
-    on_these = with_columns (with_joined a b t rows) left
+      -- the answer is that of a table on these rows
+      abbrev on_these : Table
+      on_these = with_columns (with_joined a b t rows) left
 
-    size : length left ≡ length a.columns
-    size = length-map a.columns _
+      size : length left ≡ length a.columns
+      size = length-map a.columns _
 
-    many : length left ≡ length right
-    many = search (size, length-map)
+      many : length left ≡ length right
+      many = search (size, length-map)
 
-    names : length (common_names a.level_names b.level_names) ≡ length a.level_names
-    names = search length_names
+      names : length (common_names a.level_names b.level_names) ≡ length a.level_names
+      names = search length_names
 
-    joined_shaped : IsShaped on_these
-    joined_shaped = record {
-      some = search names;
-      few = search names;
-      levels = grind (arith, names);
-      headed = search size;
-      columns = search columns_on;
-      headings = frame.headings;
-    }
+      joined_shaped : IsShaped on_these
+      joined_shaped = record {
+        some = search names;
+        few = search names;
+        levels = grind (arith, names);
+        headed = search size;
+        columns = search columns_on;
+        headings = frame.headings;
+      }
 
-    joined_keep : Keeps (joined_infix op a b t rows)
-    joined_keep =
-        infix_keeps op _ _ joined_shaped record {
-          count = length_beside left right many;
-          each = search (beside_meet, columns_on);
-        }
+      joined_keep : Keeps (joined_infix op a b t rows)
+      joined_keep =
+          infix_keeps op _ _ joined_shaped record {
+            count = length_beside left right many;
+            each = search (beside_meet, columns_on);
+          }
 
-  unequal_keep : Keeps (unequal_infix op a b t)
-  unequal_keep = by _ _ refl
+    unequal_keep : Keeps (unequal_infix op a b t)
+    unequal_keep = by _ _ refl
+      where
+        by : (c : Bool) (met : Result Joined FaultValue) → joined_rows a.labels b.labels ≡ met → Keeps (if c then Err (bad_value not_aligned) else then_value met (joined_infix op a b t))
+        by true met e = tt
+        by false (Err fault) e = tt
+        by false (Ok rows) e =
+            joined_keep _ (joined_inside (Has (length _)) _ _ _ _ s.levels
+            (grind arith) rows (met_is _ _ e))
+
+  rows_keep : (t : Table) → IsShaped a → IsShaped b → IsShaped t → length t.labels ≡ length a.labels → length t.columns ≡ length a.columns → length a.columns ≡ length b.columns → Keeps (rows_infix op a b t)
+  rows_keep = grind (arith, infix_keeps, beside_meetings, as_long, unequal_keep, length_count)
+
+  series_keep : IsShaped a → IsShaped b → IsSeries a → IsSeries b → Keeps (series_infix op a b)
+  series_keep s r is is' = rows_keep t s r fits refl refl (one_column a s is ∙ sym (one_column b r is'))
     where
-      by : (c : Bool) (met : Result Joined FaultValue) → joined_rows a.labels b.labels ≡ met → Keeps (if c then Err (bad_value not_aligned) else then_value met (joined_infix op a b t))
-      by true met e = tt
-      by false (Err fault) e = tt
-      by false (Ok rows) e =
-          joined_keep _ (joined_inside (λ tuple. length tuple ≡ length _) _ _ _ _ s.levels
-          (grind arith) rows (met_is _ _ e))
+      t : Table
+      t = record a { headings = common_name (first_heading a.headings) (first_heading b.headings) ∷ [] }
 
-rows_keep : (op : Binary) (a b t : Table) → IsShaped a → IsShaped b → IsShaped t → length t.labels ≡ length a.labels → length t.columns ≡ length a.columns → length a.columns ≡ length b.columns
-    → Keeps (rows_infix op a b t)
-rows_keep = grind (arith, infix_keeps, beside_meetings, as_long, unequal_keep, length_count)
-
-series_keep : (op : Binary) (a b : Table) → IsShaped a → IsShaped b → IsSeries a → IsSeries b → Keeps (series_infix op a b)
-series_keep op a b s r is is' = rows_keep op a b t s r fits refl refl (one_column a s is ∙ sym (one_column b r is'))
-  where
-    t : Table
-    t = record a { headings = common_name (first_heading a.headings) (first_heading b.headings) ∷ [] }
-
-    fits : IsShaped t
-    fits = grind (arith, series_heading)
+      fits : IsShaped t
+      fits = grind (arith, series_heading)
 
 common_keep : (op : Binary) (a b : Table) → IsShaped a → IsShaped b → IsFrame a → length a.columns ≡ length b.columns → Keeps (common_infix op a b)
-common_keep op a b s r is columns =
-    let fits : IsShaped record a { columns_name = common_name a.columns_name b.columns_name } = grind (arith, frame_headings) in
-    rows_keep op a b _ s r fits refl refl columns
+common_keep op a b s r is columns = rows_keep op a b _ s r (grind (arith, frame_headings)) refl refl columns
 
 unequal_columns_keep : (op : Binary) (a b : Table) → IsShaped a → IsShaped b → IsFrame a → length a.columns ≡ length b.columns → Keeps (unequal_columns op a b)
 unequal_columns_keep = grind (arith, common_keep)
@@ -257,41 +234,44 @@ wide_keep op a b s r is is' = by _ refl
     by (Err fault) e = tt
     by (Ok j) e =
         let joined = met_is _ j e in
-        let inside = joined_inside (λ tuple. length tuple ≡ 1) _ _ _ _ (labels_single a) (labels_single b) j joined in
+        let inside = joined_inside (Has 1) _ _ _ _ (labels_single a) (labels_single b) j joined in
         let apart = joined_apart _ _ tuple_decides _ _ (labels_apart a s is) (labels_apart b r is') j joined in
         let lefts = subst (λ n. All (IsRowOf n) j.left) (labels_many a s) inside.left in
         let rights = subst (λ n. All (IsRowOf n) j.right) (labels_many b r) inside.right in
         search (unequal_columns_keep, wide_shaped, length_wide)
 
-frames_keep : (op : Binary) (a b : Table) → IsShaped a → IsShaped b → IsFrame a → IsFrame b → Keeps (frame_infix op a b)
-frames_keep = grind (arith, common_keep, as_long, wide_keep)
+module _ (op : Binary) where
+  frames_keep : (a b : Table) → IsShaped a → IsShaped b → IsFrame a → IsFrame b → Keeps (frame_infix op a b)
+  frames_keep = grind (arith, common_keep, as_long, wide_keep)
 
-turned_keep : (op : Binary) (left : Bool) (f g : Table) → IsShaped f → IsShaped g → IsFrame f → IsFrame g → Keeps (joined_turned op left f g)
-turned_keep = grind (arith, wide_keep)
+  module _ (left : Bool) where
+    turned_keep : (f g : Table) → IsShaped f → IsShaped g → IsFrame f → IsFrame g → Keeps (joined_turned op left f g)
+    turned_keep = grind (arith, wide_keep)
 
-spread_keep : (op : Binary) (left : Bool) (f s : Table) → IsShaped f → IsShaped s → IsFrame f → IsSeries s → length s.level_names ≡ 1 → Keeps (then_value (spread_frame f s) (joined_turned op left f))
-spread_keep = grind (arith, turned_keep, spread_shaped)
+    module _ (f s : Table) (h : IsShaped f) (k : IsShaped s) where
+      spread_keep : IsFrame f → IsSeries s → length s.level_names ≡ 1 → Keeps (then_value (spread_frame f s) (joined_turned op left f))
+      spread_keep = grind (arith, turned_keep, spread_shaped)
 
-across_unequal_keep : (op : Binary) (left : Bool) (f s : Table) → IsShaped f → IsShaped s → IsFrame f → IsSeries s → Keeps (across_unequal op left f s)
-across_unequal_keep op left f s h k is is' = grind (arith, spread_keep)
+      across_unequal_keep : IsFrame f → IsSeries s → Keeps (across_unequal op left f s)
+      across_unequal_keep is is' = grind (arith, spread_keep)
 
-across_keep : (op : Binary) (left : Bool) (f s : Table) → IsShaped f → IsShaped s → IsFrame f → IsSeries s → Keeps (across_infix op left f s)
-across_keep op left f s h k is' is =
-    let series : IsColumn (length s.labels) (column_at s.columns 0) = column_of_table s k 0 (grind (arith, one_column)) in
-    let met = across_meet (length f.labels) (column_at s.columns 0).kind f.columns (column_at s.columns 0).cells h.columns series.held in
-    grind (arith, levels_keep, infix_keeps, turned_meet, length_across, length_labels, across_unequal_keep)
+      across_keep : IsFrame f → IsSeries s → Keeps (across_infix op left f s)
+      across_keep is' is =
+          let series : IsColumn (length s.labels) (column_at s.columns 0) = column_of_table s k 0 (grind (arith, one_column)) in
+          let met = across_meet (length f.labels) (column_at s.columns 0).kind f.columns (column_at s.columns 0).cells h.columns series.held in
+          grind (arith, levels_keep, infix_keeps, turned_meet, length_across, length_labels, across_unequal_keep)
 
-tables_keep : (op : Binary) (p q : Shape) (a b : Table) → IsShaped a → IsShaped b → a.shape ≡ p → b.shape ≡ q → Keeps (table_infix op p q a b)
-tables_keep op Series Series a b s r is is' = series_keep op a b s r is is'
-tables_keep op Frame Frame a b s r is is' = frames_keep op a b s r is is'
-tables_keep op _ _ a b s r is is' = search across_keep
+  tables_keep : (p q : Shape) (a b : Table) → IsShaped a → IsShaped b → a.shape ≡ p → b.shape ≡ q → Keeps (table_infix op p q a b)
+  tables_keep Series Series a b s r is is' = series_keep op a b s r is is'
+  tables_keep Frame Frame a b s r is is' = frames_keep a b s r is is'
+  tables_keep _ _ a b s r is is' = search across_keep
 
--- an operator on two values
-pub infix_result_keeps : (op : Binary) (v w : Entry) → IsValidObject v → IsValidObject w → IfOk (infix_result op v w) IsValidEntry
-infix_result_keeps op (cell a) (cell b) h k = tt
-infix_result_keeps op (cell a) (table t) h k = scalar_keeps op true t a k
-infix_result_keeps op (table t) (cell b) h k = scalar_keeps op false t b h
-infix_result_keeps op (table a) (table b) h k = search (tables_keep, shaped)
+  -- an operator on two values
+  pub infix_result_keeps : (v w : Entry) → IsValidObject v → IsValidObject w → IfOk (infix_result op v w) IsValidEntry
+  infix_result_keeps (cell a) (cell b) h k = tt
+  infix_result_keeps (cell a) (table t) h k = scalar_keeps op true t a k
+  infix_result_keeps (table t) (cell b) h k = scalar_keeps op false t b h
+  infix_result_keeps (table a) (table b) h k = search (tables_keep, shaped)
 
 inverted_table : (t : Table) → IsValid t → Keeps (inverted (table t))
 inverted_table t v =

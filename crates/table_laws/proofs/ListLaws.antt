@@ -1,8 +1,9 @@
 -- Laws of lists, and of what is made of them one by one.
 use Rattle.{
-  std.{proofs.{Common.{◌≡◌, refl, ap, ℕ, zero, suc, List, [], ◌∷◌, length, map, arith, take, drop}, lemmas.{Bool.{eqb-true}, List.{length-set, length-append, FromFn.{length-map-range_with_len}, Elements.{All-nil, All-cons, All-head, All-tail, All-set, All-push, All-append, All-take, All-drop}}}}, specs.{Prelude.{Bool, true, false, ◌&&◌, if◌then◌else◌, remove, slice_index_or, Option, Result, Err, IfOk, IfSome, All}, List.{list_all}}},
-  meaning.specs.{Fault.{FaultValue, then_value}, Column.{tabulate, then_rows, try_each, try_pairs}},
+  meaning.proofs.Common.{◌≡◌, refl, ℕ, zero, suc, List, [], ◌∷◌, length, map, arith, take, drop, eqb-true, cases_lt, length-set, get_or_past, length-map-range_with_len, All-map, All-nil, All-head, All-tail, All-set, All-push, All-append, All-take, All-drop, Bool, true, false, ◌&&◌, if◌then◌else◌, remove, slice_index_or, Option, Result, Err, IfOk, IfSome, All, list_all, FaultValue, then_value, tabulate, then_rows, try_each, try_pairs},
+  std.proofs.lemmas.List.{length-append},
   table_meaning.specs.Change.{put_at},
+  table_laws.proofs.Words.{AllOf},
   form_meaning.specs.{Finish.{try_all}, Set.{of_length}, Make.{on}},
 }
 
@@ -19,8 +20,7 @@ all_pass p (x ∷ xs) e = grind (arith, both_true, all_pass p xs (both_true (p x
 
 -- what a function makes of each
 pub all_made : {X Y : Type 0} (P : X → Type 0) (Q : Y → Type 0) (f : X → Y) → ((x : X) → P x → Q (f x)) → (xs : List X) → All P xs → All Q (map f xs)
-all_made P Q f so [] h = All-nil Q
-all_made P Q f so (x ∷ xs) h = All-cons Q (f x) (map f xs) (so x (All-head P x xs h)) (all_made P Q f so xs (All-tail P x xs h))
+all_made P Q f so xs h = All-map Q f xs (λ k d lt. so _ (h k d lt))
 
 -- what a function makes of any
 pub all_mapped : {X Y : Type 0} (Q : Y → Type 0) (f : X → Y) → ((x : X) → Q (f x)) → (xs : List X) → All Q (map f xs)
@@ -34,9 +34,7 @@ length_tabulate count f = length-map-range_with_len f 0 _
 
 -- an element, or what stands for one that is missing
 pub at_or : {X : Type 0} (P : X → Type 0) (xs : List X) (k : ℕ) (d : X) → P d → All P xs → P (slice_index_or xs k d)
-at_or P [] k d none h = none
-at_or P (x ∷ xs) zero d none h = All-head P x xs h
-at_or P (x ∷ xs) (suc k) d none h = at_or P xs k d none (All-tail P x xs h)
+at_or P xs k d none h = grind (arith, cases_lt k (length xs), get_or_past)
 
 -- the value goes on
 pub then_keeps : {A B : Type 0} (P : A → Type 0) (Q : B → Type 0) (r : Result A FaultValue) (go : A → Result B FaultValue) → IfOk r P → ((a : A) → P a → IfOk (go a) Q) → IfOk (then_value r go) Q
@@ -47,12 +45,13 @@ pub any_then : {A B : Type 0} (Q : B → Type 0) (r : Result A FaultValue) (go :
 any_then Q = grind arith
 
 -- what a test says
-pub if_keeps : {A : Type 0} (P : A → Type 0) (b : Bool) (x y : Result A FaultValue) → (b ≡ true → IfOk x P) → (b ≡ false → IfOk y P) → IfOk (if b then x else y) P
-if_keeps P = grind arith
+module _ {A : Type 0} (P : A → Type 0) where
+  pub if_keeps : (b : Bool) (x y : Result A FaultValue) → (b ≡ true → IfOk x P) → (b ≡ false → IfOk y P) → IfOk (if b then x else y) P
+  if_keeps = grind arith
 
--- a test that must pass
-pub where_keeps : {A : Type 0} (P : A → Type 0) (b : Bool) (x : Result A FaultValue) (fault : FaultValue) → (b ≡ true → IfOk x P) → IfOk (if b then x else Err fault) P
-where_keeps P = grind arith
+  -- a test that must pass
+  pub where_keeps : (b : Bool) (x : Result A FaultValue) (fault : FaultValue) → (b ≡ true → IfOk x P) → IfOk (if b then x else Err fault) P
+  where_keeps = grind arith
 
 -- what follows where something is given
 pub on_some_keeps : {A B : Type 0} (P : A → Type 0) (Q : B → Type 0) (o : Option A) (go : A → Result B FaultValue) → IfSome o P → ((a : A) → P a → IfOk (go a) Q) → IfOk (on o go) Q
@@ -63,31 +62,26 @@ on_keeps P = grind arith
 
 -- what is made of each of them, where all are
 pub try_keeps : {A B : Type 0} (P : A → Type 0) (Q : B → Type 0) (f : A → Result B FaultValue) → ((a : A) → P a → IfOk (f a) Q) → (xs : List A) → All P xs
-    → IfOk (try_all f xs) (λ ys. (length ys ≡ length xs) × All Q ys)
+    → IfOk (try_all f xs) (AllOf Q (length xs))
 try_keeps P Q f so [] h = (refl, All-nil Q)
-try_keeps P Q f so (x ∷ xs) h =
-    then_keeps Q (λ ys. (length ys ≡ suc (length xs)) × All Q ys) _ _ (so x (All-head P x xs h))
-    (λ y first. then_keeps (λ ys. (length ys ≡ length xs) × All Q ys) (λ ys. (length ys ≡ suc (length xs)) × All Q ys) _ _ (try_keeps P Q f so xs (All-tail P x xs h))
-    (λ ys rest. (ap suc rest.0, grind arith)))
+try_keeps P Q f so (x ∷ xs) h = grind (arith, so x (All-head P x xs h), try_keeps P Q f so xs (All-tail P x xs h))
 
-rows_keep : {C : Type 0} (Q : C → Type 0) (n : ℕ) (o : Option C) (row : ℕ) (rest : Result (List C) ℕ) → IfSome o Q → IfOk rest (λ cs. (length cs ≡ n) × All Q cs)
-    → IfOk (then_rows o row rest) (λ cs. (length cs ≡ suc n) × All Q cs)
+rows_keep : {C : Type 0} (Q : C → Type 0) (n : ℕ) (o : Option C) (row : ℕ) (rest : Result (List C) ℕ) → IfSome o Q → IfOk rest (AllOf Q n)
+    → IfOk (then_rows o row rest) (AllOf Q (suc n))
 rows_keep Q = grind arith
 
 -- rows that are made of rows
 pub each_keeps : {A C : Type 0} (P : A → Type 0) (Q : C → Type 0) (f : A → Option C) → ((a : A) → P a → IfSome (f a) Q) → (row : ℕ) (xs : List A) → All P xs
-    → IfOk (try_each f row xs) (λ cs. (length cs ≡ length xs) × All Q cs)
+    → IfOk (try_each f row xs) (AllOf Q (length xs))
 each_keeps P Q f so row [] h = (refl, All-nil Q)
-each_keeps P Q f so row (x ∷ xs) h = rows_keep Q _ _ _ _ (so x (All-head P x xs h)) (each_keeps P Q f so (suc row) xs (All-tail P x xs h))
+each_keeps P Q f so row (x ∷ xs) h = grind (arith, so x (All-head P x xs h), each_keeps P Q f so (suc row) xs (All-tail P x xs h))
 
 -- rows that are made of two rows side by side, of which there are as many
 pub pairs_keep : {A B C : Type 0} (P : A → Type 0) (R : B → Type 0) (Q : C → Type 0) (f : A → B → Option C) → ((a : A) (b : B) → P a → R b → IfSome (f a b) Q)
     → (row n : ℕ) (xs : List A) (ys : List B) → length xs ≡ n → length ys ≡ n → All P xs → All R ys
-    → IfOk (try_pairs f row xs ys) (λ cs. (length cs ≡ n) × All Q cs)
+    → IfOk (try_pairs f row xs ys) (AllOf Q n)
 pairs_keep P R Q f so row zero [] [] e g h k = (refl, All-nil Q)
-pairs_keep P R Q f so row (suc n) (x ∷ xs) (y ∷ ys) e g h k =
-    rows_keep Q n _ _ _ (so x y (All-head P x xs h) (All-head R y ys k))
-    (pairs_keep P R Q f so (suc row) n xs ys (omega arith) (omega arith) (All-tail P x xs h) (All-tail R y ys k))
+pairs_keep P R Q f so row (suc n) (x ∷ xs) (y ∷ ys) e g h k = grind (arith, so x y (All-head P x xs h) (All-head R y ys k), pairs_keep P R Q f so (suc row) n xs ys (omega arith) (omega arith) (All-tail P x xs h) (All-tail R y ys k))
 pairs_keep P R Q f so row n xs ys e g h k = grind arith
 
 -- an item that is put at a place, or last

@@ -1,12 +1,12 @@
 -- The constructors make valid tables.
 use Rattle.{
-  std.{proofs.{Common.{◌≡◌, ◌≢◌, refl, sym, subst, ℕ, ◌≤◌, List, [], ◌∷◌, length, map, arith}, lemmas.{Bool.Decides.{nat_tests}, List.{length-map, length-replicate, Elements.{All-nil, All-cons, All-head, All-tail}, Kept.{AllPairs-cons}}}}, specs.Prelude.{Option, Some, None, Result, IfOk, All}},
-  meaning.specs.{Text.{Text}, Cell.{LabelValue, Kind}, Fault.{FaultValue}},
+  meaning.proofs.Common.{◌≡◌, ◌≢◌, refl, sym, subst, ℕ, ◌≤◌, List, [], ◌∷◌, length, map, arith, nat_tests, length-map, length-replicate, All-nil, All-tail, AllPairs-cons, Option, Some, None, Result, IfOk, All, Text, LabelValue, Kind, FaultValue},
   table_meaning.specs.Value.{Entry, Given, GivenList, GivenPairs, NamedGiven, no_entries, more_entries, list_in},
-  form_meaning.{specs.{declared.Function.{Function}, Signature.{function_parameters}, Binding.{Bound, bound, argument_at, bound_of, on_bound}, Finish.{limited}, Select.{cells_of}, Set.{list_column}, Make.{index_labels, level_count, nameless, AreAlike, few_levels, with_index, series_table, frame_table, series_of, series_result, with_pair, pairs_onto, cells_given, all_of_length, labels_given, frame_with, frame_of, frame_result}, Functions.{constructed, made_named, make_result}}, proofs.{BoundLaws.{bound_list}, IndexLaws.{GivesAlike, index_taken}}},
-  table_laws.{specs.Validity.{IsValidEntry}, proofs.{Words.{Keeps, Column, Name, Tuple, Apart, Levelled}, ListLaws.{all_made, all_mapped, then_keeps, try_keeps, of_length_keeps, on_keeps}, ColumnLaws.{IsColumn, list_keeps, cast_to_keeps}, TableLaws.{IsShaped, limited_keeps, series_heading, frame_headings, label_decides}, SetLaws.{length_default, default_levels}}},
+  call_meaning.{specs.{Signature.{function_parameters}, Binding.{Bound, bound, argument_at, bound_of, on_bound}, Functions.{constructed, make_result}}, proofs.{BoundLaws.{bound_list}, IndexLaws.{GivesAlike, index_taken}}},
+  form_meaning.specs.{Finish.{limited}, Select.{cells_of}, Set.{list_column}, Make.{index_labels, level_count, nameless, AreAlike, few_levels, with_index, series_table, frame_table, series_of, series_result, with_pair, pairs_onto, cells_given, all_of_length, labels_given, frame_with, frame_of, frame_result}},
+  table_laws.{specs.Validity.{IsValidEntry}, proofs.{Words.{Keeps, Column, Name, Tuple, Apart, Levelled}, ListLaws.{all_made, all_mapped, then_keeps, try_keeps, of_length_keeps, on_keeps}, ColumnLaws.{IsColumn, list_keeps, cast_to_keeps}, TableLaws.{IsShaped, limited_keeps, frame_headings, label_decides}, SetLaws.{length_default, default_levels}}},
 }
-use Rattle.form_meaning.specs.declared.Function.TheVariants as function
+use Rattle.call_meaning.specs.declared.Function.TheVariants as function
 
 -- a column of its own number of rows
 abbrev IsOwnColumn : Column → Type 0
@@ -25,7 +25,7 @@ one_level : (labels : List Tuple) → Levelled 1 labels → level_count labels �
 one_level = grind arith
 
 single_are : (rows : ℕ) (labels : List Tuple) → length labels ≡ rows → Levelled 1 labels → AreRowLabels rows labels
-single_are = grind (arith, one_level)
+single_are = grind arith
 
 few_keeps : (labels : List Tuple) (rest : Result Entry FaultValue) → (level_count labels ≤ 4 → Keeps rest) → Keeps (few_levels labels rest)
 few_keeps = grind (arith, nat_tests)
@@ -42,11 +42,11 @@ index_keeps rows (Some parts) go alike h =
 names_count : {L : Type 0} (labels : List (List L)) → length (nameless labels) ≡ level_count labels
 names_count = search length-replicate
 
-named_levels : (rows : ℕ) (labels : List Tuple) → AreRowLabels rows labels → All (λ tuple. length tuple ≡ length (nameless labels)) labels
+named_levels : (rows : ℕ) (labels : List Tuple) → AreRowLabels rows labels → Levelled (length (nameless labels)) labels
 named_levels = grind (arith, names_count)
 
 series_shaped : (name : Name) (labels : List Tuple) (c : Column) → IsOwnColumn c → AreRowLabels (length c.cells) labels → IsShaped (series_table name labels c)
-series_shaped = grind (arith, names_count, named_levels, series_heading)
+series_shaped = grind (arith, length-replicate)
 
 series_of_keeps : (values : GivenList) (index : Option GivenList) (name : Name) (kind : Option Kind) → GivesAlike index → Keeps (series_of values index name kind)
 series_of_keeps values index name kind alike =
@@ -73,10 +73,7 @@ headings_differ (l ∷ ls) h =
 -- a key more, unless it stands
 all_pair : (P : LabelValue → Type 0) (ps : List (LabelValue × Given)) (k : LabelValue) (v : Given) → All P (keys ps) → P k → All P (keys (with_pair ps k v))
 all_pair P [] k v h here = grind arith
-all_pair P (p ∷ ps) k v h here =
-    let first = All-head P p.0 (keys ps) h in
-    let more = All-cons P p.0 (keys (with_pair ps k v)) first (all_pair P ps k v (All-tail P p.0 (keys ps) h) here) in
-    grind arith
+all_pair P (p ∷ ps) k v h here = grind (arith, h 0 p.0, all_pair P ps k v (All-tail P p.0 (keys ps) h) here)
 
 pair_differs : (ps : List (LabelValue × Given)) (k : LabelValue) (v : Given) → Differ (keys ps) → Differ (keys (with_pair ps k v))
 pair_differs [] k v h = grind arith
@@ -125,23 +122,21 @@ frame_result_keeps = search (on_keeps, frame_of_keeps, pairs_differ)
 bound_keeps : (b : Bound) (go : List Given → Result Entry FaultValue) → ((l : List Given) → b ≡ bound l → Keeps (go l)) → Keeps (on_bound b go)
 bound_keeps = grind arith
 
-series_keeps : (gs : List NamedGiven) → Keeps (on_bound (bound_of (function_parameters function.Series) gs) (constructed function.Series))
-series_keeps gs =
-    let ps = function_parameters function.Series in
-    bound_keeps _ _
-    (λ l is. subst (λ l. Keeps (series_result l)) (sym (bound_list ps gs l is))
-    (series_result_keeps (argument_at ps gs 0) _ _ _ (index_taken ps gs 1 _ l is refl refl)))
+module _ (gs : List NamedGiven) where
+  series_keeps : Keeps (on_bound (bound_of (function_parameters function.Series) gs) (constructed function.Series))
+  series_keeps =
+      let ps = function_parameters function.Series in
+      bound_keeps _ _
+      (λ l is. subst (λ l. Keeps (series_result l)) (sym (bound_list ps gs l is))
+      (series_result_keeps (argument_at ps gs 0) _ _ _ (index_taken ps gs 1 _ l is refl refl)))
 
-frame_keeps : (gs : List NamedGiven) → Keeps (on_bound (bound_of (function_parameters function.DataFrame) gs) (constructed function.DataFrame))
-frame_keeps gs =
-    let ps = function_parameters function.DataFrame in
-    bound_keeps _ _
-    (λ l is. subst (λ l. Keeps (frame_result l)) (sym (bound_list ps gs l is))
-    (frame_result_keeps (argument_at ps gs 0) _ (index_taken ps gs 1 _ l is refl refl)))
-
-made_named_keeps : (o : Option Function) (name : Text) (gs : List NamedGiven) → Keeps (made_named o name gs)
-made_named_keeps = grind (arith, series_keeps, frame_keeps)
+  frame_keeps : Keeps (on_bound (bound_of (function_parameters function.DataFrame) gs) (constructed function.DataFrame))
+  frame_keeps =
+      let ps = function_parameters function.DataFrame in
+      bound_keeps _ _
+      (λ l is. subst (λ l. Keeps (frame_result l)) (sym (bound_list ps gs l is))
+      (frame_result_keeps (argument_at ps gs 0) _ (index_taken ps gs 1 _ l is refl refl)))
 
 -- a function of `pd`
 pub make_result_keeps : (name : Text) (gs : List NamedGiven) → Keeps (make_result name gs)
-make_result_keeps = search made_named_keeps
+make_result_keeps = grind (arith, series_keeps, frame_keeps)

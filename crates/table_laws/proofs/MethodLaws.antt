@@ -1,19 +1,18 @@
 -- Methods make valid tables of valid ones.
 use Rattle.{
-  std.{proofs.{Common.{◌≡◌, ◌∙◌, refl, sym, ℕ, pos, List, [], ◌∷◌, length, map, arith}, lemmas.List.{length-map, Elements.{All-head, All-tail}}}, specs.Prelude.{Bool, true, false, unwrap_or, Some, None, IsSome, Result, IfOk, All}},
-  cell_core.specs.declared.grid.Shape.{Shape, TheVariants.{Series, Frame}},
-  meaning.specs.{Text.{Text}, Cell.{LabelValue, int, Kind}, Fault.{FaultValue}},
+  meaning.proofs.Common.{◌≡◌, ◌∙◌, refl, sym, ℕ, pos, List, [], ◌∷◌, length, map, arith, length-map, All-head, All-tail, Bool, true, false, unwrap_or, Some, None, IsSome, Result, IfOk, All, Shape, Series, Frame, Text, LabelValue, int, Kind, FaultValue},
   table_meaning.{specs.{Table.{Table, column_at}, Value.{Entry, Given, NamedGiven}}, proofs.KindLaws.{kind_is}},
-  form_meaning.{specs.{declared.Method.{Method}, Signature.{method_names, fits_shape}, Binding.{Bound, on_bound}, Finish.{limited, across_columns}}, proofs.ShapeLaws.{named_fits, of_series, of_frame}},
+  call_meaning.{specs.{declared.Method.{Method}, Signature.{method_names, fits_shape}, Binding.{Bound, on_bound}}, proofs.ShapeLaws.{named_fits, of_series, of_frame}},
+  form_meaning.specs.Finish.{limited, across_columns},
   method_meaning.specs.{Methods.{each_column, Summary, summary_cell, summary_kind, kind_for, summary_as, summary_of, summary, renamed_series, renamed_heading, renamed_frame, as_frame, reset_index_result, csv_answer, answer_for}, Calls.{method_result, ChainValue, chain_result}},
-  table_laws.{specs.Validity.{IsValidObject, IsValidEntry}, proofs.{Words.{Keeps, Column, Name, Cells, IsFrame, IsSeries}, ListLaws.{all_made, all_mapped, then_keeps, try_keeps, on_keeps}, ColumnLaws.{IsColumn, column_answers, Held, held_cell, wrap_fits, reduction_held}, TableLaws.{IsShaped, shaped, limited_keeps, with_columns_shaped, column_of_table, series_heading, frame_headings, one_column, different, finished_keeps}, RowLaws.{head_keeps, tail_keeps, dropna_keeps, duplicated_keeps, sort_values_keeps, sort_by_keeps, sorted_keeps, drop_keeps}, GroupLaws.{grouped_result_keeps}, LevelLaws.{rename_axis_keeps, set_index_keeps, renumbered_keeps, levels_reset_keeps, droplevel_keeps, swaplevel_keeps, xs_keeps, reindex_keeps}}},
+  table_laws.{specs.Validity.{IsValidObject, IsValidEntry}, proofs.{Words.{AllOf, Keeps, Column, Name, Cells, IsFrame, IsSeries}, ListLaws.{all_made, all_mapped, then_keeps, try_keeps, on_keeps}, ColumnLaws.{IsColumn, column_answers, Held, held_cell, wrap_fits, reduction_held}, TableLaws.{IsShaped, shaped, limited_keeps, with_columns_shaped, column_of_table, series_heading, frame_headings, one_column, different, finished_keeps}, RowLaws.{head_keeps, tail_keeps, dropna_keeps, duplicated_keeps, sort_values_keeps, sort_by_keeps, sorted_keeps, drop_keeps}, GroupLaws.{grouped_result_keeps}, LevelLaws.{rename_axis_keeps, set_index_keeps, renumbered_keeps, levels_reset_keeps, droplevel_keeps, swaplevel_keeps, xs_keeps, reindex_keeps}}},
 }
-use Rattle.form_meaning.specs.declared.Method.TheVariants as method
-use Rattle.form_meaning.specs.declared.ColumnMethod.TheVariants as column_method
-use Rattle.form_meaning.specs.declared.RowMethod.TheVariants as row_method
-use Rattle.form_meaning.specs.declared.LevelMethod.TheVariants as level_method
-use Rattle.form_meaning.specs.declared.LabelMethod.TheVariants as label_method
-use Rattle.form_meaning.specs.declared.TableMethod.TheVariants as table_method
+use Rattle.call_meaning.specs.declared.Method.TheVariants as method
+use Rattle.call_meaning.specs.declared.ColumnMethod.TheVariants as column_method
+use Rattle.call_meaning.specs.declared.RowMethod.TheVariants as row_method
+use Rattle.call_meaning.specs.declared.LevelMethod.TheVariants as level_method
+use Rattle.call_meaning.specs.declared.LabelMethod.TheVariants as label_method
+use Rattle.call_meaning.specs.declared.TableMethod.TheVariants as table_method
 
 -- each column by itself
 each_keeps : (f : Column → Result Column FaultValue) (t : Table) → IsShaped t → ((rows : ℕ) (c : Column) → IsColumn rows c → IfOk (f c) (IsColumn rows)) → Keeps (each_column f t)
@@ -40,7 +39,7 @@ summary_of_keeps Series op t s is =
     (λ x h. held_cell (summary_kind op c.kind) x h)
 summary_of_keeps Frame op t s is =
     let kind = kind_for op t.columns in
-    then_keeps (λ cells. (length cells ≡ length t.columns) × All (Held kind) cells) _ _ _
+    then_keeps (AllOf (Held kind) (length t.columns)) _ _ _
     (try_keeps (λ c. All (Held c.kind) c.cells) (Held kind) (summary_as op kind) (grind (arith, kind_is, reduction_held, wrap_fits)) t.columns (grind arith))
     (λ cells made. limited_keeps _ (series_shaped t kind cells (made.0 ∙ sym s.headed) made.1))
 
@@ -50,7 +49,7 @@ summary_keeps = search summary_of_keeps
 -- names
 
 renamed_series_keeps : (t : Table) (name : Name) → IsShaped t → IsSeries t → Keeps (limited (renamed_series t name))
-renamed_series_keeps = grind (arith, limited_keeps, one_column, series_heading)
+renamed_series_keeps = grind arith
 
 renamed_frame_keeps : (t : Table) (pairs : List (LabelValue × Given)) → IsShaped t → IsFrame t → Keeps (renamed_frame t pairs)
 renamed_frame_keeps t pairs s is =
@@ -62,7 +61,7 @@ heading_kept = grind arith
 
 headings_kept : (hs : List Name) → All IsSome hs → map (λ h. Some (unwrap_or h (int (pos 0)))) hs ≡ hs
 headings_kept [] some = refl
-headings_kept (h ∷ hs) some = λ j. heading_kept h (All-head IsSome h hs some) j ∷ headings_kept hs (All-tail IsSome h hs some) j
+headings_kept (h ∷ hs) some = cc (heading_kept h (All-head IsSome h hs some), headings_kept hs (All-tail IsSome h hs some))
 
 as_frame_shaped : (p : Shape) (t : Table) → IsShaped t → t.shape ≡ p → IsShaped (as_frame t)
 as_frame_shaped Series t s is =
@@ -78,7 +77,7 @@ as_frame_shaped Series t s is =
 as_frame_shaped Frame t s is = grind (arith, length-map, headings_kept)
 
 as_frame_keeps : (t : Table) → IsShaped t → Keeps (limited (as_frame t))
-as_frame_keeps = grind (arith, limited_keeps, as_frame_shaped)
+as_frame_keeps = grind (arith, as_frame_shaped)
 
 reset_index_keeps : (t : Table) (drop : Bool) → IsShaped t → Keeps (reset_index_result t drop)
 reset_index_keeps t true s = renumbered_keeps t s

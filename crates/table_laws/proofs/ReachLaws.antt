@@ -1,13 +1,11 @@
 -- What keys reach lies in the table.
 use Rattle.{
-  std.{proofs.{Common.{rules, Bool, filter, ◌≡◌, ℕ, ◌<◌, ◌≤◌, nat_lt, List, [], ◌∷◌, length, arith, ◌∙◌, refl, ap, sym, ◌-◌, drop, map}, lemmas.{Bool.Decides.{nat_tests}, List.{length-map, length-drop, Elements.{All-filter}, FromFn.{get_or-range_with_len, length-range_with_len}}}}, specs.{Prelude.{true, if◌then◌else◌, Option, Some, None, Result, Ok, IfOk, false, slice_index_or, All}, List.{range_with_len, list_all}, Cmp.Lexicographic.{as_long}}},
-  cell_core.specs.declared.{grid.Shape.{Shape, TheVariants.{Series, Frame}}, cell.Kind.{Kind}},
-  meaning.specs.{Cell.{LabelValue, na_cell}, Symbol.{Accessor}, Fault.{FaultValue, then_value}},
+  meaning.proofs.Common.{rules, Bool, filter, ◌≡◌, ℕ, ◌<◌, ◌≤◌, List, [], ◌∷◌, length, arith, ◌∙◌, refl, ap, sym, ◌-◌, drop, map, nat_tests, length-map, length-drop, All-filter, get_or-range_with_len, length-range_with_len, true, Option, Some, None, Result, Ok, IfOk, false, slice_index_or, All, range_with_len, list_all, as_long, Shape, Series, Frame, Kind, LabelValue, na_cell, Accessor, FaultValue, then_value},
   table_meaning.{specs.{Table.{Table, column_at}, Value.{Entry, cell, table, GivenSub, one, row, key_given}, Valid.{AreHeadings}}, proofs.KindLaws.{kind_is}},
   form_meaning.specs.{Finish.{column_labels, same_kind}, Infix.{same_tuple}, Select.{heading_at, length_result}},
   pick_meaning.{specs.{Faults.{PickFault, then_pick}, Keys.{LabelKey, one_key, Pick, key_pick, listed_pick}, Masks.{masked_rows}}, proofs.{InsideLaws.{ok_same, went_on, mask_inside}, KeyLaws.{picked_inside, placed_inside}}},
   select_meaning.specs.{Keys.{found_pick, found_labels, label_key, whole_key, label_pick, marks_of, mask_pick, loc_rows, loc_columns, once, at_rows, rows_by, columns_by, reach_of, reach_by, Reach}, Select.{column_reach, columns_reach, item_reach, Way, way_reach, select_result, rows_taken, without_leading, cut, as_series, first_cell, kind_across, row_series, row_result, shown_as, picked_result}},
-  table_laws.{specs.Validity.{IsValidObject, IsValidEntry, IsHeldCell}, proofs.{Words.{Tuple, Below, IsFrame, Keeps, Column, Name}, ListLaws.{both_true, length_tabulate, then_keeps, any_then, try_keeps, all_made, all_mapped, all_pass, at_or}, TableLaws.{IsShaped, some_labelled, shaped, one_column, limited_keeps, column_of_table, series_heading, frame_headings, column_place_found, different, finished_keeps}, ColumnLaws.{IsColumn, Held, na_held, held_cell, wrap_fits}}},
+  table_laws.{specs.Validity.{IsValidObject, IsValidEntry, IsHeldCell}, proofs.{Words.{Has, Tuple, Below, IsFrame, Keeps, Column, Name}, ListLaws.{length_tabulate, then_keeps, any_then, try_keeps, all_made, all_mapped, all_pass, at_or}, TableLaws.{IsShaped, some_labelled, shaped, one_column, limited_keeps, column_of_table, series_heading, frame_headings, column_place_found, different, finished_keeps}, ColumnLaws.{IsColumn, Held, na_held, held_cell, wrap_fits}}},
 }
 
 -- selections
@@ -27,7 +25,7 @@ cell_of_column rows c k h = at_or (Held c.kind) _ k _ (na_held c.kind) h.held
 -- some rows of a table
 pub rows_shaped : (t : Table) (rows : List ℕ) → IsShaped t → Below (length t.labels) rows → IsShaped (rows_taken t rows)
 rows_shaped t rows s inside =
-    let levels = all_made (λ row. row < length t.labels) (λ tuple. length tuple ≡ length t.level_names) (λ row. slice_index_or t.labels row []) (λ row lt. s.levels row [] lt) rows inside in
+    let levels = all_made (λ row. row < length t.labels) (Has (length t.level_names)) (λ row. slice_index_or t.labels row []) (λ row lt. s.levels row [] lt) rows inside in
     search (length-map, all_made, all_mapped, cell_of_column)
 
 -- without its leading levels
@@ -37,49 +35,50 @@ leading_shaped t count s left =
     record {
       some = omega (arith, levels, left);
       few = omega (arith, levels, s.few);
-      levels = all_made (λ tuple. length tuple ≡ length _) (λ tuple. length tuple ≡ length (drop count t.level_names)) _ (λ tuple same. length-drop count _ ∙ ap (λ n. n - count) same ∙ sym levels) t.labels s.levels;
+      levels = all_made (Has (length _)) (Has (length (drop count t.level_names))) _ (λ tuple same. length-drop count _ ∙ ap (λ n. n - count) same ∙ sym levels) t.labels s.levels;
       headed = s.headed;
       columns = grind (arith, length-map);
       headings = s.headings;
     }
 
-cut_columns : (t : Table) (rows places : List ℕ) → IsShaped t → Below (length t.columns) places → All (IsColumn (length (cut t rows places).labels)) (cut t rows places).columns
-cut_columns t rows places s below = rw (length-map rows (λ row. slice_index_or t.labels row [])) (all_made (IsColumn (length t.labels)) (IsColumn (length rows)) _ (search (length-map, all_mapped, cell_of_column)) (map (column_at t.columns) places)
-    (search (all_made, column_of_table)))
+module _ (t : Table) where
+  module _ (rows places : List ℕ) where
+    cut_columns : IsShaped t → Below (length t.columns) places → All (IsColumn (length (cut t rows places).labels)) (cut t rows places).columns
+    cut_columns s below = rw (length-map rows (λ row. slice_index_or t.labels row [])) (all_made (IsColumn (length t.labels)) (IsColumn (length rows)) _ (search (length-map, all_mapped, cell_of_column)) (map (column_at t.columns) places)
+        (search (all_made, column_of_table)))
 
--- under headings that fit they are a table
-cut_shaped : (t : Table) (rows places : List ℕ) (shape : Shape) (name : Name) → IsShaped t → Below (length t.labels) rows → Below (length t.columns) places
-    → AreHeadings shape name (map (heading_at t) places) → IsShaped (record (cut t rows places) { shape = shape; columns_name = name })
-cut_shaped t rows places shape name s inside below headings =
-    let levels = (rows_shaped t rows s inside).levels in
-    search (length-map, cut_columns)
+    -- under headings that fit they are a table
+    cut_shaped : (shape : Shape) (name : Name) → IsShaped t → Below (length t.labels) rows → Below (length t.columns) places → AreHeadings shape name (map (heading_at t) places) → IsShaped (record (cut t rows places) { shape = shape; columns_name = name })
+    cut_shaped shape name s inside below headings =
+        let levels = (rows_shaped t rows s inside).levels in
+        search (length-map, cut_columns)
 
--- one column as a Series
-one_heading : (t : Table) (places : List ℕ) → length places ≡ 1 → AreHeadings Series None (map (heading_at t) places)
-one_heading t (place ∷ []) e = search series_heading
-one_heading t _ e = cc
+  -- one column as a Series
+  one_heading : (places : List ℕ) → length places ≡ 1 → AreHeadings Series None (map (heading_at t) places)
+  one_heading (place ∷ []) e = search series_heading
+  one_heading _ e = cc
 
-series_keeps : (t : Table) (count : ℕ) (rows places : List ℕ) → IsShaped t → count < length t.level_names → Below (length t.labels) rows → Below (length t.columns) places → length places ≡ 1
-    → Keeps (shown_as false true (without_leading count (cut t rows places)))
-series_keeps t count rows places s left inside below e =
-    let made = as_series (cut t rows places) in
-    limited_keeps (without_leading count made) (search (leading_shaped, cut_shaped, one_heading))
+  module _ (count : ℕ) (rows places : List ℕ) (s : IsShaped t) where
+    series_keeps : count < length t.level_names → Below (length t.labels) rows → Below (length t.columns) places → length places ≡ 1 → Keeps (shown_as false true (without_leading count (cut t rows places)))
+    series_keeps left inside below e =
+        let made = as_series (cut t rows places) in
+        limited_keeps (without_leading count made) (search (leading_shaped, cut_shaped, one_heading))
 
--- a frame
-frame_keeps : (t : Table) (count : ℕ) (rows places : List ℕ) → IsShaped t → IsFrame t → count < length t.level_names → Below (length t.labels) rows → Below (length t.columns) places
-    → Keeps (shown_as false false (without_leading count (cut t rows places)))
-frame_keeps t count rows places s is left inside below =
-    let some = some_labelled t s is places below in
-    search (finished_keeps, leading_shaped, cut_shaped, frame_headings, different)
+    -- a frame
+    frame_keeps : IsFrame t → count < length t.level_names → Below (length t.labels) rows → Below (length t.columns) places → Keeps (shown_as false false (without_leading count (cut t rows places)))
+    frame_keeps is left inside below =
+        let some = some_labelled t s is places below in
+        search (finished_keeps, leading_shaped, cut_shaped, frame_headings, different)
 
 -- a row across columns of one kind
-first_held : (count : ℕ) (kind : Kind) (c : Column) → IsColumn count c → same_kind c.kind kind ≡ true → Held kind (first_cell c)
-first_held = grind (arith, kind_is, cell_of_column)
+module _ (count : ℕ) (kind : Kind) where
+  first_held : (c : Column) → IsColumn count c → same_kind c.kind kind ≡ true → Held kind (first_cell c)
+  first_held = grind (arith, kind_is, cell_of_column)
 
-firsts_held : (count : ℕ) (kind : Kind) (cs : List Column) → All (IsColumn count) cs → list_all (λ c. same_kind c.kind kind) cs ≡ true → All (Held kind) (map first_cell cs)
-firsts_held count kind cs h e =
-    let alike = all_pass (λ c. same_kind c.kind kind) cs e in
-    all_made (λ c. IsColumn count c × (same_kind c.kind kind ≡ true)) (Held kind) _ (λ c both. first_held _ _ c both.0 both.1) cs (λ k d lt. (h k d lt, alike k d lt))
+  firsts_held : (cs : List Column) → All (IsColumn count) cs → list_all (λ c. same_kind c.kind kind) cs ≡ true → All (Held kind) (map first_cell cs)
+  firsts_held cs h e =
+      let alike = all_pass (λ c. same_kind c.kind kind) cs e in
+      all_made (λ c. IsColumn count c × (same_kind c.kind kind ≡ true)) (Held kind) _ (λ c both. first_held c both.0 both.1) cs (λ k d lt. (h k d lt, alike k d lt))
 
 row_shaped : (t : Table) (kind : Kind) → length t.headings ≡ length t.columns → All (Held kind) (map first_cell t.columns) → IsShaped (row_series t kind)
 row_shaped t kind headed held = record {
@@ -129,11 +128,8 @@ record IsLeft (levels : ℕ) (p : Pick) : Type 0 where
   one : p.single ≡ true → length p.rows ≡ 1
   left : p.dropped < levels
 
-key_left : (levels labels : ℕ) → 1 ≤ levels → (if nat_lt labels levels then labels else 0) < levels
-key_left = grind (arith, nat_tests)
-
 key_is : {L : Type 0} (levels : ℕ) (key : List L) (rows : List ℕ) → 1 ≤ levels → IsLeft levels (key_pick levels key rows)
-key_is = grind (arith, both_true, key_left)
+key_is = grind (arith, nat_tests)
 
 -- what was made of rows that were found
 picked_is : {A K : Type 0} (levels : ℕ) (r : Result A (PickFault K)) (go : A → Pick) (p : Pick) → ((a : A) → IsLeft levels (go a)) → then_pick r (λ a. Ok (go a)) ≡ Ok p → IsLeft levels p
@@ -143,11 +139,12 @@ picked_is = grind (arith, went_on, ok_same)
 pub found_is : {A : Type 0} (P : A → Type 0) (r : Result A (PickFault Tuple)) → ((a : A) → r ≡ Ok a → P a) → IfOk (found_pick r) P
 found_is P = grind arith
 
-found_labels_is : (levels : ℕ) (tuples : List Tuple) (key : LabelKey Tuple) → 1 ≤ levels → IfOk (found_labels levels tuples key) (IsPick levels (length tuples))
-found_labels_is = grind (arith, found_is, ok_same, picked_is, key_is, picked_inside)
+module _ (levels : ℕ) (tuples : List Tuple) where
+  found_labels_is : (key : LabelKey Tuple) → 1 ≤ levels → IfOk (found_labels levels tuples key) (IsPick levels (length tuples))
+  found_labels_is = grind (arith, found_is, ok_same, picked_is, key_is, picked_inside)
 
-label_pick_is : (levels : ℕ) (tuples : List Tuple) (k : GivenSub) → 1 ≤ levels → IfOk (label_pick levels tuples k) (IsPick levels (length tuples))
-label_pick_is levels tuples k some = any_then _ (label_key levels k) _ (λ key. found_labels_is levels tuples key some)
+  label_pick_is : (k : GivenSub) → 1 ≤ levels → IfOk (label_pick levels tuples k) (IsPick levels (length tuples))
+  label_pick_is k some = any_then _ (label_key levels k) _ (λ key. found_labels_is key some)
 
 -- a mask
 module _ (t m : Table) (some : 1 ≤ length t.level_names) where
@@ -183,19 +180,21 @@ module _ (t : Table) (s : IsShaped t) where
       any_then _ (whole_key (length t.level_names) k) _
       (λ key. then_keeps _ _ _ _ (found_labels_is (length t.level_names) t.labels (one_key key) s.some) (once_is key))
 
-labels_pick_is : (t : Table) (k : GivenSub) → IsShaped t → IfOk (label_pick 1 (column_labels t) k) (IsPick 1 (length t.columns))
-labels_pick_is = search (rules, length-map, label_pick_is)
+module _ (t : Table) (k : GivenSub) (s : IsShaped t) where
+  labels_pick_is : IfOk (label_pick 1 (column_labels t) k) (IsPick 1 (length t.columns))
+  labels_pick_is = search (rules, length-map, label_pick_is)
 
-loc_columns_is : (t : Table) (k : GivenSub) → IsShaped t → IfOk (loc_columns t k) (IsPick 1 (length t.columns))
-loc_columns_is t k s =
-    let labels = labels_pick_is t k s in
-    grind arith
+  loc_columns_is : IfOk (loc_columns t k) (IsPick 1 (length t.columns))
+  loc_columns_is =
+      let labels = labels_pick_is in
+      grind arith
 
-rows_by_is : (by : Accessor) (t : Table) (k : GivenSub) → IsShaped t → IfOk (rows_by by t k) (IsPick (length t.level_names) (length t.labels))
-rows_by_is = grind (arith, loc_rows_is, then_keeps, any_then, found_is, picked_is, placed_inside, at_rows_is)
+module _ (by : Accessor) (t : Table) (k : GivenSub) (s : IsShaped t) where
+  rows_by_is : IfOk (rows_by by t k) (IsPick (length t.level_names) (length t.labels))
+  rows_by_is = grind (arith, loc_rows_is, then_keeps, any_then, found_is, picked_is, placed_inside, at_rows_is)
 
-columns_by_is : (by : Accessor) (t : Table) (k : GivenSub) → IsShaped t → IfOk (columns_by by t k) (IsPick 1 (length t.columns))
-columns_by_is = grind (arith, loc_columns_is, then_keeps, any_then, found_is, picked_is, placed_inside)
+  columns_by_is : IfOk (columns_by by t k) (IsPick 1 (length t.columns))
+  columns_by_is = grind (arith, loc_columns_is, then_keeps, any_then, found_is, picked_is, placed_inside)
 
 -- all places, and the only one
 pub below_all : (count : ℕ) → Below count (range_with_len 0 count)
@@ -210,7 +209,7 @@ first_below = grind arith
 
 -- what is reached
 frame_reach_of : (t : Table) (rows columns : Result Pick FaultValue) → IsFrame t → IfOk rows (IsPick (length t.level_names) (length t.labels)) → IfOk columns (IsPick 1 (length t.columns)) → IfOk (reach_of rows columns) (IsReach t)
-frame_reach_of = grind (arith, then_keeps)
+frame_reach_of = grind arith
 
 reach_by_is : (p : Shape) (by : Accessor) (t : Table) (first : GivenSub) (second : Option GivenSub) → IsShaped t → t.shape ≡ p → IfOk (reach_by p by t first second) (IsReach t)
 reach_by_is = grind (arith, then_keeps, first_below, one_column, rows_by_is, any_then, frame_reach_of, below_all, columns_by_is)

@@ -1,25 +1,21 @@
 -- Settings and removals leave valid tables.
 use Rattle.{
-  std.{proofs.{Common.{rules, ◌≡◌, ◌≢◌, ◌∙◌, ap, refl, sym, subst, ℕ, zero, suc, ◌+◌, ◌%◌, ◌/◌, ◌<◌, ◌≤◌, pos, nat_eq, List, [], ◌∷◌, length, map, arith}, lemmas.{Bool.Decides.{nat_tests}, List.{length-map, length-append, length-set, FromFn.{length-map-range_with_len}, Edits.{length-remove}, Elements.{All-cons, All-head, All-tail, All-append, All-set}, Quantifiers.{all_pairs_remove}}, Nat.{mul-le}}}, specs.{Prelude.{Bool, true, false, ◌&&◌, ◌||◌, nat_le, if◌then◌else◌, remove, slice_index, Option, Some, None, option_map, IsSome, IfSome, unwrap_or, Result, Ok, IfOk, All}, List.{list_any}}},
-  meaning.specs.{Cell.{CellValue, na_cell, LabelValue, int, holds}, Symbol.{Accessor}, Fault.{FaultValue, then_value}},
+  meaning.proofs.Common.{rules, ◌≡◌, ◌≢◌, ◌∙◌, ap, refl, sym, subst, ℕ, zero, suc, ◌+◌, ◌%◌, ◌/◌, ◌<◌, ◌≤◌, pos, nat_eq, List, [], ◌∷◌, length, map, arith, nat_tests, length-map, length-set, length-map-range_with_len, length-remove, All-cons, All-head, All-tail, All-append, All-set, all_pairs_remove, mul-le, Bool, true, false, ◌&&◌, nat_le, remove, slice_index, Option, Some, None, IsSome, IfSome, unwrap_or, Result, Ok, IfOk, All, list_any, CellValue, na_cell, LabelValue, int, holds, Accessor, FaultValue, then_value},
+  std.proofs.lemmas.List.{length-append},
   table_meaning.specs.{Table.{Table, column_at}, Change.{put_at, with_column, without_column, with_cell, with_values_from}, Valid.{IsValid}, Value.{Entry, Given, GivenSub}},
   form_meaning.specs.{Finish.{default_labels, missing_column, column_labels}, Infix.{same_tuple}, Select.{place_of_label, column_place}},
   pick_meaning.specs.Keys.{Pick},
   align_meaning.{specs.Faults.{AlignRefusal, met_rows}, proofs.FoundLaws.{reindexed_count}},
   select_meaning.specs.{Select.{Way}, Set.{SetValue, same, listed, aligned, set_value, put_result, with_rows, list_set, aligned_rows, column_at_rows, aligned_column, series_set, column_set, Reached, or_added, rows_set, Target, target_of, with_gap, with_row, kind_of_value, with_new_column, fit_from, filled_table, target_set, access_set, assign_result, removal_result}},
-  table_laws.{specs.Validity.{IsValidObject, IsHeldCell, IsValidGiven}, proofs.{Words.{Column, Name, Tuple, Cells, Apart, Levelled, IsFrame, IsSeries}, ListLaws.{both_true, all_made, all_mapped, then_keeps, any_then, All-put_at, length-put_at, All-remove, of_length_keeps, where_keeps}, ColumnLaws.{IsColumn, list_keeps, spread_column, Held, na_held}, TableLaws.{IsShaped, shaped, valid, limited_table_keeps, column_of_table, frame_headings, one_column, put_heading, column_place_found}, InfixLaws.{gap_held}}},
+  table_laws.{specs.Validity.{IsValidObject, IsHeldCell, IsValidGiven}, proofs.{Words.{Has, Column, Name, Tuple, Cells, Apart, Levelled, IsFrame, IsSeries}, ListLaws.{both_true, all_made, all_mapped, then_keeps, any_then, All-put_at, length-put_at, All-remove, of_length_keeps, where_keeps}, ColumnLaws.{IsColumn, list_keeps, spread_column, Held, na_held}, TableLaws.{IsShaped, shaped, valid, limited_table_keeps, column_of_table, frame_headings, one_column, put_heading, column_place_found}, InfixLaws.{gap_held}}},
 }
 
 -- a column under a label at a place
 placed_shaped : (t : Table) (place : ℕ) (l : LabelValue) (c : Column) → IsShaped t → IsFrame t → IsColumn (length t.labels) c → Apart (put_at t.headings place (Some l)) → IsShaped (with_column t place (Some l) c)
-placed_shaped t place l c s is h apart = record {
-  some = s.some;
-  few = s.few;
-  levels = s.levels;
-  headed = search length-put_at;
-  columns = All-put_at (IsColumn (length t.labels)) t.columns place c s.columns h;
-  headings = frame_headings _ _ _ is (All-put_at IsSome t.headings place (Some l) (s.headings.labelled is) refl) apart;
-}
+placed_shaped t place l c s is h apart =
+    let columns = All-put_at (IsColumn (length t.labels)) t.columns place c s.columns h in
+    let headings = frame_headings _ t.columns_name _ is (All-put_at IsSome t.headings place (Some l) (s.headings.labelled is) refl) apart in
+    search length-put_at
 
 -- a column in the place of its label, or last
 put_keeps : (t : Table) (l : LabelValue) (c : Column) → IsShaped t → IsFrame t → IsColumn (length t.labels) c → IfOk (put_result t l c) IsValid
@@ -49,13 +45,14 @@ list_set_keeps t l c s is h =
 pub met_keeps : {A : Type 0} (P : A → Type 0) (r : Result A (AlignRefusal Tuple)) → IfOk r P → IfOk (met_rows r) P
 met_keeps P = grind arith
 
-aligned_count : (level_count : ℕ) (labels : List Tuple) (u : Table) → IfOk (aligned_rows level_count labels u) (λ rows. length rows ≡ length labels)
-aligned_count level_count labels u = search (where_keeps, met_keeps, reindexed_count)
+module _ (level_count : ℕ) (labels : List Tuple) (u : Table) where
+  aligned_count : IfOk (aligned_rows level_count labels u) (λ rows. length rows ≡ length labels)
+  aligned_count = search (where_keeps, met_keeps, reindexed_count)
 
-aligned_keeps : (level_count : ℕ) (labels : List Tuple) (u : Table) → All (Held (column_at u.columns 0).kind) (column_at u.columns 0).cells → IfOk (aligned_column level_count labels u) (IsColumn (length labels))
-aligned_keeps level_count labels u held =
-    then_keeps (λ rows. length rows ≡ length labels) _ _ _ (aligned_count level_count labels u)
-    (λ rows count. subst (λ n. IsColumn n (column_at_rows (column_at u.columns 0) rows)) count (search (length-map, all_mapped, gap_held)))
+  aligned_keeps : All (Held (column_at u.columns 0).kind) (column_at u.columns 0).cells → IfOk (aligned_column level_count labels u) (IsColumn (length labels))
+  aligned_keeps held =
+      then_keeps (λ rows. length rows ≡ length labels) _ _ _ (aligned_count)
+      (λ rows count. subst (λ n. IsColumn n (column_at_rows (column_at u.columns 0) rows)) count (search (length-map, all_mapped, gap_held)))
 
 series_set_keeps : (t : Table) (l : LabelValue) (u : Table) → IsShaped t → IsFrame t → IsShaped u → IsSeries u → IfOk (series_set t l u) IsValid
 series_set_keeps t l u s is r is' =
@@ -84,10 +81,8 @@ column_set_keeps t l (aligned u) s is h = search (series_set_keeps, shaped)
 -- a cell that is set keeps every column's kind
 kind_kept : (cs : List Column) (place r : ℕ) (x : CellValue) (q : ℕ) → (column_at (with_cell cs place r x) q).kind ≡ (column_at cs q).kind
 kind_kept [] place r x q = refl
-kind_kept (c ∷ cs) zero r x zero = refl
-kind_kept (c ∷ cs) zero r x (suc q) = refl
-kind_kept (c ∷ cs) (suc place) r x zero = refl
-kind_kept (c ∷ cs) (suc place) r x (suc q) = kind_kept cs _ r x q
+kind_kept (c ∷ cs) (suc place) r x (suc q) = kind_kept cs place r x q
+kind_kept (c ∷ cs) _ r x _ = grind arith
 
 -- cells that fit their columns leave columns
 module _ (t : Table) (rows places : List ℕ) where
@@ -101,7 +96,7 @@ module _ (t : Table) (rows places : List ℕ) where
       let held = All-set (Held c.kind) c.cells r x fits old.held in
       let rest = All-tail (IsColumn count) c cs all in
       search (All-cons, length-set)
-  cell_kept count (c ∷ cs) (suc place) r x all fits = All-cons (IsColumn count) c (with_cell cs place r x) (All-head (IsColumn count) c cs all) (cell_kept _ cs _ r x (All-tail (IsColumn count) c cs all) fits)
+  cell_kept count (c ∷ cs) (suc place) r x all fits = grind (arith, All-head (IsColumn count) c cs all, cell_kept count cs place r x (All-tail (IsColumn count) c cs all) fits)
 
   values_kept : (count k : ℕ) (cs : List Column) (values : Cells) → All (IsColumn count) cs → AreKinds cs → fit_from k t places values ≡ true → All (IsColumn count) (with_values_from k cs rows places values)
   values_kept count k cs [] all kinds fits = all
@@ -132,18 +127,19 @@ row_shaped t None s is = s
 row_shaped t (Some l) s is = record {
   some = s.some;
   few = s.few;
-  levels = All-append (λ tuple. length tuple ≡ length t.level_names) t.labels ((l ∷ []) ∷ []) s.levels
+  levels = All-append (Has (length t.level_names)) t.labels ((l ∷ []) ∷ []) s.levels
       (grind arith);
   headed = search length-map;
   columns = search (length-append, all_made, gap_column);
   headings = s.headings;
 }
 
-with_row_shape : (t : Table) (added : Name) → (with_row t added).shape ≡ t.shape
-with_row_shape = grind arith
+module _ (t : Table) (added : Name) where
+  with_row_shape : (with_row t added).shape ≡ t.shape
+  with_row_shape = grind arith
 
-with_row_headings : (t : Table) (added : Name) → (with_row t added).headings ≡ t.headings
-with_row_headings = grind arith
+  with_row_headings : (with_row t added).headings ≡ t.headings
+  with_row_headings = grind arith
 
 -- one more column, under a label that no column has
 abbrev pub IsNew : Table → Name → Type 0
@@ -168,20 +164,10 @@ target_keeps by t value target s adds =
     grind (arith, filled_keeps, then_keeps)
 
 -- a label that a key adds is new
-step_new : (b x : Bool) (o : Option ℕ) → (b && true) || x ≡ false → (x ≡ false → o ≡ None) → (if b then Some 0 else option_map suc o) ≡ None
-step_new = grind arith
-
-abbrev no_label : Name
-no_label = None
-
-none_there : (o : Option ℕ) → IsSome no_label → o ≡ None
-none_there o h = cc
 
 not_there : (hs : List Name) (l : LabelValue) → All IsSome hs → list_any (same_tuple (l ∷ [])) (map (λ h. unwrap_or h (int (pos 0)) ∷ []) hs) ≡ false → place_of_label hs l ≡ None
 not_there [] l some e = refl
-not_there (None ∷ hs) l some e = none_there _ (All-head IsSome None hs some)
-not_there (Some a ∷ hs) l some e =
-    step_new _ _ _ e (λ rest. not_there hs l (All-tail IsSome (Some a) hs some) rest)
+not_there (h ∷ hs) l some e = grind (arith, All-head IsSome h hs some, not_there hs l (All-tail IsSome h hs some))
 
 columns_new : (t : Table) (added : Name) (pick : Result Pick FaultValue) → IsShaped t → IsFrame t → IfOk (or_added added (column_labels t) pick) (λ r. IsNew t r.added)
 columns_new = grind (arith, not_there)
@@ -209,7 +195,7 @@ fewer : (a b m : ℕ) → a ≤ b → nat_le b m ≡ true → nat_le a m ≡ tru
 fewer a b m le e = grind (arith, nat_tests)
 
 three : (a b c b' c' : Bool) → (b ≡ true → b' ≡ true) → (c ≡ true → c' ≡ true) → a && b && c ≡ true → a && b' && c' ≡ true
-three = grind (arith, both_true)
+three = grind arith
 
 label_removal_keeps : (t : Table) (l : LabelValue) → IsValid t → IsFrame t → IfOk (then_value (column_place t l) (λ place. Ok (without_column t place))) IsValid
 label_removal_keeps t l v is =

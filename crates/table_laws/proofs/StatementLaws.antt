@@ -1,14 +1,13 @@
 -- A statement leaves a valid state of a valid one.
 use Rattle.{
-  std.{proofs.{Common.{arith, ℕ, List}, lemmas.List.Elements.{All-nil, All-cons}}, specs.Prelude.{Bool, if◌then◌else◌, codes, is_some, Option, Some, None, IfSome, Result, Ok, Err, IfOk, All}},
-  meaning.specs.{Text.{Text, Contents}, Fault.{FaultValue}},
-  language_meaning.specs.Tree.{Expr, Step, Arg, ArgList, Args, Form},
-  table_meaning.specs.{Table.{Table}, Valid.{IsValid}, Value.{Entry, NamedGiven, key_given}},
-  form_meaning.specs.Signature.{function_named},
-  select_meaning.specs.Select.{plain, through},
+  meaning.proofs.Common.{arith, ℕ, List, All-nil, All-cons, Bool, if◌then◌else◌, codes, is_some, Option, Some, None, IfSome, Result, Ok, Err, IfOk, All, Text, Contents, FaultValue},
+  language_meaning.specs.Tree.{Expr, Step, Arg, ArgList, Args, Action},
+  table_meaning.specs.{Table.{Table}, Valid.{IsValid}, Value.{Entry, NamedGiven}},
+  call_meaning.specs.Signature.{function_named},
+  select_meaning.specs.Select.{plain},
   method_meaning.specs.{Calls.{has_method}, Concat.{tables_of}, Readers.{read_result}},
-  script_meaning.specs.{State.{State, without_name}, Reading.{Files, Reading, Reads, at_once, then_read, of_bytes, of_path}, Expression.{value_of_name, is_minus, where_named, made, value_of, stepped, sub_of, second_of, brackets_of, given_of, part_of, parts_of, pairs_of, named_of, target_of}, Statement.{Answer, then_answer, with_value, set_answer, statement_result}},
-  table_laws.{specs.Validity.{IsValidObject, IsValidEntry, IsValidGiven, IsValidArgument, AreValidArguments, IsValidState, LeavesValid, HasHeldLiterals, IsHeldArgument, IsHeldForm}, proofs.{Words.{Keeps}, InfixLaws.{infix_result_keeps, sign_result_keeps}, ReachLaws.{select_result_keeps, length_result_keeps}, SetLaws.{assign_result_keeps, removal_result_keeps}, MethodLaws.{chain_result_keeps}, CsvLaws.{read_result_keeps}, ArgumentLaws.{more_valid}, CallLaws.{call_result_keeps, function_result_keeps}}},
+  script_meaning.specs.{State.{State, without_name}, Reading.{Files, Reading, Reads, then_read, of_bytes, of_path}, Expression.{target_of, value_of_name, where_named, made, value_of, stepped, brackets_of, given_of, part_of, parts_of, named_of}, Statement.{Answer, then_answer, with_value, set_answer, statement_result}},
+  table_laws.{specs.Validity.{IsValidObject, IsValidEntry, IsValidGiven, IsValidArgument, AreValidArguments, IsValidState, LeavesValid, HasHeldLiterals, IsHeldArgument, IsHeldAction}, proofs.{Words.{Keeps}, InfixLaws.{infix_result_keeps, sign_result_keeps}, ReachLaws.{select_result_keeps, length_result_keeps}, SetLaws.{assign_result_keeps, removal_result_keeps}, MethodLaws.{chain_result_keeps}, CsvLaws.{read_result_keeps}, ArgumentLaws.{more_valid}, CallLaws.{call_result_keeps, function_result_keeps}}},
 }
 use Rattle.language_meaning.specs.Tree as tree
 use Rattle.method_meaning.specs.Calls as calls
@@ -24,7 +23,7 @@ read_keeps : {A B : Type 0} (P : A → Type 0) (Q : B → Type 0) (r : Reads A) 
 read_keeps P Q = grind arith
 
 after_any : {A B : Type 0} (Q : B → Type 0) (r : Reads A) (go : A → Reads B) → ((a : A) → IfOk (go a).answer Q) → IfOk (then_read r go).answer Q
-after_any Q = grind (arith, read_keeps)
+after_any = grind arith
 
 named_keeps : (known : Bool) (n : Text) (rest : Reads Entry) → Keeps rest.answer → IfOk (where_named known n rest).answer IsValidEntry
 named_keeps = grind arith
@@ -57,22 +56,20 @@ abbrev Gives : Expr → Reads Entry → Type 0
 Gives x r = IfOk r.answer (IsValueOf x)
 
 gives_valid : (x : Expr) (r : Reads Entry) → Keeps r.answer → Gives x r
-gives_valid = grind (arith, object)
+gives_valid = grind arith
 
 module _ (files : Files) (s : State) (valid : IsValidState s) where
   mutual
     value_valid : (x : Expr) → Gives x (value_of files s x)
-    value_valid (tree.name n) = gives_valid (tree.name n) (at_once (value_of_name n (s.value n))) (name_keeps n (s.value n) (valid n))
+    value_valid (tree.name n) = grind (arith, name_keeps, gives_valid, valid n)
     value_valid (tree.literal v) = record { valid = tt; held = λ h. h }
-    value_valid (tree.unary o x) =
-        gives_valid (tree.unary o x) (value_of files s (tree.unary o x)) (read_keeps (IsValueOf x) IsValidEntry (value_of files s x) _ (value_valid x) (λ v k. sign_result_keeps (is_minus o) v k.valid))
+    value_valid (tree.unary o x) = grind (arith, value_valid x, sign_result_keeps)
     value_valid (tree.binary o x y) =
         gives_valid (tree.binary o x y) (value_of files s (tree.binary o x y))
         (read_keeps (IsValueOf x) IsValidEntry (value_of files s x) _ (value_valid x)
         (λ v k. read_keeps (IsValueOf y) IsValidEntry (value_of files s y) _ (value_valid y) (λ w l. infix_result_keeps o v w k.valid l.valid)))
-    value_valid (tree.after x step) =
-        gives_valid (tree.after x step) (value_of files s (tree.after x step)) (read_keeps (IsValueOf x) IsValidEntry (value_of files s x) _ (value_valid x) (λ v k. step_keeps v step k.valid))
-    value_valid (tree.len x) = gives_valid (tree.len x) (value_of files s (tree.len x)) (after_any IsValidEntry (value_of files s x) _ (λ v. length_result_keeps v))
+    value_valid (tree.after x step) = grind (arith, value_valid x, λ (v : Entry) (h : IsValidObject v). step_keeps v step h)
+    value_valid (tree.len x) = grind (arith, length_result_keeps)
     value_valid (tree.make f args) =
         gives_valid (tree.make f args) (value_of files s (tree.make f args))
         (named_keeps (is_some (function_named f)) f _ (read_keeps AreValidArguments IsValidEntry (named_of files s args) _ (arguments_valid args) (λ gs k. made_keeps files f gs k)))
@@ -83,31 +80,26 @@ module _ (files : Files) (s : State) (valid : IsValidState s) where
         parens (Err fault) h = tt
 
     step_keeps : (v : Entry) (step : Step) → IsValidObject v → IfOk (stepped files s v step).answer IsValidEntry
-    step_keeps v (tree.item a) h = after_any IsValidEntry (given_of files s a) _ (λ g. select_result_keeps v plain (key_given g) None h)
-    step_keeps v (tree.access by first second) h =
-        after_any IsValidEntry (sub_of files s first) _ (λ g. after_any IsValidEntry (second_of files s second) _ (λ k. select_result_keeps v (through by) g k h))
+    step_keeps v (tree.item a) h = grind (arith, select_result_keeps)
+    step_keeps v (tree.access by first second) h = grind (arith, select_result_keeps)
     step_keeps v (tree.method n args) h =
         named_keeps (has_method v n) n _ (read_keeps AreValidArguments IsValidEntry (named_of files s args) _ (arguments_valid args) (λ gs k. call_result_keeps v (calls.plain n) gs h k))
     step_keeps v (tree.group args by n more) h =
         named_keeps (has_method v (codes "groupby")) (codes "groupby") _
         (after_any IsValidEntry (named_of files s args) _ (λ g. after_any IsValidEntry (brackets_of files s by) _ (λ k. after_any IsValidEntry (named_of files s more) _ (λ gs. chain_result_keeps v (calls.grouped g k n) gs h))))
-    step_keeps v (tree.rolling args n more) h =
-        named_keeps (has_method v (codes "rolling")) (codes "rolling") _
-        (after_any IsValidEntry (named_of files s args) _ (λ g. after_any IsValidEntry (named_of files s more) _ (λ gs. chain_result_keeps v (calls.through (codes "rolling")) gs h)))
-    step_keeps v (tree.expanding args n more) h =
-        named_keeps (has_method v (codes "expanding")) (codes "expanding") _
-        (after_any IsValidEntry (named_of files s args) _ (λ g. after_any IsValidEntry (named_of files s more) _ (λ gs. chain_result_keeps v (calls.through (codes "expanding")) gs h)))
+    step_keeps v (tree.rolling args n more) h = grind (arith, chain_result_keeps)
+    step_keeps v (tree.expanding args n more) h = grind (arith, chain_result_keeps)
 
     argument_valid : (a : Arg) → IfOk (given_of files s a).answer IsValidArgument
-    argument_valid (tree.expr x) = read_keeps (IsValueOf x) IsValidArgument (value_of files s x) _ (value_valid x) (λ v k. k.valid)
-    argument_valid (tree.many parts) = read_keeps (λ gs. All IsValid (tables_of gs)) IsValidArgument (parts_of files s parts) _ (parts_valid parts) (λ gs k. k)
-    argument_valid (tree.row parts) = after_any IsValidArgument (parts_of files s parts) _ (λ gs. tt)
-    argument_valid (tree.table pairs) = after_any IsValidArgument (pairs_of files s pairs) _ (λ pairs. tt)
+    argument_valid (tree.expr x) = grind (arith, value_valid x)
+    argument_valid (tree.many parts) = grind (arith, parts_valid parts)
+    argument_valid (tree.row parts) = grind arith
+    argument_valid (tree.table pairs) = grind arith
     argument_valid tree.nothing = tt
 
     part_valid : (a : Arg) → IfOk (part_of files s a).answer IsValidArgument
-    part_valid (tree.expr x) = read_keeps (IsValueOf x) IsValidArgument (value_of files s x) _ (value_valid x) (λ v k. k.valid)
-    part_valid (tree.row parts) = after_any IsValidArgument (parts_of files s parts) _ (λ gs. tt)
+    part_valid (tree.expr x) = grind (arith, value_valid x)
+    part_valid (tree.row parts) = grind arith
     part_valid (tree.many parts) = tt
     part_valid (tree.table pairs) = tt
     part_valid tree.nothing = tt
@@ -144,7 +136,7 @@ chosen : (b : Bool) (o p : Option Entry) → IfSome o IsValidEntry → IfSome p 
 chosen = grind arith
 
 bound_valid : (s : State) (x : Text) (o : Option Text) (v : Entry) → IsValidState s → IsValidEntry v → IsValidState (with_value s x o v)
-bound_valid = grind (arith, chosen)
+bound_valid = grind arith
 
 set_valid : (s : State) (o : Option Text) (r : Result Table FaultValue) → IsValidState s → IfOk r IsValid → LeavesValid (set_answer s o r)
 set_valid = grind (arith, chosen)
@@ -158,7 +150,7 @@ answer_keeps : {A : Type 0} (P : A → Type 0) (r : Reads A) (go : A → Reading
 answer_keeps P = grind arith
 
 -- The names stand for valid tables after a statement if they do before it.
-pub statement_keeps : (files : Files) (s : State) (f : Form) → IsValidState s → IsHeldForm f → LeavesValid (statement_result files s f).answer
+pub statement_keeps : (files : Files) (s : State) (f : Action) → IsValidState s → IsHeldAction f → LeavesValid (statement_result files s f).answer
 statement_keeps files s tree.import_pandas valid h = valid
 statement_keeps files s (tree.bind x e) valid h = answer_keeps _ (value_of files s e) _ (value_of_keeps files s valid e h) (λ v k. bound_valid s x _ v valid k)
 statement_keeps files s (tree.put x step a) valid h =

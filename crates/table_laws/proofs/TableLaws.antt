@@ -1,10 +1,10 @@
 -- Tables whose parts fit, before their limits are tested.
 use Rattle.{
-  std.{proofs.{Common.{arith, ◌≡◌, ℕ, ◌<◌, ◌≤◌, List, [], ◌∷◌, length, map, ◌≢◌, refl, suc}, lemmas.{Bool.Decides.{nat_tests}, List.{set-get_or, Elements.{All-nil, All-head, All-tail}, Quantifiers.{all_pairs_push}}}}, specs.{Prelude.{true, None, IsSome, IfOk, All, Bool, false, ◌||◌, nat_lt, slice_index_or, Option, Some, IfSome, option_map, unwrap_or}, Bool.{Decides}, List.{list_any}}},
-  cell_core.{specs.{declared.grid.Shape.{Shape, TheVariants.{Series, Frame}}, Values.{LabelValue}}, proofs.LabelLaws.{value_decides}},
+  meaning.proofs.Common.{arith, ◌≡◌, ℕ, ◌<◌, ◌≤◌, List, [], ◌∷◌, length, map, ◌≢◌, refl, suc, nat_tests, set-get_or, All-nil, All-head, All-tail, all_pairs_push, true, None, IsSome, IfOk, All, Bool, false, ◌||◌, nat_lt, slice_index_or, Option, Some, IfSome, option_map, unwrap_or, Decides, list_any, Shape, Series, Frame, LabelValue, value_decides},
   table_meaning.specs.{Table.{Table, column_at}, Valid.{AreHeadings, IsValid, within_limits}, Change.{put_at}},
-  form_meaning.specs.{Finish.{limited_table, limited, with_columns, same_heading, first_repeated, finished}, Binding.{same_label}, Select.{heading_at, place_of_label, found, column_place}},
-  table_laws.proofs.{Words.{Keeps, Column, Name, Apart, IsFrame, Below}, ColumnLaws.{IsColumn}, ListLaws.{both_ways, all_made}},
+  form_meaning.specs.{Finish.{limited_table, limited, with_columns, same_heading, first_repeated, finished}, Select.{heading_at, place_of_label, found, column_place}},
+  call_meaning.specs.Binding.{same_label},
+  table_laws.proofs.{Words.{Keeps, Column, Name, Apart, IsFrame, Below}, ColumnLaws.{IsColumn}, ListLaws.{all_made}},
 }
 
 -- a table that is valid if it is within the limits
@@ -16,24 +16,26 @@ pub record IsShaped (t : Table) : Type 0 where
   pub columns : All (IsColumn (length t.labels)) t.columns
   pub headings : AreHeadings t.shape t.columns_name t.headings
 
-pub shaped : (t : Table) → IsValid t → IsShaped t
-shaped = grind arith
+module _ (t : Table) where
+  pub shaped : IsValid t → IsShaped t
+  shaped = grind arith
 
-pub valid : (t : Table) → IsShaped t → within_limits (length t.labels) (length t.columns) ≡ true → IsValid t
-valid = grind arith
+  module _ (s : IsShaped t) where
+    pub valid : within_limits (length t.labels) (length t.columns) ≡ true → IsValid t
+    valid = grind arith
 
-pub limited_table_keeps : (t : Table) → IsShaped t → IfOk (limited_table t) IsValid
-limited_table_keeps = grind (arith, valid)
+    pub limited_table_keeps : IfOk (limited_table t) IsValid
+    limited_table_keeps = grind arith
 
-pub limited_keeps : (t : Table) → IsShaped t → Keeps (limited t)
-limited_keeps = grind (arith, limited_table_keeps)
+    pub limited_keeps : Keeps (limited t)
+    limited_keeps = grind arith
 
--- other columns in the places of a table's own
-pub with_columns_shaped : (t : Table) → IsShaped t → (columns : List Column) → length columns ≡ length t.columns → All (IsColumn (length t.labels)) columns → IsShaped (with_columns t columns)
-with_columns_shaped t s columns size h = search
+    -- other columns in the places of a table's own
+    pub with_columns_shaped : (columns : List Column) → length columns ≡ length t.columns → All (IsColumn (length t.labels)) columns → IsShaped (with_columns t columns)
+    with_columns_shaped columns size h = search
 
-pub column_of_table : (t : Table) → IsShaped t → (place : ℕ) → place < length t.columns → IsColumn (length t.labels) (column_at t.columns place)
-column_of_table = grind arith
+    pub column_of_table : (place : ℕ) → place < length t.columns → IsColumn (length t.labels) (column_at t.columns place)
+    column_of_table = grind arith
 
 -- the name of a Series
 pub series_heading : (s : Shape) (name : Name) (h : Name) → s ≡ Series → name ≡ None → AreHeadings s name (h ∷ [])
@@ -61,7 +63,7 @@ met = grind (arith, label_decides)
 
 -- another heading
 other : (h g : Name) → same_heading h g ≡ false → h ≢ g
-other = grind (arith, both_ways, label_decides)
+other = grind (arith, value_decides)
 
 neither : (b c : Bool) → b || c ≡ false → (b ≡ false) × (c ≡ false)
 neither = grind arith

@@ -1,8 +1,6 @@
 -- Words of the laws.
 use Rattle.{
-  std.{proofs.Common.{◌≡◌, ◌≢◌, ℕ, ◌<◌, List, length}, specs.Prelude.{Option, Result, IfOk, All, AllPairs}},
-  cell_core.specs.declared.grid.Shape.TheVariants.{Series, Frame},
-  meaning.specs.{Cell.{CellValue, LabelValue}, Fault.{FaultValue}},
+  meaning.proofs.Common.{◌≡◌, ◌≢◌, ℕ, ◌<◌, List, length, Option, Result, IfOk, All, AllPairs, Series, Frame, CellValue, LabelValue, FaultValue},
   table_meaning.specs.{Table.{ColumnOf, Table}, Value.{Entry}},
   table_laws.specs.Validity.{IsValidEntry},
 }
@@ -29,9 +27,16 @@ Keeps r = IfOk r IsValidEntry
 abbrev pub Below : ℕ → List ℕ → Type 0
 Below count places = All (λ place. place < count) places
 
+-- so many items, of each of which it holds
+abbrev pub AllOf : {A : Type 0} → (A → Type 0) → ℕ → List A → Type 0
+AllOf P count xs = (length xs ≡ count) × All P xs
+
 -- labels on so many levels
+abbrev pub Has : ℕ → Tuple → Type 0
+Has count tuple = length tuple ≡ count
+
 abbrev pub Levelled : ℕ → List Tuple → Type 0
-Levelled count tuples = All (λ tuple. length tuple ≡ count) tuples
+Levelled count tuples = All (Has count) tuples
 
 -- items that differ
 abbrev pub Apart : {A : Type 0} → List A → Type 0

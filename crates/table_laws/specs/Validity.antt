@@ -4,7 +4,7 @@ use Rattle.meaning.specs.Text.{Text}
 use Rattle.meaning.specs.Cell.{CellValue, Int64, holds}
 use Rattle.meaning.specs.Operator.{scalar_kind}
 use Rattle.language_meaning.specs.Tree as tree
-use Rattle.language_meaning.specs.Tree.{Expr, Arg, Form}
+use Rattle.language_meaning.specs.Tree.{Expr, Arg, Action}
 use Rattle.table_meaning.specs.Table.{Table}
 use Rattle.table_meaning.specs.Valid.{IsValid}
 use Rattle.table_meaning.specs.Value.{Entry, cell, table, Given, NamedGiven, nothing, one, row, many, entries}
@@ -72,10 +72,10 @@ abbrev pub IsHeldArgument : Arg → Type 0
 IsHeldArgument (tree.expr x) = HasHeldLiterals x
 IsHeldArgument a = Unit {0}
 
-abbrev pub IsHeldForm : Form → Type 0
-IsHeldForm tree.import_pandas = Unit {0}
-IsHeldForm (tree.bind x e) = HasHeldLiterals e
-IsHeldForm (tree.put x step a) = HasHeldLiterals x × IsHeldArgument a
-IsHeldForm (tree.drop_name n) = Unit {0}
-IsHeldForm (tree.drop_column n x) = Unit {0}
-IsHeldForm (tree.print x end) = Unit {0}
+abbrev pub IsHeldAction : Action → Type 0
+IsHeldAction tree.import_pandas = Unit {0}
+IsHeldAction (tree.bind x e) = HasHeldLiterals e
+IsHeldAction (tree.put x step a) = HasHeldLiterals x × IsHeldArgument a
+IsHeldAction (tree.drop_name n) = Unit {0}
+IsHeldAction (tree.drop_column n x) = Unit {0}
+IsHeldAction (tree.print x end) = Unit {0}

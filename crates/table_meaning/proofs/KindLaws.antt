@@ -1,7 +1,7 @@
 -- The test of kinds holds just where they are one.
 use Rattle.{
-  std.proofs.Common.{◌≡◌, true, refl},
-  cell_core.specs.declared.cell.Kind.{Kind, TheVariants.{Int64, Boolean, Text as string}},
+  meaning.proofs.Common.{◌≡◌, true, refl, Kind, Int64, Boolean},
+  cell_core.specs.declared.cell.Kind.TheVariants.{Text as string},
   table_meaning.specs.Table.{same_kind},
 }
 

@@ -1,7 +1,6 @@
 -- Two objects of a store.
 use Rattle.{
-  std.{proofs.{Common.{◌≡◌, ◌∙◌, ℕ, Bool, true, false, [], ◌∷◌, refl, ap, sym, subst, arith, nat_eq, if◌then◌else◌, Option, Some, None}, lemmas.Bool.Decides.{nat_tests}}, specs.Prelude.{◌≢◌, is_some, IsSome, length}},
-  cell_core.specs.declared.grid.Shape.TheVariants.{Series, Frame},
+  meaning.proofs.Common.{◌≡◌, ◌∙◌, ℕ, Bool, true, false, [], ◌∷◌, refl, ap, sym, subst, arith, nat_eq, if◌then◌else◌, Option, Some, None, nat_tests, ◌≢◌, is_some, IsSome, length, Series, Frame},
   table_meaning.specs.{Table.{NumberedTable, column_at}, Change.{put_at, with_column}, Valid.{AreHeadings}},
   frame_store.specs.Objects.{Tables, with_object, with_moved, table_or, table_at},
 }

@@ -1,6 +1,5 @@
 use Rattle.{
-  std.proofs.Common.{◌≡◌},
-  meaning.specs.Column.{tabulate},
+  meaning.proofs.Common.{◌≡◌, tabulate},
   column_bench.specs.Data.{place_at},
 }
 use Rattle.column_bench.proofs.data.places.Given as goal

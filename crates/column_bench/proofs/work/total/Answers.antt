@@ -1,9 +1,4 @@
-use Rattle.{
-  std.proofs.Common.{sym, subst},
-  meaning.specs.Cell.{AreGiven},
-  column_core.specs.Columns.{CellColumn},
-}
 use Rattle.column_bench.proofs.work.total.Goals as goal
 
 pub reduce-requires : goal.reduce-requires
-reduce-requires c = subst (λ (a : CellColumn). AreGiven c.args.dict.now a.cells) (sym c.as_ref.ensures) (c.requires c.args.dict.now)
+reduce-requires c = rw c.as_ref.ensures (c.requires c.args.dict.now)

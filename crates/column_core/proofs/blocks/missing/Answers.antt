@@ -1,6 +1,6 @@
 use Rattle.{
-  std.proofs.Common.{refl},
-  cell_core.specs.declared.cell.Kind.TheVariants.{Int64, Boolean, Text as string},
+  meaning.proofs.Common.{refl, Int64, Boolean},
+  cell_core.specs.declared.cell.Kind.TheVariants.{Text as string},
   column_core.{specs.Columns.{number_cell, truth_cell, text_cell}, proofs.BlockLaws.{blank_column}},
 }
 use Rattle.column_core.proofs.blocks.missing.Goals as goal

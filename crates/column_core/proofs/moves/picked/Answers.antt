@@ -1,8 +1,8 @@
 use Rattle.{
-  std.proofs.Common.{refl},
+  meaning.proofs.Common.{refl},
   column_core.proofs.CellRows.{total_made},
 }
 use Rattle.column_core.proofs.moves.picked.Goals as goal
 
 pub returns-in-Ok : goal.returns-in-Ok
-returns-in-Ok g c = total_made _ g.T.Value.cell _ _ _ _ _ _ _ (λ k. refl) c.in-Ok.ensures.rows c.in-Ok.ensures.count c.column.ensures
+returns-in-Ok g c = total_made _ g.T.Element.cell _ _ _ _ _ _ _ (λ k. refl) c.in-Ok.ensures.rows c.in-Ok.ensures.count c.column.ensures

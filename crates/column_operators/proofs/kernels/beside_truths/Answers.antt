@@ -1,5 +1,5 @@
 use Rattle.{
-  std.proofs.Common.{arith},
+  meaning.proofs.Common.{arith},
   column_core.specs.Columns.{truth_cell},
   column_operators.proofs.Scalars.{scalar_on_left, scalar_on_right},
 }

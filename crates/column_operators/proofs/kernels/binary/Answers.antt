@@ -1,6 +1,5 @@
 use Rattle.{
-  std.proofs.Common.{refl, sym},
-  meaning.specs.Symbol.{add},
+  meaning.proofs.Common.{refl, sym, add},
   column_operators.proofs.RowLaws.{column_rows},
 }
 use Rattle.column_operators.proofs.kernels.binary.Goals as goal

@@ -1,6 +1,6 @@
 use Rattle.{
-  std.{proofs.Common.{arith, refl}, specs.{Ordering.{nat_cmp}, Cmp.Lexicographic.{slice_cmp}}},
-  cell_core.specs.{Values.{text_of}, declared.cell.Kind.TheVariants.{Text as string}},
+  meaning.proofs.Common.{arith, refl, nat_cmp, slice_cmp, text_of},
+  cell_core.specs.declared.cell.Kind.TheVariants.{Text as string},
   column_core.specs.Columns.{text_cell},
   column_operators.{specs.Operations.{compare_row}, proofs.TaskAnswers.{pair_answer}},
   nullable_array.proofs.ColumnAnswers.{given_at},

@@ -1,6 +1,5 @@
 use Rattle.{
-  std.proofs.Common.{ap, sym, subst, ◌∙◌},
-  meaning.specs.Operator.{invert_column},
+  meaning.{proofs.Common.{ap, sym, subst, ◌∙◌}, specs.Operator.{invert_column}},
   nullable_array.specs.Answers.{Answers},
   column_core.{specs.{Columns.{CellColumn, column_value, truth_cell}, Views.{borrowed_column}}, proofs.CellRows.{same_column}},
 }

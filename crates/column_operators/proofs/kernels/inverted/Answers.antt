@@ -1,6 +1,5 @@
 use Rattle.{
-  std.proofs.Common.{subst, Result},
-  meaning.specs.Column.{ColumnValue, ColumnFault},
+  meaning.proofs.Common.{subst, Result, ColumnValue, ColumnFault},
   nullable_array.specs.Answers.{Answers},
   column_core.proofs.CellRows.{total_column},
   column_operators.proofs.Laws.{not_law, not_some},

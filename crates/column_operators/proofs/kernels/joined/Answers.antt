@@ -1,5 +1,5 @@
 use Rattle.{
-  std.proofs.Common.{ap, sym, ◌∙◌, Ok},
+  meaning.proofs.Common.{ap, sym, ◌∙◌, Ok},
   cell_core.specs.declared.cell.Kind.TheVariants.{Text as string},
   column_operators.{specs.Tasks.{task_cell}, proofs.Laws.{join_law}},
   column_core.proofs.CellRows.{pairs_column},

@@ -1,5 +1,5 @@
 use Rattle.{
-  std.proofs.Common.{refl},
+  meaning.proofs.Common.{refl},
   column_core.{specs.Columns.{text_cell}, proofs.ColumnLaws.{given-row}},
   column_operators.proofs.Scalars.{text_kept, scalar_on_left, scalar_on_right},
 }

@@ -1,6 +1,5 @@
 use Rattle.{
-  std.proofs.Common.{subst},
-  meaning.specs.Cell.{datum},
+  meaning.proofs.Common.{subst, datum},
   nullable_array.specs.Answers.{Answers},
   column_core.{specs.Columns.{CellColumn, column_value, number_cell}, proofs.CellRows.{same_column}},
   column_operators.specs.Tasks.{scalar_task},

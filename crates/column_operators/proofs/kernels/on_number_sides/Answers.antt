@@ -1,6 +1,5 @@
 use Rattle.{
-  std.{proofs.Common.{arith, refl, ◌+ℤ◌, ◌-ℤ◌, ◌*ℤ◌}, specs.Ordering.{int_cmp}},
-  cell_core.specs.declared.cell.Kind.TheVariants.{Int64},
+  meaning.proofs.Common.{arith, refl, ◌+ℤ◌, ◌-ℤ◌, ◌*ℤ◌, int_cmp, Int64},
   column_core.specs.Columns.{number_cell},
   column_operators.{specs.Operations.{number_row, compare_row}, proofs.{TaskAnswers.{pair_answer}, Laws.{sum_law}}},
 }

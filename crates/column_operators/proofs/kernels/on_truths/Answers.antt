@@ -1,6 +1,5 @@
 use Rattle.{
-  std.{proofs.Common.{arith, refl}, specs.Ordering.{bool_cmp}},
-  cell_core.specs.declared.cell.Kind.TheVariants.{Boolean},
+  meaning.proofs.Common.{arith, refl, bool_cmp, Boolean},
   column_core.specs.Columns.{truth_cell},
   column_operators.{specs.Operations.{compare_row, and_row, or_row, xor_row}, proofs.TaskAnswers.{pair_answer}},
 }

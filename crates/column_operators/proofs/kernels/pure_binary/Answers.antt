@@ -1,5 +1,5 @@
 use Rattle.{
-  std.proofs.Common.{refl, sym, rules},
+  meaning.proofs.Common.{refl, sym, rules},
   column_operators.{specs.Tasks.{operator_of}, proofs.RowLaws.{column_rows}},
 }
 use Rattle.column_operators.proofs.kernels.pure_binary.Goals as goal

@@ -1,6 +1,5 @@
 use Rattle.{
-  std.proofs.Common.{arith, pos, Some, refl},
-  cell_core.specs.declared.cell.Kind.TheVariants.{Int64},
+  meaning.proofs.Common.{arith, pos, Some, refl, Int64},
   column_core.specs.Columns.{number_cell},
   column_operators.proofs.{TaskAnswers.{pair_answer}, Laws.{quotient_law}},
 }

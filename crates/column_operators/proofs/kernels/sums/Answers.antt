@@ -1,5 +1,5 @@
 use Rattle.{
-  std.proofs.Common.{arith, ap, sym, ◌∙◌},
+  meaning.proofs.Common.{arith, ap, sym, ◌∙◌},
   column_core.{specs.Views.{borrowed_column}, proofs.ColumnLaws.{length-tabulate, given-row}},
   nullable_array.proofs.ColumnAnswers.{given_at},
 }

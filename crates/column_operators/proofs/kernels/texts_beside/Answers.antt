@@ -1,5 +1,5 @@
 use Rattle.{
-  std.proofs.Common.{refl},
+  meaning.proofs.Common.{refl},
   cell_core.specs.declared.cell.Kind.TheVariants.{Text as string},
   column_core.specs.Columns.{text_cell},
   column_operators.proofs.Scalars.{text_kept, scalar_on_left, scalar_on_right},

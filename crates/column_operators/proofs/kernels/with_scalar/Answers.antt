@@ -1,6 +1,5 @@
 use Rattle.{
-  std.proofs.Common.{refl},
-  meaning.specs.Symbol.{add},
+  meaning.proofs.Common.{refl, add},
   column_operators.proofs.RowLaws.{scalar_rows},
 }
 use Rattle.column_operators.proofs.kernels.with_scalar.Goals as goal

@@ -1,5 +1,5 @@
 use Rattle.{
-  std.{proofs.Common.{◌∙◌, ap, sym, refl, Some}, specs.List.{list_any}},
+  meaning.proofs.Common.{◌∙◌, ap, sym, refl, Some, list_any},
   column_core.specs.{Columns.{number_cell, truth_cell, text_cell}, Views.{borrowed_column}},
   column_operators.{specs.Marks.{same_number}, proofs.MarkLaws.{if_mapped}},
 }

@@ -1,5 +1,5 @@
 use Rattle.{
-  std.{proofs.Common.{arith, Some}, specs.List.{list_any}},
+  meaning.proofs.Common.{arith, Some, list_any},
   column_core.specs.Columns.{text_cell},
   column_operators.{specs.Marks.{listed_value, same_number}, proofs.MarkLaws.{if_same_rows, text_listed}},
 }

@@ -1,9 +1,9 @@
 use Rattle.{
-  std.proofs.Common.{refl},
+  meaning.proofs.Common.{refl},
   column_core.proofs.{CellRows.{total_made}, RowsMade.{rows_written}},
 }
 use Rattle.column_operators.proofs.missing.fill_side.Goals as goal
 
 pub returns : goal.returns
 returns g c =
-    total_made _ g.T.Value.cell _ _ _ _ _ _ _ (λ k. refl) (rows_written _ _ _ _ c.in_ok-rows.ensures.rows) c.in_ok-rows.ensures.count c.column.ensures
+    total_made _ g.T.Element.cell _ _ _ _ _ _ _ (λ k. refl) (rows_written _ _ _ _ c.in_ok-rows.ensures.rows) c.in_ok-rows.ensures.count c.column.ensures

@@ -1,5 +1,5 @@
 use Rattle.{
-  std.proofs.Common.{arith, ◌∙◌, ap, sym},
+  meaning.proofs.Common.{arith, ◌∙◌, ap, sym},
   column_core.specs.{Columns.{number_cell, truth_cell, text_cell}, Views.{borrowed_column}},
   column_operators.{specs.Marks.{filled_value}, proofs.MarkLaws.{if_kept}},
 }

@@ -1,5 +1,5 @@
 use Rattle.{
-  std.proofs.{Common.{◌∙◌, ap, Some}, lemmas.Result.{IfOk-weaker}},
+  meaning.proofs.Common.{◌∙◌, ap, Some, IfOk-weaker},
   column_core.{specs.Columns.{truth_cell}, proofs.CellRows.{same_column}},
   column_operators.specs.Marks.{mark_of},
 }

@@ -1,5 +1,5 @@
 use Rattle.{
-  std.proofs.Common.{refl},
+  meaning.proofs.Common.{refl},
   column_core.{specs.Columns.{truth_cell}, proofs.{CellRows.{total_made}, RowsMade.{rows_written}}},
 }
 use Rattle.column_operators.proofs.missing.mark_side.Goals as goal

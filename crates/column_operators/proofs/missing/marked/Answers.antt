@@ -1,5 +1,5 @@
 use Rattle.{
-  std.proofs.Common.{arith, ◌∙◌, ap, sym, Some},
+  meaning.proofs.Common.{arith, ◌∙◌, ap, sym, Some},
   column_core.specs.{Columns.{number_cell, truth_cell, text_cell}, Views.{borrowed_column}},
   column_operators.{specs.Marks.{mark_of}, proofs.MarkLaws.{if_mapped}},
 }

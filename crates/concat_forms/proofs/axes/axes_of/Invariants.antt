@@ -1,6 +1,5 @@
 use Rattle.{
-  std.proofs.Common.{◌≡◌, map, take, All},
-  frame_store.specs.Parts.{axis_of},
+  form_parts.proofs.Common.{◌≡◌, map, take, All, axis_of},
   concat_forms.specs.Axes.{IsAlike},
 }
 use Rattle.concat_forms.proofs.axes.axes_of.Given as goal

@@ -1,5 +1,6 @@
 use Rattle.{
-  std.proofs.{Common.{◌≡◌, ◌<◌, ◌+◌, ◌-◌, length, arith}, lemmas.List.{length-set, append-nil, take-map}},
+  form_parts.proofs.Common.{◌≡◌, ◌<◌, ◌+◌, ◌-◌, length, arith, length-set},
+  meaning.proofs.Common.{append-nil, take-map},
   concat_forms.proofs.PartLaws.{level_more, given_more},
 }
 use Rattle.concat_forms.proofs.axes.named.Goals as goal

@@ -1,7 +1,5 @@
 use Rattle.{
-  std.proofs.Common.{◌≡◌, ◌+◌, ◌++◌, take, length},
-  table_meaning.specs.Settled.{IsSettled},
-  frame_store.specs.Shown.{headings_value},
+  form_parts.proofs.Common.{◌≡◌, ◌+◌, ◌++◌, take, length, IsSettled, headings_value},
   concat_forms.specs.{Parts.{parts_value}, Axes.{names_of_levels}},
 }
 use Rattle.concat_forms.proofs.axes.named.Given as goal

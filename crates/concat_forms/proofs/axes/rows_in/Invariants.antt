@@ -1,5 +1,5 @@
 use Rattle.{
-  std.proofs.Common.{◌≡◌, ◌≤◌, take},
+  form_parts.proofs.Common.{◌≡◌, ◌≤◌, take},
   concat_forms.specs.Columns.{rows_in},
 }
 use Rattle.concat_forms.proofs.axes.rows_in.Given as goal

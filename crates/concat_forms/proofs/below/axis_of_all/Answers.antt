@@ -1,6 +1,6 @@
 use Rattle.{
+  form_parts.proofs.Common.{arith, ap},
   concat_forms.proofs.PartLaws.{lent, items_in, numbered_given, axis_given, axis_rows},
-  std.proofs.Common.{arith, ap},
 }
 use Rattle.concat_forms.proofs.below.axis_of_all.Goals as goal
 

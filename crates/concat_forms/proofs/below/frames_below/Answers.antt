@@ -1,5 +1,5 @@
 use Rattle.{
-  std.proofs.Common.{◌∙◌},
+  form_parts.proofs.Common.{◌∙◌},
   concat_forms.proofs.PartLaws.{frame_headings},
 }
 use Rattle.concat_forms.proofs.below.frames_below.Goals as goal

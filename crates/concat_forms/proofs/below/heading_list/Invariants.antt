@@ -1,4 +1,4 @@
-use Rattle.std.proofs.Common.{◌≡◌, take}
+use Rattle.form_parts.proofs.Common.{◌≡◌, take}
 use Rattle.concat_forms.proofs.below.heading_list.Given as goal
 
 -- the headings so far

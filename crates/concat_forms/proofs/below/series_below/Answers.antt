@@ -1,4 +1,4 @@
-use Rattle.std.proofs.Common.{◌∷◌, []}
+use Rattle.form_parts.proofs.Common.{◌∷◌, []}
 use Rattle.concat_forms.proofs.below.series_below.Goals as goal
 
 pub table_below-requires-clause-given : goal.table_below-requires-clause-given

@@ -1,4 +1,7 @@
-use Rattle.{std.proofs.Common.{◌∙◌, sym, arith}, concat_forms.proofs.BelowLaws.{table_is, table_whole}}
+use Rattle.{
+  form_parts.proofs.Common.{◌∙◌, sym, arith},
+  concat_forms.proofs.BelowLaws.{table_is, table_whole},
+}
 use Rattle.concat_forms.proofs.below.table_below.Goals as goal
 
 pub new-requires-clause-whole : goal.new-requires-clause-whole

@@ -1,6 +1,5 @@
 use Rattle.{
-  frame_store.proofs.Settling.{labels_part},
-  std.proofs.Common.{arith, ◌∙◌, sym},
+  form_parts.proofs.Common.{labels_part, arith, ◌∙◌, sym},
   concat_forms.proofs.BesideLaws.{equal_axis},
 }
 use Rattle.concat_forms.proofs.beside.beside.Goals as goal

@@ -1,6 +1,6 @@
 use Rattle.{
+  form_parts.proofs.Common.{arith},
   concat_forms.proofs.{PartLaws.{item_known}, BesideLaws.{part_added, columns_added}},
-  std.proofs.Common.{arith},
 }
 use Rattle.concat_forms.proofs.beside.columns_beside.Goals as goal
 

@@ -1,8 +1,6 @@
 use Rattle.{
-  std.{proofs.Common.{◌≡◌, take, length}, specs.List.{flat_map}},
+  form_parts.proofs.Common.{◌≡◌, take, length, flat_map, labels_value, blocks_value},
   method_meaning.specs.Concat.{columns_beside},
-  frame_store.specs.Shown.{labels_value},
-  form_parts.specs.Makes.{blocks_value},
   concat_forms.specs.{Parts.{parts_value}, Beside.{AreBlocks}},
 }
 use Rattle.concat_forms.proofs.beside.columns_beside.Given as goal

@@ -1,5 +1,5 @@
 use Rattle.{
-  std.proofs.Common.{arith},
+  form_parts.proofs.Common.{arith},
   concat_forms.proofs.{PartLaws.{first_count}, BesideLaws.{met_labels, met_twice, united_alike, met_axis}},
 }
 use Rattle.concat_forms.proofs.beside.met.Goals as goal

@@ -1,6 +1,6 @@
 use Rattle.{
+  form_parts.proofs.Common.{rules},
   concat_forms.proofs.BesideLaws.{frame_is, frame_whole},
-  std.proofs.Common.{rules},
 }
 use Rattle.concat_forms.proofs.beside.on_axis.Goals as goal
 

@@ -1,6 +1,5 @@
 use Rattle.{
-  std.proofs.Common.{arith},
-  form_parts.proofs.GapLaws.{block_on, single_on},
+  form_parts.proofs.Common.{arith, block_on, single_on},
   concat_forms.proofs.PlaceLaws.{more_on},
 }
 use Rattle.concat_forms.proofs.beside.with_columns.Goals as goal

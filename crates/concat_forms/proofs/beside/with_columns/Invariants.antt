@@ -1,9 +1,4 @@
-use Rattle.{
-  std.proofs.Common.{◌≡◌, ◌++◌, take, All},
-  cell_core.specs.declared.cell.Cell.TheVariants.{Na},
-  form_meaning.specs.Infix.{on_rows},
-  frame_store.specs.Parts.{columns_of, IsSingle},
-}
+use Rattle.form_parts.proofs.Common.{◌≡◌, ◌++◌, take, All, Na, on_rows, columns_of, IsSingle}
 use Rattle.concat_forms.proofs.beside.with_columns.Given as goal
 
 -- the columns so far

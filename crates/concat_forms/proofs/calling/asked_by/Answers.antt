@@ -1,4 +1,4 @@
-use Rattle.std.proofs.Common.{arith}
+use Rattle.form_parts.proofs.Common.{arith}
 use Rattle.concat_forms.proofs.calling.asked_by.Goals as goal
 
 pub returns-clause-keys : goal.returns-clause-keys

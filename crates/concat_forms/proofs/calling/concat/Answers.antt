@@ -1,17 +1,11 @@
 use Rattle.{
-  std.{proofs.Common.{arith, subst, Ok, List, ◌≡◌}, specs.{Prelude.{IfSome}, Option.{option_map}}},
+  form_parts.proofs.Common.{arith, subst, Ok, List, ◌≡◌, IfSome, option_map, tables, World, world, AreKnownArguments, Named, Text, IsSettled, list_in, labels_of},
   signatures.specs.{Bound.{IsBound, stands_at}, declared.bound.Bound.{Bound as BoundArguments}},
-  frame_store.specs.{Objects.{tables}, Readers.{AreLiveLentItems}, World.{World, world, AreKnownArguments}, declared.arguments.Named.{Named}},
-  meaning.specs.Text.{Text},
-  table_meaning.specs.{Settled.{IsSettled}, Value.{list_in}},
-  form_meaning.specs.{declared.Function.TheVariants.{Concat}, Signature.{function_parameters}, Select.{labels_of}},
+  frame_store.specs.Readers.{AreLiveLentItems},
+  call_meaning.specs.{declared.Function.TheVariants.{Concat}, Signature.{function_parameters}},
   concat_forms.specs.{declared.asked.Asked.{Asked}, Asked.{asked_value, keys_value}},
 }
 use Rattle.concat_forms.proofs.calling.concat.Goals as goal
-
--- bound: b = c.in_ok-bound.bound; h : IsBound w (function_parameters Concat) args (Ok b) is c.in_ok-bound.ensures, with
--- c.function_parameters.ensures : result.now ≡ function_parameters Concat in the place of the parameters:
--- subst (λ (ps : List Parameter). IsBound w ps c.args.args.now (Ok b)) c.function_parameters.ensures c.in_ok-bound.ensures
 
 -- the labels of parts were given
 asked_given : (w : World) (args : List Named) (b : BoundArguments) → IsBound w (function_parameters Concat) args (Ok b) → (a : Asked) → AreKnownArguments w args → ((texts : List Text) → keys_value texts a.keys ≡ option_map labels_of (list_in (stands_at w.tables texts b 4))) → IsSettled asked_value w.texts a
@@ -27,4 +21,4 @@ concatenated-requires-clause-known c = rw c.deref.ensures.value (c.in_ok-parts.e
 pub concatenated-requires-clause-keys : goal.concatenated-requires-clause-keys
 concatenated-requires-clause-keys c =
     let w = world c.args.store.now c.args.dict.now in
-    asked_given w _ c.in_ok-bound.bound (subst (λ ps. IsBound w ps c.args.args.now (Ok c.in_ok-bound.bound)) c.function_parameters.ensures c.in_ok-bound.ensures) _ c.requires.known (c.in_ok-asked.ensures.keys w.tables)
+    asked_given w _ c.in_ok-bound.bound (rw c.function_parameters.ensures at c.in_ok-bound.ensures) _ c.requires.known (c.in_ok-asked.ensures.keys w.tables)

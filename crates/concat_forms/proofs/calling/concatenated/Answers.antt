@@ -1,7 +1,4 @@
-use Rattle.{
-  table_meaning.specs.Table.{table_value},
-  std.proofs.{Common.{arith}, lemmas.List.{length-map}},
-}
+use Rattle.form_parts.proofs.Common.{table_value, arith, length-map}
 use Rattle.concat_forms.proofs.calling.concatenated.Goals as goal
 
 pub returns-then-across : goal.returns-then-across

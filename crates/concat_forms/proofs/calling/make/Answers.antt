@@ -1,7 +1,4 @@
-use Rattle.{
-  std.proofs.Common.{arith, subst},
-  frame_store.{specs.World.{world, Forms}, proofs.Settling.{longer_self}},
-}
+use Rattle.form_parts.proofs.Common.{arith, subst, world, Forms, longer_self}
 use Rattle.concat_forms.proofs.calling.make.Goals as goal
 
 pub returns-in-Some-Concat : goal.returns-in-Some-Concat

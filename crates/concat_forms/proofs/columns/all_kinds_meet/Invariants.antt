@@ -1,5 +1,5 @@
 use Rattle.{
-  std.proofs.Common.{◌≡◌, drop},
+  form_parts.proofs.Common.{◌≡◌, drop},
   concat_forms.specs.Columns.{all_kinds_meet},
 }
 use Rattle.concat_forms.proofs.columns.all_kinds_meet.Given as goal

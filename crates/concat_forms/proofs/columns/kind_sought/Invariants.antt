@@ -1,5 +1,5 @@
 use Rattle.{
-  std.proofs.Common.{◌≡◌, drop},
+  form_parts.proofs.Common.{◌≡◌, drop},
   concat_forms.specs.Columns.{kind_sought},
 }
 use Rattle.concat_forms.proofs.columns.kind_sought.Given as goal

@@ -1,5 +1,5 @@
 use Rattle.{
-  std.{proofs.Common.{◌≡◌, drop}, specs.List.{list_all}},
+  form_parts.proofs.Common.{◌≡◌, drop, list_all},
   concat_forms.specs.{Parts.{column_sought}, Columns.{fits_kind}},
 }
 use Rattle.concat_forms.proofs.columns.kinds_meet.Given as goal

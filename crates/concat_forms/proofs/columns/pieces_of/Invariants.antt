@@ -1,5 +1,5 @@
 use Rattle.{
-  std.proofs.Common.{◌≡◌, map, take},
+  form_parts.proofs.Common.{◌≡◌, map, take},
   concat_forms.specs.Columns.{piece_of},
 }
 use Rattle.concat_forms.proofs.columns.pieces_of.Given as goal

@@ -1,6 +1,6 @@
 use Rattle.{
+  form_parts.proofs.Common.{arith, ◌∙◌, []},
   concat_forms.proofs.BelowLaws.{stacked_told, stacked_is},
-  std.proofs.Common.{arith, ◌∙◌, []},
 }
 use Rattle.concat_forms.proofs.columns.stacked.Goals as goal
 

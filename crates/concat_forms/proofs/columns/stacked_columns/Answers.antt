@@ -1,6 +1,5 @@
 use Rattle.{
-  std.proofs.Common.{arith},
-  form_parts.proofs.GapLaws.{single_on},
+  form_parts.proofs.Common.{arith, single_on},
   concat_forms.proofs.BelowLaws.{one_more_stacked},
 }
 use Rattle.concat_forms.proofs.columns.stacked_columns.Goals as goal

@@ -1,8 +1,5 @@
 use Rattle.{
-  std.proofs.Common.{◌≡◌, List, take, All},
-  meaning.specs.Text.{Text},
-  frame_store.specs.{Parts.{IsSingle}, Shown.{columns_value}},
-  form_parts.specs.Makes.{blocks_value},
+  form_parts.proofs.Common.{◌≡◌, List, take, All, Text, IsSingle, columns_value, blocks_value},
   concat_forms.specs.Columns.{columns_stacked},
 }
 use Rattle.concat_forms.proofs.columns.stacked_columns.Given as goal

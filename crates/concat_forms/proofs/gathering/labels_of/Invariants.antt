@@ -1,9 +1,4 @@
-use Rattle.{
-  std.proofs.Common.{◌≡◌, ◌++◌, map, drop, List},
-  meaning.specs.{Text.{Text}, Cell.{label_datum}},
-  form_meaning.specs.Select.{labels_of},
-  frame_store.specs.{Arguments.{items_of}, Objects.{Tables}},
-}
+use Rattle.form_parts.proofs.Common.{◌≡◌, ◌++◌, map, drop, List, Text, label_datum, labels_of, items_of, Tables}
 use Rattle.concat_forms.proofs.gathering.labels_of.Given as goal
 
 -- the labels so far, and those that are left

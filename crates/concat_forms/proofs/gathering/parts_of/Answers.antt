@@ -1,6 +1,5 @@
 use Rattle.{
-  std.proofs.Common.{arith, ◌∙◌, ◌++◌, ◌∷◌, [], ap, Some},
-  frame_store.specs.Objects.{tables},
+  form_parts.proofs.Common.{arith, ◌∙◌, ◌++◌, ◌∷◌, [], ap, Some, tables},
   concat_forms.proofs.{PartLaws.{object_live, no_part, part_more, known_more}, gathering.parts_of.Goals.{in-Some+in_ok-new+in_ok-push, in_default}},
 }
 use Rattle.concat_forms.proofs.gathering.parts_of.Goals as goal

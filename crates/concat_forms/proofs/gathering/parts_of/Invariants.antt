@@ -1,8 +1,6 @@
 use Rattle.{
-  std.proofs.Common.{◌≡◌, ◌++◌, drop, List},
-  meaning.specs.Text.{Text},
+  form_parts.proofs.Common.{◌≡◌, ◌++◌, drop, List, Text, items_of, tables},
   method_meaning.specs.Concat.{tables_of},
-  frame_store.specs.{Arguments.{items_of}, Objects.{tables}},
   concat_forms.specs.Parts.{parts_value, AreSettledParts},
 }
 use Rattle.concat_forms.proofs.gathering.parts_of.Given as goal

@@ -1,5 +1,5 @@
 use Rattle.{
-  std.proofs.Common.{◌≡◌, take},
+  form_parts.proofs.Common.{◌≡◌, take},
   concat_forms.specs.Headings.{common_headings},
 }
 use Rattle.concat_forms.proofs.headings.common_headings.Given as goal

@@ -1,4 +1,4 @@
-use Rattle.std.{proofs.Common.{◌≡◌, take}, specs.List.{flat_map}}
+use Rattle.form_parts.proofs.Common.{◌≡◌, take, flat_map}
 use Rattle.concat_forms.proofs.headings.gathered.Given as goal
 
 -- the headings of the parts so far

@@ -1,5 +1,5 @@
 use Rattle.{
-  std.proofs.Common.{◌≡◌, drop},
+  form_parts.proofs.Common.{◌≡◌, drop},
   concat_forms.specs.Headings.{held_by_all},
 }
 use Rattle.concat_forms.proofs.headings.held_by_all.Given as goal

@@ -1,5 +1,5 @@
 use Rattle.{
-  std.proofs.Common.{◌≡◌, ◌++◌, ◌≤◌, drop, length},
+  form_parts.proofs.Common.{◌≡◌, ◌++◌, ◌≤◌, drop, length},
   concat_forms.specs.Headings.{numbered},
 }
 use Rattle.concat_forms.proofs.headings.numbered.Given as goal

@@ -1,5 +1,5 @@
 use Rattle.{
-  std.{proofs.Common.{◌≡◌, not, drop}, specs.List.{list_all}},
+  form_parts.proofs.Common.{◌≡◌, not, drop, list_all},
   method_meaning.specs.Concat.{is_series},
 }
 use Rattle.concat_forms.proofs.names.are_frames.Given as goal

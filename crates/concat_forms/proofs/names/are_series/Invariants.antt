@@ -1,5 +1,5 @@
 use Rattle.{
-  std.{proofs.Common.{◌≡◌, drop}, specs.List.{list_all}},
+  form_parts.proofs.Common.{◌≡◌, drop, list_all},
   method_meaning.specs.Concat.{is_series},
 }
 use Rattle.concat_forms.proofs.names.are_series.Given as goal

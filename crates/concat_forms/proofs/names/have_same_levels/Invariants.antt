@@ -1,4 +1,4 @@
-use Rattle.std.{proofs.Common.{◌≡◌, nat_eq, length, drop}, specs.List.{list_all}}
+use Rattle.form_parts.proofs.Common.{◌≡◌, nat_eq, length, drop, list_all}
 use Rattle.concat_forms.proofs.names.have_same_levels.Given as goal
 
 abbrev pub invariant-loop-other : goal.invariant-loop-other

@@ -1,6 +1,6 @@
 use Rattle.{
-  std.proofs.{lemmas.List.Elements.{All-take, All-drop}, Common.{arith}},
-  frame_store.specs.World.{IsKnownTable},
+  meaning.proofs.Common.{All-take, All-drop},
+  form_parts.proofs.Common.{arith, IsKnownTable},
   concat_forms.proofs.{PartLaws.{name_given, name_seen, next_name, item_known}, PlaceLaws.{rest_of}},
 }
 use Rattle.concat_forms.proofs.names.name_of_all.Goals as goal

@@ -1,7 +1,5 @@
 use Rattle.{
-  std.proofs.Common.{◌≡◌, map, fold, drop},
-  table_meaning.specs.{Settled.{IsSettled}, Table.{heading_value}},
-  form_meaning.specs.Infix.{common_name},
+  form_parts.proofs.Common.{◌≡◌, map, fold, drop, IsSettled, heading_value, common_name},
   concat_forms.specs.Parts.{name_at, parts_value},
 }
 use Rattle.method_meaning.specs.Concat as meant

@@ -1,5 +1,5 @@
 use Rattle.{
-  std.proofs.Common.{arith},
+  form_parts.proofs.Common.{arith},
   concat_forms.proofs.PartLaws.{one_more_heading},
 }
 use Rattle.concat_forms.proofs.parts.headings_of.Goals as goal

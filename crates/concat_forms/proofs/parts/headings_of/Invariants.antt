@@ -1,4 +1,4 @@
-use Rattle.std.proofs.Common.{◌≡◌, take}
+use Rattle.form_parts.proofs.Common.{◌≡◌, take}
 use Rattle.concat_forms.proofs.parts.headings_of.Given as goal
 
 abbrev pub invariant-loop-place : goal.invariant-loop-place

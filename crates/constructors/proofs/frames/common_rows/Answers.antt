@@ -1,6 +1,6 @@
 use Rattle.{
-  std.proofs.Common.{refl},
-  constructors.proofs.RowLaws.{rows_differ},
+  form_parts.proofs.Common.{refl},
+  constructors.proofs.FrameLaws.{rows_differ},
 }
 use Rattle.constructors.proofs.frames.common_rows.Goals as goal
 

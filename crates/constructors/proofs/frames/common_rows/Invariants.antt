@@ -1,7 +1,5 @@
 use Rattle.{
-  std.proofs.Common.{◌≡◌, List, drop},
-  meaning.specs.Text.{Text},
-  form_parts.specs.Makes.{blocks_value},
+  form_parts.proofs.Common.{◌≡◌, List, drop, Text, blocks_value},
   constructors.specs.Made.{same_rows, common_rows},
 }
 use Rattle.constructors.proofs.frames.common_rows.Given as goal

@@ -1,6 +1,6 @@
 use Rattle.{
-  std.proofs.Common.{[]},
-  constructors.proofs.RowLaws.{axis_rows},
+  form_parts.proofs.Common.{[]},
+  constructors.proofs.FrameLaws.{axis_rows},
 }
 use Rattle.constructors.proofs.frames.frame_axis.Goals as goal
 

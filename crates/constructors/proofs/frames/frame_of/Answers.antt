@@ -1,5 +1,5 @@
 use Rattle.{
-  std.proofs.lemmas.Result.{err_from_is_err_and},
+  form_parts.proofs.Common.{err_from_is_err_and},
   constructors.proofs.FrameLaws.{columns_refused, rows_refused, frame_made, frame_whole},
 }
 use Rattle.constructors.proofs.frames.frame_of.Goals as goal

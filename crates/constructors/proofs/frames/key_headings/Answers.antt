@@ -1,5 +1,5 @@
 use Rattle.{
-  std.proofs.Common.{◌≡◌, map, Some, None, rules},
+  form_parts.proofs.Common.{◌≡◌, map, Some, None, rules},
   indexmap.specs.IndexMap.{keys},
   constructors.proofs.FrameLaws.{keys_fit},
 }

@@ -1,5 +1,5 @@
 use Rattle.{
-  std.proofs.Common.{◌≡◌, ◌++◌, map, Some, None},
+  form_parts.proofs.Common.{◌≡◌, ◌++◌, map, Some, None},
   indexmap.specs.IndexMap.{keys},
 }
 use Rattle.constructors.proofs.frames.key_headings.Given as goal

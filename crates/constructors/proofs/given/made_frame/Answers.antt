@@ -1,4 +1,4 @@
-use Rattle.constructors.proofs.GivenLaws.{frame_needs, frame_given}
+use Rattle.constructors.proofs.FrameLaws.{frame_needs, frame_given}
 use Rattle.constructors.proofs.given.made_frame.Goals as goal
 
 pub frame_of-requires : goal.frame_of-requires

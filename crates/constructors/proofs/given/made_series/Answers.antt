@@ -1,4 +1,4 @@
-use Rattle.constructors.proofs.GivenLaws.{series_needs, series_given}
+use Rattle.constructors.proofs.FrameLaws.{series_needs, series_given}
 use Rattle.constructors.proofs.given.made_series.Goals as goal
 
 pub series_of-requires : goal.series_of-requires

@@ -1,7 +1,5 @@
 use Rattle.{
-  std.proofs.Common.{◌≡◌, ◌++◌, map, length, List},
-  meaning.specs.{Text.{Text}, Operator.{cell_label}},
-  table_meaning.specs.Table.{tuple_value},
+  form_parts.proofs.Common.{◌≡◌, ◌++◌, map, length, List, Text, cell_label, tuple_value},
   signatures.specs.Scalars.{scalars},
 }
 use Rattle.constructors.proofs.index.push_labels.Given as goal

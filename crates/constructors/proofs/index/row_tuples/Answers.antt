@@ -1,6 +1,6 @@
 use Rattle.{
-  std.proofs.{Common.{◌≡◌, ◌<◌, [], ◌∷◌, ◌++◌, length, None, arith}, lemmas.List.Elements.{All-push}},
-  constructors.proofs.IndexLaws.{row_fits, rows_step},
+  form_parts.proofs.Common.{◌≡◌, ◌<◌, [], ◌∷◌, ◌++◌, length, None, arith, append_assoc, map-append, All-push, drop-cons},
+  constructors.proofs.FrameLaws.{row_fits},
 }
 use Rattle.constructors.proofs.index.row_tuples.Goals as goal
 
@@ -15,6 +15,5 @@ loop-row-preserved c =
     let pushed : c.push.new.self ≡ c.loop-row.tuples ++ c.put_labels.new.labels.items ∷ [] = grind arith in
     record {
       levels = rw pushed (All-push (λ l. length l ≡ c.args.levels) _ _ c.loop-row.invariant.levels (row_fits _ _ _ _ _ _ c.requires.alike lt c.row-item.is (c.in_ok-put_labels.ensures (λ id. None) [])));
-      labels = λ texts. rows_step _ _ _ _ _ _ _ _ _
-          lt c.row-item.is (c.in_ok-put_labels.ensures (λ id. None) texts) pushed (c.loop-row.invariant.labels texts);
+      labels = λ texts. grind (arith, map-append, append_assoc, drop-cons c.args.index.now c.loop-row.row-index c.row-item.result lt, c.in_ok-put_labels.ensures (λ id. None) texts, c.loop-row.invariant.labels texts);
     }

@@ -1,8 +1,5 @@
 use Rattle.{
-  std.proofs.Common.{◌≡◌, ◌++◌, drop, List},
-  meaning.specs.Text.{Text},
-  multi_index.specs.Axes.{HaveLevels},
-  frame_store.specs.Shown.{labels_value},
+  form_parts.proofs.Common.{◌≡◌, ◌++◌, drop, List, Text, HaveLevels, labels_value},
   constructors.specs.Index.{rows_labels},
 }
 use Rattle.constructors.proofs.index.row_tuples.Given as goal

@@ -1,6 +1,6 @@
 use Rattle.{
-  std.proofs.Common.{◌<◌, length, arith},
-  constructors.proofs.PairLaws.{pair_step, keys_step, places_inside, keys_settled},
+  form_parts.proofs.Common.{◌<◌, length, arith},
+  constructors.proofs.FrameLaws.{pair_step, keys_step, places_inside, keys_settled},
 }
 use Rattle.constructors.proofs.pairs.last_places.Goals as goal
 

@@ -1,8 +1,6 @@
 use Rattle.{
-  std.proofs.Common.{◌≡◌, All, length, drop},
-  form_meaning.specs.Make.{pairs_in, pairs_onto},
-  frame_store.specs.{Objects.{Tables}, Arguments.{entries_of}},
-  constructors.{specs.Pairs.{entries_seen}, proofs.PairLaws.{IsKey}},
+  form_parts.proofs.Common.{◌≡◌, All, length, drop, pairs_in, pairs_onto, Tables, entries_of},
+  constructors.{specs.Pairs.{entries_seen}, proofs.FrameLaws.{IsKey}},
 }
 use Rattle.constructors.proofs.pairs.last_places.Given as goal
 

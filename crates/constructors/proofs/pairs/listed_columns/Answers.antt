@@ -1,7 +1,6 @@
 use Rattle.{
-  std.proofs.{Common.{arith, ◌≡◌, ◌∷◌, ◌++◌, [], rules}, lemmas.Option.{slice_get-get_or}},
-  frame_store.specs.Parts.{single_block, table_column},
-  constructors.proofs.ColumnLaws.{columns_with, column_more, columns_single, place_below, rest_below},
+  form_parts.proofs.Common.{arith, ◌≡◌, ◌∷◌, ◌++◌, [], rules, slice_get-get_or, single_block, table_column},
+  constructors.proofs.FrameLaws.{columns_with, column_more, columns_single, place_below, rest_below},
 }
 use Rattle.constructors.proofs.pairs.listed_columns.Goals as goal
 

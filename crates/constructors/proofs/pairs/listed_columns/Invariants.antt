@@ -1,10 +1,7 @@
 use Rattle.{
-  std.proofs.Common.{◌≡◌, ◌<◌, ℕ, All, List, length},
+  form_parts.proofs.Common.{◌≡◌, ◌<◌, ℕ, All, List, length, Text, try_all, IsSingle},
   indexmap.specs.IndexMap.{values},
-  meaning.specs.Text.{Text},
-  form_meaning.specs.Finish.{try_all},
-  frame_store.specs.Parts.{IsSingle},
-  constructors.{specs.Pairs.{lists_seen, listed_column}, proofs.ColumnLaws.{columns_with}},
+  constructors.{specs.Pairs.{lists_seen, listed_column}, proofs.FrameLaws.{columns_with}},
 }
 use Rattle.constructors.proofs.pairs.listed_columns.Given as goal
 

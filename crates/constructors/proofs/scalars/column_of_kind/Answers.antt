@@ -1,6 +1,6 @@
 use Rattle.{
-  std.proofs.lemmas.Result.{err_from_is_err_and},
-  constructors.proofs.ScalarLaws.{held_step, held_refused},
+  form_parts.proofs.Common.{err_from_is_err_and},
+  constructors.proofs.FrameLaws.{held_step, held_refused},
 }
 use Rattle.constructors.proofs.scalars.column_of_kind.Goals as goal
 

@@ -1,6 +1,5 @@
 use Rattle.{
-  std.proofs.Common.{◌≡◌, length, List, map},
-  meaning.specs.{Text.{Text}, Cell.{datum}},
+  form_parts.proofs.Common.{◌≡◌, length, List, map, Text, datum},
   signatures.specs.Scalars.{scalars},
   constructors.specs.Scalars.{held_after, held_column},
 }

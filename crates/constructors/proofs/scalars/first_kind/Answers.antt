@@ -1,6 +1,6 @@
 use Rattle.{
-  std.proofs.Common.{Some, None},
-  constructors.proofs.ScalarLaws.{kind_step},
+  form_parts.proofs.Common.{Some, None},
+  constructors.proofs.FrameLaws.{kind_step},
 }
 use Rattle.constructors.proofs.scalars.first_kind.Goals as goal
 

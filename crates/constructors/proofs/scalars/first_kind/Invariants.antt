@@ -1,7 +1,5 @@
 use Rattle.{
-  std.proofs.Common.{◌≡◌, length, List},
-  meaning.specs.Text.{Text},
-  form_meaning.specs.Set.{first_kind},
+  form_parts.proofs.Common.{◌≡◌, length, List, Text, first_kind},
   signatures.specs.Scalars.{scalars},
 }
 use Rattle.constructors.proofs.scalars.first_kind.Given as goal

@@ -1,16 +1,16 @@
 use Rattle.{
-  std.proofs.{Common.{◌≡◌, length, arith, []}, lemmas.Result.{err_from_is_err_and}},
-  constructors.proofs.MadeLaws.{column_given, axis_count, axis_refused, series_made},
+  form_parts.proofs.Common.{◌≡◌, length, arith, [], ◌++◌, err_from_is_err_and, cells_given, refused_on},
+  constructors.proofs.FrameLaws.{axis_count, series_made, series_is},
 }
 use Rattle.constructors.proofs.series.series_of.Goals as goal
 
 pub cast_to-requires : goal.cast_to-requires
-cast_to-requires c = column_given _ c.args.values.now _ c.in_ok-listed.ensures c.requires.values
+cast_to-requires c = cells_given _ _ (λ more. grind (arith, c.in_ok-listed.ensures (c.args.dict.now ++ more), c.in_ok-listed.ensures c.args.dict.now, c.requires.values more))
 
 pub returns-in_err-axis-clause-answer : goal.returns-in_err-axis-clause-answer
 returns-in_err-axis-clause-answer c =
     let p = err_from_is_err_and c.from_residual-in_err-axis.result c.from_residual-in_err-axis.ensures.1 in
-    rw (p.1, p.2) (axis_refused _ c.args.values.now _ c.args.name _ _ c.in_ok-column.column c.len.result (c.in_ok-listed.ensures _) c.requires.index _ _ c.in_ok-column.ensures.longer c.in_ok-column.ensures.answer (c.in_err-axis.ensures.labels _) (grind arith))
+    rw (p.1, p.2, series_is _ c.args.values.now _ c.args.name _ _ c.in_ok-column.column c.len.result (c.in_ok-listed.ensures _) c.requires.index _ c.in_ok-column.ensures.longer c.in_ok-column.ensures.answer (grind arith)) (grind (arith, refused_on, c.in_err-axis.ensures.labels))
 
 pub series_table-requires : goal.series_table-requires
 series_table-requires c = grind (arith, axis_count, c.in_ok-axis.ensures.labels [])

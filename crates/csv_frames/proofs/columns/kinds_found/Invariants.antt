@@ -1,5 +1,5 @@
 use Rattle.{
-  std.proofs.Common.{◌≡◌, ◌++◌, map, Some},
+  meaning.proofs.Common.{◌≡◌, ◌++◌, map, Some},
   csv_frames.specs.Growing.{kind_so_far},
 }
 use Rattle.csv_frames.proofs.columns.kinds_found.Given as goal

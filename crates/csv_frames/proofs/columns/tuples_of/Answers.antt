@@ -1,6 +1,5 @@
 use Rattle.{
-  std.proofs.Common.{arith, ◌∙◌, ◌∷◌, ◌++◌, [], ap, Some, string_bytes},
-  meaning.specs.Cell.{text},
+  meaning.proofs.Common.{arith, ◌∙◌, ◌∷◌, ◌++◌, [], ap, Some, string_bytes, text},
   table_meaning.specs.Table.{tuple_value},
   csv_frames.proofs.SettledLaws.{longer_with, longer_twice, settled_more, seen_more, tuple_settled, tuple_seen, first_of},
 }

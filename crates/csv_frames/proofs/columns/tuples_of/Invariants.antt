@@ -1,6 +1,5 @@
 use Rattle.{
-  std.proofs.Common.{◌≡◌, ◌++◌, length},
-  meaning.specs.Cell.{IsLonger},
+  meaning.proofs.Common.{◌≡◌, ◌++◌, length, IsLonger},
   table_meaning.specs.Settled.{IsSettled},
   csv_frames.specs.Views.{texts_seen, label_tuples, tuples_seen},
 }

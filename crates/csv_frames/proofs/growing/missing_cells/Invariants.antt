@@ -1,4 +1,4 @@
-use Rattle.std.proofs.Common.{◌≡◌, replicate}
+use Rattle.meaning.proofs.Common.{◌≡◌, replicate}
 use Rattle.cell_core.specs.declared.cell.Cell.TheVariants as cell
 use Rattle.csv_frames.proofs.growing.missing_cells.Given as goal
 

@@ -1,5 +1,5 @@
 use Rattle.{
-  std.proofs.Common.{subst, OnOk},
+  meaning.proofs.Common.{subst, OnOk},
   column_core.specs.{Columns.{CellColumn}, Views.{kept_column}},
   csv_frames.specs.Growing.{IsGrownBy},
 }

@@ -1,5 +1,5 @@
 use Rattle.{
-  std.proofs.Common.{arith, ap, sym},
+  meaning.proofs.Common.{arith, ap, sym},
   column_core.specs.{Columns.{number_cell, truth_cell}, Views.{kept_column}},
   csv_frames.proofs.{GrowingLaws.{put_grown, text_grown, number_seen}, SettledLaws.{longer_self}},
 }

@@ -1,5 +1,5 @@
 use Rattle.{
-  std.proofs.Common.{[], ◌∷◌, ◌++◌, ◌≤◌, length, sym, arith},
+  meaning.proofs.Common.{[], ◌∷◌, ◌++◌, sym, arith},
   csv.specs.Records.{fields_of},
   csv_frames.proofs.{RecordLaws.{one_left, no_header, under_header}, SettledLaws.{longer_self, longer_twice}, GrowthLaws.{more_read, still_short}},
 }
@@ -21,19 +21,10 @@ reading-init c =
 
 pub reading-preserved : goal.reading-preserved
 reading-preserved c =
-    let inv = c.reading.invariant in
-    let before = inv.before.0 in
     let row = fields_of _ in
-    let reader = c.reading.reader in
-    let one = one_left reader _ _ row c.in_ok-next_record-2.ensures c.if-not-branch-2.false in
-    let short : length row ≤ c.args.width = omega arith in
+    let one = one_left c.reading.reader _ _ row c.in_ok-next_record-2.ensures c.if-not-branch-2.false in
     record {
       longer = search longer_twice;
       reads = one.1;
-      before = (
-        before ++ row ∷ [],
-        search more_read,
-        search still_short,
-        grind arith,
-      );
+      before = (c.reading.invariant.before.0 ++ row ∷ [], search more_read, grind (arith, still_short), grind arith);
     }

@@ -1,6 +1,5 @@
 use Rattle.{
-  std.proofs.Common.{◌≡◌, ◌+◌, ◌++◌, List, ℕ, length},
-  meaning.specs.Cell.{IsLonger},
+  meaning.proofs.Common.{◌≡◌, ◌+◌, ◌++◌, List, ℕ, length, IsLonger},
   csv_meaning.specs.CsvRead.{first_long},
   csv_frames.specs.{Rows.{Reads, file_rows, rows_left}, Growing.{GrownTo}},
 }

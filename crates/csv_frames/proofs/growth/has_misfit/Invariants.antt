@@ -1,5 +1,5 @@
 use Rattle.{
-  std.proofs.Common.{◌≡◌, drop},
+  meaning.proofs.Common.{◌≡◌, drop},
   csv.specs.Records.{fields_of},
   csv_meaning.specs.CsvRead.{has_misfit},
 }

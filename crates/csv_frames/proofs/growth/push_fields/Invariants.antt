@@ -1,7 +1,6 @@
 use Rattle.{
-  std.proofs.Common.{◌≡◌, ◌||◌, List, ℕ, length, drop},
+  meaning.proofs.Common.{◌≡◌, ◌||◌, List, ℕ, length, drop, IsLonger},
   csv.specs.Records.{fields_of},
-  meaning.specs.Cell.{IsLonger},
   csv_meaning.specs.CsvRead.{has_misfit},
   csv_frames.{specs.Growing.{AreGrown}, proofs.GrowthLaws.{ArePushed}},
 }

@@ -1,6 +1,5 @@
 use Rattle.{
-  std.proofs.Common.{◌≡◌, drop},
-  meaning.specs.Text.{Text},
+  meaning.proofs.Common.{◌≡◌, drop, Text},
   csv_meaning.specs.CsvRead.{kind_listed, named_kind},
   csv_frames.specs.Views.{entries_seen, kinds_seen, kind_at},
 }

@@ -1,5 +1,5 @@
 use Rattle.{
-  std.proofs.Common.{◌≡◌, ◌++◌, map, length},
+  meaning.proofs.Common.{◌≡◌, ◌++◌, map, length},
   csv_meaning.specs.CsvRead.{named_kind},
   csv_frames.specs.Views.{texts_seen, entries_seen},
 }

@@ -1,5 +1,5 @@
 use Rattle.{
-  std.proofs.Common.{◌≡◌, [], length},
+  meaning.proofs.Common.{◌≡◌, [], length},
   csv_meaning.specs.CsvRead.{with_texts},
   csv_frames.specs.Views.{texts_seen},
 }

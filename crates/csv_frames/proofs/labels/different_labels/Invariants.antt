@@ -1,5 +1,5 @@
 use Rattle.{
-  std.proofs.Common.{◌≡◌, ◌++◌, length},
+  meaning.proofs.Common.{◌≡◌, ◌++◌, length},
   csv_meaning.specs.CsvRead.{labels_after, different_labels},
   csv_frames.specs.{Labels.{AreSkipped}, Views.{texts_seen}},
 }

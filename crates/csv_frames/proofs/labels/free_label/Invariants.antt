@@ -1,5 +1,5 @@
 use Rattle.{
-  std.proofs.Common.{◌≡◌},
+  meaning.proofs.Common.{◌≡◌},
   csv_frames.specs.Labels.{IsSkipped},
 }
 use Rattle.csv_frames.proofs.labels.free_label.Given as goal

@@ -1,5 +1,5 @@
 use Rattle.{
-  std.proofs.Common.{arith},
+  meaning.proofs.Common.{arith},
   csv_frames.proofs.SkippedLaws.{skipped_new, skipped_old, next_number_of},
 }
 use Rattle.csv_frames.proofs.labels.next_label.Goals as goal

@@ -1,5 +1,5 @@
 use Rattle.{
-  std.proofs.Common.{arith},
+  meaning.proofs.Common.{arith},
   factorize.proofs.GroupLaws.{rows_inside},
 }
 use Rattle.factorize.proofs.codes.factorize.Goals as goal

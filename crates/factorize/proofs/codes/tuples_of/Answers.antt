@@ -1,5 +1,5 @@
 use Rattle.{
-  std.proofs.{Common.{[], arith}, lemmas.Option.{get_or_from_slice_get}},
+  meaning.proofs.Common.{[], arith, get_or_from_slice_get},
   multi_index.proofs.SideLaws.{one_row_more},
 }
 use Rattle.factorize.proofs.codes.tuples_of.Goals as goal

@@ -1,4 +1,4 @@
-use Rattle.std.proofs.Common.{◌≡◌, Some, map, take}
+use Rattle.meaning.proofs.Common.{◌≡◌, Some, map, take}
 use Rattle.factorize.proofs.factor.groups_by_number.Given as goal
 
 -- the groups so far

@@ -1,5 +1,5 @@
 use Rattle.{
-  std.proofs.{Common.{Some, arith, length}, lemmas.List.Elements.{All-map}},
+  meaning.proofs.Common.{Some, arith, length, All-map},
   column_core.specs.Moves.{IsPlaceOf},
 }
 use Rattle.factorize.proofs.factor.groups_of_all.Goals as goal

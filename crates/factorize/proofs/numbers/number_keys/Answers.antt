@@ -1,5 +1,5 @@
 use Rattle.{
-  std.proofs.{Common.{◌∙◌, false, ap, arith, length}, lemmas.List.{with_items_is}},
+  meaning.proofs.Common.{◌∙◌, false, ap, arith, length, with_items_is},
   factorize.proofs.{GroupLaws.{codes_below}, PlaceLaws.{codes_placed}, KeyNumberLaws.{sight_numbers, renumbered}},
 }
 use Rattle.factorize.proofs.numbers.number_keys.Goals as goal

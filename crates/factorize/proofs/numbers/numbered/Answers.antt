@@ -1,6 +1,5 @@
 use Rattle.{
-  std.proofs.Common.{◌≡◌, ◌+◌, ◌-◌, ◌<◌, length, arith, All},
-  cell_core.specs.contracts.cell.LabelEq.TheImpl.Laws.{laws-law},
+  meaning.proofs.Common.{◌≡◌, ◌+◌, ◌-◌, ◌<◌, length, arith, All, laws-law},
   index_core.specs.Labels.{same_number},
   row_keys.proofs.RecodeLaws.{last_level, one_level, drop_none},
 }

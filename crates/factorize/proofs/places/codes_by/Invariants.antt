@@ -1,5 +1,5 @@
 use Rattle.{
-  std.proofs.Common.{◌≡◌, take},
+  meaning.proofs.Common.{◌≡◌, take},
   factorize.specs.Numbers.{recoded},
 }
 use Rattle.factorize.proofs.places.codes_by.Given as goal

@@ -1,6 +1,5 @@
 use Rattle.{
-  std.{proofs.{Common.{◌≡◌, ◌∙◌, ◌<◌, ◌||◌, ap, sym, arith, ℕ, false, [], map, slice_index_or}, lemmas.List.{Folds.{list_any-append}, FromFn.{map-range_with_len_more}}}, specs.List.{list_any, range_with_len}},
-  cell_core.specs.Values.{LabelValue, na, label_datum},
+  meaning.proofs.Common.{◌≡◌, ◌∙◌, ◌<◌, ◌||◌, ap, sym, arith, ℕ, false, [], map, slice_index_or, list_any-append, map-range_with_len_more, list_any, range_with_len, LabelValue, na, label_datum},
   row_keys.{specs.Keys.{label_in}, proofs.KeyLaws.{any_at}},
   label_align.{specs.Tuples.{labels_of}, proofs.OrderLaws.{label_there, labels_counted}},
   group_meaning.specs.Keys.{is_na},

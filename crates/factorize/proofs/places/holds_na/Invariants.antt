@@ -1,6 +1,5 @@
 use Rattle.{
-  std.{proofs.Common.{◌≡◌, ℕ, false, List, [], map, slice_index_or}, specs.List.{list_any, range_with_len}},
-  cell_core.specs.Values.{label_datum},
+  meaning.proofs.Common.{◌≡◌, ℕ, false, List, [], map, slice_index_or, list_any, range_with_len, label_datum},
   row_keys.specs.Keys.{label_in},
   group_meaning.specs.Keys.{is_na},
 }

@@ -1,4 +1,7 @@
-use Rattle.std.{proofs.Common.{◌≡◌, ◌<◌, ◌==◌, ℕ, length, take, slice_index_or, None}, specs.List.{position}}
+use Rattle.{
+  meaning.proofs.Common.{◌≡◌, ◌<◌, ◌==◌, ℕ, length, take, slice_index_or, None},
+  std.specs.List.{position},
+}
 use Rattle.factorize.proofs.places.place_all.Given as goal
 
 -- each number's place among those so far

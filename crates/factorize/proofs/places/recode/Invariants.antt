@@ -1,5 +1,5 @@
 use Rattle.{
-  std.proofs.Common.{◌≡◌, ℕ, ◌<◌, ◌≤◌, slice_index_or, None},
+  meaning.proofs.Common.{◌≡◌, ℕ, ◌<◌, ◌≤◌, slice_index_or, None},
   factorize.specs.Numbers.{number_in},
 }
 use Rattle.factorize.proofs.places.recode.Given as goal

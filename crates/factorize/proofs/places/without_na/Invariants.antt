@@ -1,5 +1,5 @@
 use Rattle.{
-  std.proofs.Common.{◌≡◌, ℕ, List, not, filter, take},
+  meaning.proofs.Common.{◌≡◌, ℕ, List, not, filter, take},
   factorize.specs.Numbers.{first_row, row_holds_na},
 }
 use Rattle.factorize.proofs.places.without_na.Given as goal

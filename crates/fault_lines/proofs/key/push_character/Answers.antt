@@ -1,5 +1,5 @@
 use Rattle.{
-  std.proofs.Common.{arith, rules},
+  meaning.proofs.Common.{arith, rules},
   fault_lines.proofs.Quoting.{IsPlain, quoted_bytes-encode},
 }
 use Rattle.fault_lines.proofs.key.push_character.Goals as goal

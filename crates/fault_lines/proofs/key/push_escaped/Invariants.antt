@@ -1,7 +1,4 @@
-use Rattle.{
-  std.{proofs.Common.{◌≡◌, ◌++◌, string_bytes}, specs.Str.Iter.{chars_rest}},
-  meaning.specs.FaultText.{quoted_bytes},
-}
+use Rattle.meaning.proofs.Common.{◌≡◌, ◌++◌, string_bytes, chars_rest, quoted_bytes}
 use Rattle.fault_lines.proofs.key.push_escaped.Given as goal
 
 abbrev pub invariant-loop-character : goal.invariant-loop-character

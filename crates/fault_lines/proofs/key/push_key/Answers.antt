@@ -1,6 +1,5 @@
 use Rattle.{
-  std.proofs.Common.{sym, ◌∙◌},
-  cell_core.specs.Values.{label_datum},
+  meaning.proofs.Common.{sym, ◌∙◌, label_datum},
   fault_lines.proofs.KeyLaws.{key_text-one},
 }
 use Rattle.fault_lines.proofs.key.push_key.Goals as goal

@@ -1,5 +1,5 @@
 use Rattle.{
-  cell_core.specs.Values.{label_datum},
+  meaning.proofs.Common.{label_datum},
   fault_lines.proofs.KeyLaws.{labels_more},
 }
 use Rattle.fault_lines.proofs.key.push_more_labels.Goals as goal

@@ -1,8 +1,4 @@
-use Rattle.{
-  std.proofs.Common.{◌≡◌, ◌++◌, drop, map, string_bytes},
-  cell_core.specs.Values.{label_datum},
-  meaning.specs.FaultText.{more_labels},
-}
+use Rattle.meaning.proofs.Common.{◌≡◌, ◌++◌, drop, map, string_bytes, label_datum, more_labels}
 use Rattle.fault_lines.proofs.key.push_more_labels.Given as goal
 
 abbrev pub invariant-loop-level : goal.invariant-loop-level

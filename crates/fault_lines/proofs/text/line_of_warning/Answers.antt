@@ -1,4 +1,4 @@
-use Rattle.std.proofs.Common.{rules, append_assoc}
+use Rattle.meaning.proofs.Common.{rules, append_assoc}
 use Rattle.fault_lines.proofs.text.line_of_warning.Goals as goal
 
 pub returns : goal.returns

@@ -1,4 +1,4 @@
-use Rattle.std.proofs.Common.{append_assoc}
+use Rattle.meaning.proofs.Common.{append_assoc}
 use Rattle.fault_lines.proofs.text.push_bad_merge.Goals as goal
 
 pub returns : goal.returns

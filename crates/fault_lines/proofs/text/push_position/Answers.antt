@@ -1,4 +1,7 @@
-use Rattle.std.proofs.{Common.{append_assoc}, Math.Facts.{to_z-of_z}}
+use Rattle.{
+  meaning.proofs.Common.{append_assoc},
+  std.proofs.Math.Facts.{to_z-of_z},
+}
 use Rattle.fault_lines.proofs.text.push_position.Goals as goal
 
 pub returns : goal.returns

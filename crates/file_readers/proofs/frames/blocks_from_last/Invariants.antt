@@ -1,5 +1,5 @@
 use Rattle.{
-  std.{proofs.Common.{◌≡◌, ◌++◌, map, length}, specs.Prelude.{reverse}},
+  form_parts.proofs.Common.{◌≡◌, ◌++◌, map, length, reverse},
   file_readers.specs.Frames.{column_block},
 }
 use Rattle.file_readers.proofs.frames.blocks_from_last.Given as goal

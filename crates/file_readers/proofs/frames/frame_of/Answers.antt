@@ -1,5 +1,5 @@
 use Rattle.{
-  std.proofs.Common.{arith, ◌∙◌},
+  form_parts.proofs.Common.{arith, ◌∙◌},
   file_readers.proofs.FrameLaws.{blocks_single, frame_parts, frame_whole},
 }
 use Rattle.file_readers.proofs.frames.frame_of.Goals as goal

@@ -1,5 +1,5 @@
 use Rattle.{
-  std.proofs.Common.{◌<◌, ap, length, arith},
+  form_parts.proofs.Common.{◌<◌, ap, length, arith},
   file_readers.proofs.FrameLaws.{heading_step},
 }
 use Rattle.file_readers.proofs.frames.headings_of.Goals as goal

@@ -1,5 +1,5 @@
 use Rattle.{
-  std.proofs.Common.{◌≡◌, ◌++◌, map, drop, None},
+  form_parts.proofs.Common.{◌≡◌, ◌++◌, map, drop, None},
   file_readers.proofs.FrameLaws.{first_label},
 }
 use Rattle.file_readers.proofs.frames.headings_of.Given as goal

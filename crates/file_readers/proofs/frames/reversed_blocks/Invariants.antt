@@ -1,4 +1,4 @@
-use Rattle.std.{proofs.Common.{◌≡◌, ◌++◌, length}, specs.Prelude.{reverse}}
+use Rattle.form_parts.proofs.Common.{◌≡◌, ◌++◌, length, reverse}
 use Rattle.file_readers.proofs.frames.reversed_blocks.Given as goal
 
 -- the blocks so far, before those that are left

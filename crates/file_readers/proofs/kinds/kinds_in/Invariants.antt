@@ -1,7 +1,6 @@
 use Rattle.{
-  std.proofs.Common.{◌≡◌, ◌++◌, length},
+  form_parts.proofs.Common.{◌≡◌, ◌++◌, length, Tables, entries_of},
   csv_frames.specs.Views.{entries_seen},
-  frame_store.specs.{Objects.{Tables}, Arguments.{entries_of}},
 }
 use Rattle.method_meaning.specs.Readers as readers
 use Rattle.file_readers.proofs.kinds.kinds_in.Given as goal

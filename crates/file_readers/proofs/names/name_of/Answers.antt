@@ -1,7 +1,6 @@
 use Rattle.{
-  std.proofs.Common.{arith, ◌∙◌, ap, sym},
-  form_meaning.specs.Binding.{bound_of},
-  frame_store.specs.{Objects.{tables}, Arguments.{arguments_of}, World.{world}},
+  form_parts.proofs.Common.{arith, ◌∙◌, ap, sym, tables, arguments_of, world},
+  call_meaning.specs.Binding.{bound_of},
   file_readers.proofs.NameLaws.{name_given},
 }
 use Rattle.file_readers.proofs.names.name_of.Goals as goal

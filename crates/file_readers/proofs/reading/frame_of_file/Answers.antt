@@ -1,5 +1,5 @@
 use Rattle.{
-  std.proofs.Common.{arith},
+  form_parts.proofs.Common.{arith},
   csv_frames.specs.Views.{entries_seen},
   file_readers.proofs.{FrameLaws.{frame_settled, frame_made}, ReadLaws.{rows_few, labels_single}},
 }

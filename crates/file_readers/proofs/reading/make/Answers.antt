@@ -1,7 +1,6 @@
 use Rattle.{
-  std.proofs.Common.{rules, ◌≡◌, true},
-  form_meaning.specs.Signature.{function_named},
-  frame_store.specs.{Objects.{tables}, Arguments.{arguments_of}},
+  form_parts.proofs.Common.{rules, ◌≡◌, true, tables, arguments_of},
+  call_meaning.specs.Signature.{function_named},
 }
 use Rattle.method_meaning.specs.Readers as readers
 use Rattle.file_readers.proofs.reading.make.Goals as goal

@@ -1,8 +1,7 @@
 use Rattle.{
-  std.proofs.Common.{◌∙◌, ap, sym},
-  form_meaning.specs.Binding.{bound_of},
+  form_parts.proofs.Common.{◌∙◌, ap, sym, tables, arguments_of, world},
+  call_meaning.specs.Binding.{bound_of},
   csv_frames.specs.Views.{entries_seen},
-  frame_store.specs.{Objects.{tables}, Arguments.{arguments_of}, World.{world}},
   file_readers.proofs.ReadLaws.{read_bound},
 }
 use Rattle.method_meaning.specs.Readers as readers

@@ -1,6 +1,6 @@
 use Rattle.{
-  std.proofs.Common.{◌<◌, length, arith, take_all},
-  form_parts.proofs.GapLaws.{one_more_on, block_on, single_on},
+  form_parts.proofs.{Common.{◌<◌, length, arith, block_on, single_on}, GapLaws.{one_more_on}},
+  std.proofs.Common.{take_all},
 }
 use Rattle.form_parts.proofs.gaps.columns_on.Goals as goal
 

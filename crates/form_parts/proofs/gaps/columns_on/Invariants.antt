@@ -1,9 +1,4 @@
-use Rattle.{
-  std.proofs.Common.{◌≡◌, take, map, All},
-  cell_core.specs.declared.cell.Cell.TheVariants.{Na},
-  form_meaning.specs.Infix.{on_rows},
-  frame_store.specs.Parts.{block_column, IsSingle},
-}
+use Rattle.form_parts.proofs.Common.{◌≡◌, take, map, All, Na, on_rows, block_column, IsSingle}
 use Rattle.form_parts.proofs.gaps.columns_on.Given as goal
 
 abbrev pub invariant-loop-place : goal.invariant-loop-place

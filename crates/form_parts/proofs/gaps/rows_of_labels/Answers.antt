@@ -1,9 +1,6 @@
 use Rattle.{
-  std.proofs.Common.{arith, Err},
-  align_meaning.specs.Targets.{reindexed},
+  form_parts.proofs.Common.{arith, Err, reindexed, AlignsBy, as_it_is, rows_below, rows_counted, rows_met, rows_refused},
   row_keys.specs.Keys.{same_tuple},
-  label_align.specs.Answers.{AlignsBy, as_it_is},
-  form_parts.proofs.GapLaws.{rows_below, rows_counted, rows_met, rows_refused},
 }
 use Rattle.form_parts.proofs.gaps.rows_of_labels.Goals as goal
 

@@ -1,4 +1,4 @@
-use Rattle.form_parts.proofs.LabelLaws.{heading_label}
+use Rattle.form_parts.proofs.Common.{heading_label}
 use Rattle.form_parts.proofs.labels.same_heading.Goals as goal
 
 pub same_label-requires-clause-a : goal.same_label-requires-clause-a

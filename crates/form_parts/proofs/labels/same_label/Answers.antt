@@ -1,7 +1,4 @@
-use Rattle.{
-  std.{proofs.Common.{◌≡◌, rules}, specs.Bool.{Decides}},
-  form_parts.proofs.LabelLaws.{same_by_number},
-}
+use Rattle.form_parts.proofs.Common.{◌≡◌, rules, Decides, same_by_number}
 use Rattle.form_parts.proofs.labels.same_label.Goals as goal
 
 pub returns : goal.returns

@@ -1,8 +1,4 @@
-use Rattle.{
-  frame_store.{proofs.Settling.{settled_later, settled_with}, specs.Shown.{shown}},
-  std.proofs.Common.{arith},
-  form_parts.proofs.ObjectMade.{kept_settled, refused, out_of_memory, added},
-}
+use Rattle.form_parts.proofs.{Common.{settled_later, settled_with, shown, arith, kept_settled}, ObjectMade.{refused, out_of_memory, added}}
 use Rattle.form_parts.proofs.objects.placed.Goals as goal
 
 pub returns-in_err-made-clause-answers : goal.returns-in_err-made-clause-answers

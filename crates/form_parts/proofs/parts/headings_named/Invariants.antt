@@ -1,4 +1,4 @@
-use Rattle.std.proofs.Common.{◌≡◌, take}
+use Rattle.form_parts.proofs.Common.{◌≡◌, take}
 use Rattle.form_parts.proofs.parts.headings_named.Given as goal
 
 abbrev pub invariant-loop-column : goal.invariant-loop-column

@@ -1,5 +1,5 @@
 use Rattle.{
-  std.{proofs.Common.{◌≡◌, ◌++◌, codes}, specs.List.{join_by}},
+  meaning.proofs.Common.{◌≡◌, ◌++◌, codes, join_by},
   format_meaning.specs.{Told.{heading_at}, Print.{shown_name, places}},
 }
 use Rattle.frame_format.proofs.empty.push_all_headings.Given as goal

@@ -1,5 +1,5 @@
 use Rattle.{
-  std.{proofs.Common.{◌≡◌, ◌++◌, codes}, specs.List.{join_by}},
+  meaning.proofs.Common.{◌≡◌, ◌++◌, codes, join_by},
   format_meaning.specs.Print.{whole_label, places},
 }
 use Rattle.frame_format.proofs.empty.push_all_labels.Given as goal

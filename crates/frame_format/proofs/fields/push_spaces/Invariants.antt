@@ -1,5 +1,5 @@
 use Rattle.{
-  std.proofs.Common.{◌≡◌, ◌++◌},
+  meaning.proofs.Common.{◌≡◌, ◌++◌},
   format_meaning.specs.Print.{spaces},
 }
 use Rattle.frame_format.proofs.fields.push_spaces.Given as goal

@@ -1,6 +1,6 @@
 use Rattle.{
+  meaning.proofs.Common.{arith, ◌≡◌},
   frame_format.proofs.FieldLaws.{length_measured},
-  std.proofs.Common.{arith, ◌≡◌},
   format_meaning.specs.Print.{levels_width},
 }
 use Rattle.frame_format.proofs.frame.frame_layout.Goals as goal

@@ -1,5 +1,5 @@
 use Rattle.{
-  std.proofs.Common.{◌≡◌, ◌++◌, slice_index},
+  meaning.proofs.Common.{◌≡◌, ◌++◌, slice_index},
   format_meaning.specs.{Told.{cell_at}, Print.{shown_cell}},
   frame_format.specs.Layouts.{set_columns},
 }

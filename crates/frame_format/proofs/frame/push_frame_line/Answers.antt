@@ -1,5 +1,5 @@
 use Rattle.{
-  std.proofs.Common.{arith, ◌∙◌},
+  meaning.proofs.Common.{arith, ◌∙◌},
   format_meaning.specs.{Told.{cell_at}, Print.{shown_cell}},
   frame_format.proofs.FieldLaws.{both, both_at_last, at_last, sides_measured, columns_measured},
 }

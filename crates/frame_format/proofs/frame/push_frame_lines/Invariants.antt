@@ -1,5 +1,5 @@
 use Rattle.{
-  std.{proofs.Common.{◌≡◌, ◌++◌, codes}, specs.List.{flat_map}},
+  meaning.proofs.Common.{◌≡◌, ◌++◌, codes, flat_map},
   format_meaning.specs.Print.{frame_line, places},
 }
 use Rattle.frame_format.proofs.frame.push_frame_lines.Given as goal

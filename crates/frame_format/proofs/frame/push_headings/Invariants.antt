@@ -1,5 +1,5 @@
 use Rattle.{
-  std.proofs.Common.{◌≡◌, ◌++◌, slice_index},
+  meaning.proofs.Common.{◌≡◌, ◌++◌, slice_index},
   format_meaning.specs.{Told.{heading_at}, Print.{shown_name}},
   frame_format.specs.Layouts.{set_columns},
 }

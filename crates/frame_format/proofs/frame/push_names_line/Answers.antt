@@ -1,5 +1,5 @@
 use Rattle.{
-  std.proofs.Common.{◌∙◌, ◌++◌, ap, codes, slice_index},
+  meaning.proofs.Common.{◌∙◌, ◌++◌, ap, codes, slice_index},
   format_meaning.specs.Print.{spaces},
   frame_format.{specs.Layouts.{set_columns}, proofs.FieldLaws.{both, both_at_last, at_last, sides_measured, columns_measured, length_measured}},
 }

@@ -1,4 +1,7 @@
-use Rattle.std.proofs.Common.{◌≡◌, ◌+◌, ◌-◌, length, sum, take}
+use Rattle.{
+  meaning.proofs.Common.{◌≡◌, ◌+◌, ◌-◌, length, take},
+  std.proofs.Common.{sum},
+}
 use Rattle.frame_format.proofs.frame.width_side_by_side.Given as goal
 
 abbrev pub invariant-loop-width : goal.invariant-loop-width

@@ -1,5 +1,5 @@
 use Rattle.{
-  std.proofs.Common.{◌≡◌, map},
+  meaning.proofs.Common.{◌≡◌, map},
   format_meaning.specs.Print.{titled_width, places},
 }
 use Rattle.frame_format.proofs.frame.widths_of_columns.Given as goal

@@ -1,5 +1,5 @@
 use Rattle.{
-  std.proofs.Common.{◌≡◌, drop},
+  meaning.proofs.Common.{◌≡◌, drop},
   format_meaning.specs.Print.{has_names},
 }
 use Rattle.frame_format.proofs.measuring.has_level_names.Given as goal

@@ -1,5 +1,5 @@
 use Rattle.{
-  std.proofs.Common.{◌≡◌, ◌++◌, slice_index},
+  meaning.proofs.Common.{◌≡◌, ◌++◌, slice_index},
   format_meaning.specs.Print.{side_by_side, level_title},
 }
 use Rattle.frame_format.proofs.measuring.push_names.Given as goal

@@ -1,5 +1,5 @@
 use Rattle.{
-  std.proofs.Common.{◌≡◌, map},
+  meaning.proofs.Common.{◌≡◌, map},
   format_meaning.specs.{Told.{cell_at}, Print.{shown_cell, widest, places}},
 }
 use Rattle.frame_format.proofs.measuring.width_of_cells.Given as goal

@@ -1,5 +1,5 @@
 use Rattle.{
-  std.proofs.Common.{◌≡◌, map},
+  meaning.proofs.Common.{◌≡◌, map},
   format_meaning.specs.Print.{level_width, places},
 }
 use Rattle.frame_format.proofs.measuring.widths_of_levels.Given as goal

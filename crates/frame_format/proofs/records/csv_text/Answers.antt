@@ -1,6 +1,5 @@
 use Rattle.{
-  std.proofs.{Common.{◌∙◌, ap, arith, ◌≡◌, length}, lemmas.Result.{IfOk-weaker}},
-  cell_core.specs.Values.{na_cell},
+  meaning.proofs.Common.{◌∙◌, ap, arith, ◌≡◌, length, IfOk-weaker, na_cell},
   table_meaning.specs.Table.{row_of},
   format_meaning.specs.CsvWrite.{row_fields, record_text, csv_text_of},
   frame_format.proofs.RecordLaws.{nothing_written, header_written, row_written, rows_written},

@@ -1,6 +1,5 @@
 use Rattle.{
-  std.{proofs.Common.{◌++◌}, specs.List.{flat_map}},
-  cell_core.specs.Values.{na_cell},
+  meaning.proofs.Common.{◌++◌, flat_map, na_cell},
   table_meaning.specs.Table.{row_of},
   format_meaning.specs.{CsvWrite.{header_fields, row_fields, record_text}, Print.{places}},
   frame_format.specs.Written.{HasWritten},

@@ -1,5 +1,5 @@
 use Rattle.{
-  std.proofs.Common.{◌≡◌, ◌++◌, map},
+  meaning.proofs.Common.{◌≡◌, ◌++◌, map},
   csv.specs.Records.{fields_of},
   format_meaning.specs.{Told.{cell_at}, CsvWrite.{cell_field}, Print.{places}},
   frame_format.specs.Written.{IsFilled},

@@ -1,14 +1,11 @@
 use Rattle.{
-  std.proofs.Common.{append_assoc, arith},
+  meaning.proofs.Common.{append_assoc, arith},
   frame_format.proofs.{FieldLaws.{map_more}, RecordLaws.{filled_more, fields_placed}},
 }
 use Rattle.frame_format.proofs.records.put_level_names.Goals as goal
 
 pub loop-level-preserved : goal.loop-level-preserved
-loop-level-preserved g c = record {
-  fields = grind (arith, append_assoc, map_more);
-  filled = grind (arith, filled_more);
-}
+loop-level-preserved = grind (arith, append_assoc, map_more, filled_more)
 
 pub returns-clause-fields : goal.returns-clause-fields
-returns-clause-fields g c = fields_placed _ _ _ _ _ _ c.loop-level.invariant.fields (omega (arith, c.loop-level-test.false, c.loop-level.auto.level-end, c.levels-level-end.ensures.count))
+returns-clause-fields g c = fields_placed _ _ _ _ _ _ c.loop-level.invariant.fields (omega (arith, c.levels-level-end.ensures.count))

@@ -1,5 +1,5 @@
 use Rattle.{
-  std.proofs.Common.{◌≡◌, ◌++◌, map},
+  meaning.proofs.Common.{◌≡◌, ◌++◌, map},
   csv.specs.Records.{fields_of},
   format_meaning.specs.{Told.{level_name}, CsvWrite.{name_field}, Print.{places}},
   frame_format.specs.Written.{IsFilled},

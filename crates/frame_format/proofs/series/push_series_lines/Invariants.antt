@@ -1,5 +1,5 @@
 use Rattle.{
-  std.{proofs.Common.{◌≡◌, ◌++◌, codes}, specs.List.{flat_map}},
+  meaning.proofs.Common.{◌≡◌, ◌++◌, codes, flat_map},
   format_meaning.specs.Print.{series_line, places},
 }
 use Rattle.frame_format.proofs.series.push_series_lines.Given as goal

@@ -1,5 +1,5 @@
 use Rattle.{
-  std.{proofs.Common.{◌≡◌, ◌++◌, string_bytes}, specs.Str.Iter.{chars_rest}},
+  meaning.proofs.Common.{◌≡◌, ◌++◌, string_bytes, chars_rest},
   format_meaning.specs.Print.{shown_text},
 }
 use Rattle.frame_format.proofs.texts.put_escaped.Given as goal

@@ -1,6 +1,5 @@
 use Rattle.{
-  frame_store.proofs.Settling.{object_settled, longer_self},
-  std.proofs.Common.{arith},
+  form_parts.proofs.Common.{object_settled, longer_self, arith},
   label_methods.proofs.AnswerLaws.{forms_so},
 }
 use Rattle.frame_methods.proofs.calling.answer.Goals as goal

@@ -1,6 +1,5 @@
 use Rattle.{
-  std.proofs.Common.{arith},
-  form_parts.proofs.ObjectMade.{kept_settled},
+  form_parts.proofs.Common.{arith, kept_settled},
   frame_methods.proofs.CallLaws.{refused_made, table_meant, scalar_answered},
 }
 use Rattle.frame_methods.proofs.calling.answer_made.Goals as goal

@@ -1,6 +1,5 @@
 use Rattle.{
-  frame_store.proofs.Settling.{object_settled},
-  table_meaning.specs.Value.{list_in},
+  form_parts.proofs.Common.{object_settled, list_in},
   signatures.proofs.ToldLaws.{told_settled},
   label_methods.proofs.LevelMoveLaws.{option_given},
 }

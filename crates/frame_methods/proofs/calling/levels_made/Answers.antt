@@ -1,13 +1,10 @@
 use Rattle.{
-  std.proofs.Common.{arith, ◌≡◌, ap, refl},
-  table_meaning.specs.Table.{table_value},
-  form_meaning.specs.Make.{on},
+  form_parts.proofs.Common.{arith, ◌≡◌, ap, refl, table_value, on, tables, table_at, world, object_settled},
   method_meaning.specs.Levels.{set_index_result},
-  frame_store.{specs.{Objects.{tables, table_at}, World.{world}}, proofs.Settling.{object_settled}},
   frame_methods.proofs.{AnswerLaws.{answer_by, makes_by}, RowLaws.{makes_so}, ShapeLaws.{set_index_of_frame}},
   label_methods.proofs.{LevelNameLaws.{names_given}, LevelMoveLaws.{option_given}},
 }
-use Rattle.form_meaning.specs.declared.Method.TheVariants as method
+use Rattle.call_meaning.specs.declared.Method.TheVariants as method
 use Rattle.frame_methods.proofs.calling.levels_made.Goals as goal
 
 pub set_index-requires-clause-known : goal.set_index-requires-clause-known

@@ -1,14 +1,12 @@
 use Rattle.{
-  std.proofs.Common.{arith, ◌≡◌, ◌∙◌, ap, sym, refl},
-  meaning.specs.Fault.{then_value},
-  table_meaning.specs.Table.{table_value},
-  form_meaning.specs.{Binding.{truth_in}, Make.{on}, Select.{column_places}},
+  form_parts.proofs.Common.{arith, ◌≡◌, ◌∙◌, ap, sym, refl, then_value, table_value, on, tables, table_at, world, object_settled},
+  call_meaning.specs.Binding.{truth_in},
+  form_meaning.specs.Select.{column_places},
   method_meaning.specs.Rows.{dropna_result, sort_values_result, sort_by_result, all_places, labels_in},
-  frame_store.{specs.{Objects.{tables, table_at}, World.{world}}, proofs.Settling.{object_settled}},
   frame_methods.proofs.AnswerLaws.{makes_by},
   label_methods.{specs.Named.{first_in}, proofs.NamedLaws.{all_are}},
 }
-use Rattle.form_meaning.specs.declared.Method.TheVariants as method
+use Rattle.call_meaning.specs.declared.Method.TheVariants as method
 use Rattle.frame_methods.proofs.calling.rows_made.Goals as goal
 
 pub returns-in-Dropna : goal.returns-in-Dropna

@@ -1,15 +1,12 @@
 use Rattle.{
-  std.proofs.{Common.{arith, ◌∙◌, ap, refl, option_map, w64, FitsSigned, rules}, lemmas.Int.{to_z-of_z}},
-  meaning.specs.Operator.{cell_label},
-  table_meaning.specs.{Table.{table_value}, Value.{scalar_in}},
-  form_meaning.specs.{Finish.{limited}, Make.{on}},
+  form_parts.proofs.Common.{arith, ◌∙◌, ap, refl, rules, to_z-of_z, cell_label, table_value, scalar_in, limited, on, tables, table_at, world, longer_self},
+  meaning.proofs.Common.{option_map, w64, FitsSigned},
   method_meaning.specs.Methods.{renamed_series},
-  frame_store.{specs.{Objects.{tables, table_at}, World.{world}}, proofs.Settling.{longer_self}},
   signatures.proofs.ToldLaws.{name_given},
   frame_methods.proofs.{AnswerLaws.{answer_by}, RenameLaws.{pairs_settled}},
   label_methods.proofs.AnswerLaws.{forms_so},
 }
-use Rattle.form_meaning.specs.declared.Method.TheVariants as method
+use Rattle.call_meaning.specs.declared.Method.TheVariants as method
 use Rattle.frame_methods.proofs.calling.table_answer.Goals as goal
 
 -- the first and the last rows

@@ -1,14 +1,11 @@
 use Rattle.{
-  std.proofs.Common.{◌∙◌, ap, refl},
-  table_meaning.specs.{Table.{table_value}, Value.{list_in}},
-  form_meaning.specs.{Make.{on}, Select.{cells_of}},
+  form_parts.proofs.Common.{◌∙◌, ap, refl, table_value, list_in, on, cells_of, tables, table_at, world},
   method_meaning.specs.Methods.{each_column},
-  frame_store.specs.{Objects.{tables, table_at}, World.{world}},
   signatures.proofs.ScalarLaws.{items_settled},
   frame_methods.{specs.Listed.{listed_column}, proofs.{AnswerLaws.{answer_by}, ListedLaws.{isin_meant}}},
   label_methods.proofs.AnswerLaws.{forms_so},
 }
-use Rattle.form_meaning.specs.declared.Method.TheVariants as method
+use Rattle.call_meaning.specs.declared.Method.TheVariants as method
 use Rattle.frame_methods.proofs.column_ops.columns_answer.Goals as goal
 
 -- cells in a list

@@ -1,6 +1,5 @@
 use Rattle.{
-  std.proofs.Common.{length},
-  frame_store.specs.Shown.{cells_value},
+  form_parts.proofs.Common.{length, cells_value},
   frame_methods.specs.Columns.{IsFront},
 }
 use Rattle.frame_methods.proofs.columns.each_column.Given as goal

@@ -1,6 +1,5 @@
 use Rattle.{
-  std.proofs.{lemmas.List.{length-map}, Common.{arith, ◌≡◌, ◌∙◌, true, length, nat_eq, rules}},
-  form_meaning.specs.Finish.{within_limits},
+  form_parts.proofs.Common.{length-map, arith, ◌≡◌, ◌∙◌, true, length, nat_eq, rules, within_limits},
   frame_methods.proofs.DuplicateLaws.{repeats_count, duplicated_made},
 }
 use Rattle.frame_methods.proofs.duplicates.duplicated.Goals as goal

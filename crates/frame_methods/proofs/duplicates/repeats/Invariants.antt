@@ -1,6 +1,6 @@
 use Rattle.{
-  std.proofs.Common.{◌≡◌, [], ◌++◌, map, drop, nat_eq},
-  cell_core.specs.declared.cell.{Cell.TheVariants.{Bool}, Kind.TheVariants.{Boolean}},
+  form_parts.proofs.Common.{◌≡◌, [], ◌++◌, map, drop, nat_eq, Boolean},
+  cell_core.specs.declared.cell.Cell.TheVariants.{Bool},
   method_meaning.specs.Rows.{repeats},
 }
 use Rattle.frame_methods.proofs.duplicates.repeats.Given as goal

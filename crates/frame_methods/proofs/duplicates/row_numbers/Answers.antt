@@ -1,5 +1,6 @@
 use Rattle.{
-  std.proofs.{Common.{◌≡◌, ◌<◌, ◌+◌, ◌++◌, ◌∷◌, [], subst, length, take, arith}, lemmas.{List.{take_at, take_more}, Option.{get_or_from_slice_get}}},
+  form_parts.proofs.Common.{◌≡◌, ◌<◌, ◌+◌, ◌++◌, ◌∷◌, [], subst, length, take, arith, take_more, get_or_from_slice_get},
+  meaning.proofs.Common.{take_at},
   frame_methods.specs.Rows.{AreNumbers},
 }
 use Rattle.frame_methods.proofs.duplicates.row_numbers.Goals as goal

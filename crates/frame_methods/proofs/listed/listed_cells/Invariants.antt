@@ -1,8 +1,5 @@
 use Rattle.{
-  std.{proofs.Common.{◌≡◌, ◌||◌, Bool, List, drop}, specs.List.{list_any}},
-  meaning.specs.{Text.{Text}, Cell.{CellValue, AreGiven}},
-  table_meaning.specs.Settled.{IsSettled},
-  frame_store.specs.Shown.{cells_value},
+  form_parts.proofs.Common.{◌≡◌, ◌||◌, Bool, List, drop, list_any, Text, CellValue, AreGiven, IsSettled, cells_value},
   signatures.specs.Scalars.{scalars},
 }
 use Rattle.frame_methods.proofs.listed.listed_cells.Given as goal

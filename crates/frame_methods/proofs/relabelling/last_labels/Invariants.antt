@@ -1,7 +1,6 @@
 use Rattle.{
-  std.proofs.Common.{drop, []},
+  form_parts.proofs.Common.{drop, [], same_label},
   indexmap.specs.IndexMap.{insert_all},
-  form_meaning.specs.Binding.{same_label},
   frame_methods.{specs.Renames.{given_labels}, proofs.RenameLaws.{LabelsSoFar}},
 }
 use Rattle.frame_methods.proofs.relabelling.last_labels.Given as goal

@@ -1,6 +1,5 @@
 use Rattle.{
-  std.proofs.Common.{◌∙◌, sym, refl},
-  frame_store.{specs.Shown.{headings_value}, proofs.Settling.{headings_part}},
+  form_parts.proofs.Common.{◌∙◌, sym, refl, headings_value, headings_part},
   frame_methods.proofs.RenameLaws.{new_heads, new_settled, new_meant, no_labels},
 }
 use Rattle.frame_methods.proofs.relabelling.renamed_headings.Goals as goal

@@ -1,6 +1,5 @@
 use Rattle.{
-  std.proofs.{Common.{ap, sym}, lemmas.Result.{err_from_is_err_and}},
-  frame_store.{specs.Objects.{table_or}, proofs.Settling.{object_settled, columns_name_part}},
+  form_parts.proofs.Common.{ap, sym, err_from_is_err_and, table_or, object_settled, columns_name_part},
   frame_methods.proofs.RenameLaws.{frame_refused},
 }
 use Rattle.frame_methods.proofs.renaming.rename_frame.Goals as goal

@@ -1,7 +1,5 @@
 use Rattle.{
-  std.proofs.Common.{◌≡◌, List},
-  meaning.specs.Text.{Text},
-  table_meaning.specs.Table.{table_value},
+  form_parts.proofs.Common.{◌≡◌, List, Text, table_value},
   frame_methods.proofs.RowLaws.{complete_before},
 }
 use Rattle.frame_methods.proofs.rows.complete_rows.Given as goal

@@ -1,5 +1,5 @@
 use Rattle.{
-  std.{proofs.{Common.{arith}, lemmas.Int.{to_z-of_z}}, specs.Int.{w64}},
+  form_parts.proofs.Common.{arith, to_z-of_z, w64},
   label_methods.proofs.AnswerLaws.{forms_so},
   frame_methods.proofs.RowLaws.{first_meant, rows_read},
 }

@@ -1,6 +1,5 @@
 use Rattle.{
-  std.proofs.Common.{◌≡◌, List, drop},
-  meaning.specs.Text.{Text},
+  form_parts.proofs.Common.{◌≡◌, List, drop, Text},
   frame_methods.proofs.RowLaws.{whole_in},
 }
 use Rattle.frame_methods.proofs.rows.is_complete.Given as goal

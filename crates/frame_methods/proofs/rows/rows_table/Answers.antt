@@ -1,6 +1,5 @@
 use Rattle.{
-  std.proofs.Common.{arith, ◌≡◌, true, length, rules},
-  form_meaning.specs.Finish.{within_limits},
+  form_parts.proofs.Common.{arith, ◌≡◌, true, length, rules, within_limits},
   selections.proofs.PickedLaws.{places_inside, places_count},
   frame_methods.proofs.RowLaws.{rows_made},
 }

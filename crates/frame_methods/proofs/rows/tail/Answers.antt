@@ -1,6 +1,5 @@
 use Rattle.{
-  std.{proofs.{Common.{◌∙◌, ap}, lemmas.Int.{to_z-of_z}}, specs.Int.{w64}},
-  frame_store.specs.{Arguments.{object_value}, Objects.{tables}},
+  form_parts.proofs.Common.{◌∙◌, ap, to_z-of_z, w64, object_value, tables},
   pick_meaning.specs.Positions.{rows_before},
   label_methods.proofs.AnswerLaws.{forms_so},
   frame_methods.proofs.RowLaws.{last_meant, rows_read},

@@ -1,6 +1,5 @@
 use Rattle.{
-  frame_store.{proofs.Settling.{object_settled}, specs.Objects.{tables, table_at}},
-  std.proofs.Common.{arith, ◌≡◌},
+  form_parts.proofs.Common.{object_settled, tables, table_at, arith, ◌≡◌},
   label_methods.proofs.AnswerLaws.{forms_so},
 }
 use Rattle.frame_methods.proofs.tables.columns_placed.Goals as goal

@@ -1,6 +1,5 @@
 use Rattle.{
-  std.proofs.Common.{◌≡◌, true, length, rules},
-  form_meaning.specs.Finish.{within_limits},
+  form_parts.proofs.Common.{◌≡◌, true, length, rules, within_limits},
   frame_methods.proofs.TableLaws.{columns_made},
 }
 use Rattle.frame_methods.proofs.tables.columns_table.Goals as goal

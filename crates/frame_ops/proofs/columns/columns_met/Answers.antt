@@ -1,6 +1,5 @@
 use Rattle.{
-  std.proofs.Common.{◌≡◌, ◌<◌, length, arith, rules, Err},
-  frame_store.proofs.Settling.{longer_twice},
+  form_parts.proofs.Common.{◌≡◌, ◌<◌, length, arith, rules, Err, longer_twice},
   frame_ops.proofs.MeetingLaws.{kinds_here, columns_more, whole_more, whole_refused},
 }
 use Rattle.frame_ops.proofs.columns.columns_met.Goals as goal

@@ -1,9 +1,6 @@
 use Rattle.{
-  std.{proofs.Common.{◌≡◌, ◌++◌, drop, length, true, Ok}, specs.List.{list_all}},
-  meaning.specs.{Cell.{IsLonger}, Fault.{then_value}},
+  form_parts.proofs.Common.{◌≡◌, ◌++◌, drop, length, true, Ok, list_all, IsLonger, then_value, try_all, met, blocks_value, AreColumns},
   column_operators.specs.Tasks.{operator_of},
-  form_meaning.specs.{Finish.{try_all}, Infix.{met}},
-  form_parts.specs.Makes.{blocks_value, AreColumns},
   frame_ops.specs.Pairs.{kinds_meet, pairs_from, meetings_value},
 }
 use Rattle.frame_ops.proofs.columns.columns_met.Given as goal

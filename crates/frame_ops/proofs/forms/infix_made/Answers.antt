@@ -1,5 +1,5 @@
 use Rattle.{
-  frame_store.{specs.Objects.{tables}, proofs.Settling.{object_settled}},
+  form_parts.proofs.Common.{tables, object_settled},
   frame_ops.proofs.InfixLaws.{scalar_given},
 }
 use Rattle.frame_ops.proofs.forms.infix_made.Goals as goal

@@ -1,7 +1,4 @@
-use Rattle.{
-  std.proofs.Common.{◌≡◌, drop},
-  frame_store.specs.Shown.{headings_value, labels_value},
-}
+use Rattle.form_parts.proofs.Common.{◌≡◌, drop, headings_value, labels_value}
 use Rattle.form_meaning.specs.Infix as meant
 use Rattle.frame_ops.proofs.headings.are_headings.Given as goal
 

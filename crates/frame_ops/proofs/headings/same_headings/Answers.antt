@@ -1,6 +1,6 @@
 use Rattle.{
+  form_parts.proofs.Common.{headings_part},
   selections.proofs.PlaceLaws.{heading_settled},
-  frame_store.proofs.Settling.{headings_part},
 }
 use Rattle.frame_ops.proofs.headings.same_headings.Goals as goal
 

@@ -1,8 +1,7 @@
 use Rattle.{
+  form_parts.proofs.Common.{arith, ◌≡◌, Err, rules, Joined},
   frame_ops.proofs.JoinLaws.{joined_refused, joined_makes},
-  std.proofs.Common.{arith, ◌≡◌, Err, rules},
   column_operators.specs.Tasks.{operator_of},
-  label_align.specs.declared.joined.Joined.{Joined},
 }
 use Rattle.frame_ops.proofs.joining.joined_infix.Goals as goal
 

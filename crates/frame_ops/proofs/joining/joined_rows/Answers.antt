@@ -1,8 +1,7 @@
 use Rattle.{
-  std.proofs.Common.{arith, length},
+  form_parts.proofs.{Common.{arith, length, lists_seen}, RowLaws.{tuples_given}},
   align_meaning.proofs.DifferLaws.{joined_apart},
-  label_align.{specs.Joined.{lists_seen}, proofs.SameLaws.{tuple_decides}},
-  form_parts.proofs.RowLaws.{tuples_given},
+  label_align.proofs.SameLaws.{tuple_decides},
   frame_ops.proofs.JoinLaws.{rows_inside, joined_given},
 }
 use Rattle.frame_ops.proofs.joining.joined_rows.Goals as goal

@@ -1,8 +1,6 @@
 use Rattle.{
+  form_parts.proofs.Common.{◌≡◌, ◌∙◌, ◌<◌, ap, sym, length, arith, slice_index_or, None, length-set, get_or_from_slice_get, IsSettled, heading_value, common_name},
   selections.proofs.PlaceLaws.{heading_settled},
-  std.proofs.{Common.{◌≡◌, ◌∙◌, ◌<◌, ap, sym, length, arith, slice_index_or, None}, lemmas.{List.{length-set}, Option.{get_or_from_slice_get}}},
-  table_meaning.specs.{Settled.{IsSettled}, Table.{heading_value}},
-  form_meaning.specs.Infix.{common_name},
   frame_ops.proofs.JoinLaws.{one_named, names_given},
 }
 use Rattle.frame_ops.proofs.joining.name_levels.Goals as goal

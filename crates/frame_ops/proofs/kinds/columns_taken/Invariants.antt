@@ -1,5 +1,5 @@
 use Rattle.{
-  std.{proofs.Common.{◌≡◌, drop}, specs.List.{list_all}},
+  form_parts.proofs.Common.{◌≡◌, drop, list_all},
   column_operators.specs.Tasks.{operator_of},
   form_meaning.specs.Infix.{takes_twice},
 }

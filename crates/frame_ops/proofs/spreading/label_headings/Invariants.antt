@@ -1,7 +1,4 @@
-use Rattle.{
-  std.proofs.Common.{◌≡◌, map, take},
-  form_meaning.specs.Infix.{tuple_heading},
-}
+use Rattle.form_parts.proofs.Common.{◌≡◌, map, take, tuple_heading}
 use Rattle.frame_ops.proofs.spreading.label_headings.Given as goal
 
 -- the headings of the rows so far

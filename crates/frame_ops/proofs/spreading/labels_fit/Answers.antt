@@ -1,5 +1,5 @@
 use Rattle.{
-  std.proofs.{Common.{◌≡◌, length, arith}, lemmas.List.Elements.{All-append}},
+  form_parts.proofs.Common.{◌≡◌, length, arith, All-append},
   frame_ops.proofs.WideLaws.{tuples_alike},
 }
 use Rattle.frame_ops.proofs.spreading.labels_fit.Goals as goal

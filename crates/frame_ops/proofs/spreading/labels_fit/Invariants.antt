@@ -1,8 +1,6 @@
 use Rattle.{
-  std.proofs.Common.{◌≡◌, drop, map},
+  form_parts.proofs.Common.{◌≡◌, drop, map, column_at, labels_fit},
   row_keys.specs.Keys.{same_tuple},
-  table_meaning.specs.Table.{column_at},
-  form_meaning.specs.Infix.{labels_fit},
   frame_ops.specs.Widening.{heading_tuple},
 }
 use Rattle.frame_ops.proofs.spreading.labels_fit.Given as goal

@@ -1,6 +1,5 @@
 use Rattle.{
-  std.proofs.Common.{◌≡◌, take, map, All},
-  frame_store.specs.Parts.{block_column, IsSingle},
+  form_parts.proofs.Common.{◌≡◌, take, map, All, block_column, IsSingle},
   frame_ops.specs.Pairs.{repeated},
 }
 use Rattle.frame_ops.proofs.spreading.spread_columns.Given as goal

@@ -1,7 +1,5 @@
 use Rattle.{
-  std.proofs.Common.{arith, subst},
-  table_meaning.specs.Valid.{IsWhole},
-  frame_store.specs.World.{IsKnownTable},
+  form_parts.proofs.Common.{arith, subst, IsWhole, IsKnownTable},
   frame_ops.proofs.WideLaws.{spread_known},
 }
 use Rattle.frame_ops.proofs.spreading.spread_frame.Goals as goal

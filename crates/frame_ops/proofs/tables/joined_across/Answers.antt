@@ -1,7 +1,6 @@
 use Rattle.{
-  std.proofs.Common.{arith, ap},
+  form_parts.proofs.Common.{arith, ap, table_value},
   column_operators.specs.Tasks.{operator_of},
-  table_meaning.specs.Table.{table_value},
   form_meaning.specs.Infix.{joined_frames},
   frame_ops.proofs.InfixLaws.{makes_as},
 }

@@ -1,7 +1,5 @@
 use Rattle.{
-  frame_store.{proofs.Settling.{columns_given, columns_part}, specs.Shown.{labels_value}},
-  std.proofs.{Common.{arith, ◌≡◌, true, rules}, lemmas.List.{length-map}},
-  form_meaning.specs.Infix.{same_tuples},
+  form_parts.proofs.Common.{columns_given, columns_part, labels_value, arith, ◌≡◌, true, rules, length-map, same_tuples},
   frame_ops.proofs.InfixLaws.{makes_as, rows_are_meant},
 }
 use Rattle.frame_ops.proofs.tables.rows_infix.Goals as goal

@@ -1,9 +1,4 @@
-use Rattle.{
-  std.proofs.Common.{◌≡◌, length, take, map, All},
-  cell_core.specs.declared.cell.Cell.TheVariants.{Na},
-  form_meaning.specs.Infix.{columns_or_missing},
-  frame_store.specs.Parts.{block_column, IsSingle},
-}
+use Rattle.form_parts.proofs.Common.{◌≡◌, length, take, map, All, Na, columns_or_missing, block_column, IsSingle}
 use Rattle.frame_ops.proofs.widening.columns_or_missing.Given as goal
 
 abbrev pub invariant-loop-k : goal.invariant-loop-k

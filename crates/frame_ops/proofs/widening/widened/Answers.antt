@@ -1,6 +1,5 @@
 use Rattle.{
-  std.proofs.Common.{arith, subst},
-  table_meaning.specs.Valid.{IsWhole},
+  form_parts.proofs.Common.{arith, subst, IsWhole},
   frame_ops.proofs.WideLaws.{widened_whole},
 }
 use Rattle.frame_ops.proofs.widening.widened.Goals as goal

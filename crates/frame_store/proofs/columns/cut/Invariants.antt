@@ -1,6 +1,5 @@
 use Rattle.{
-  std.proofs.Common.{◌≡◌, take, map, All},
-  cell_core.specs.declared.cell.Cell.TheVariants.{Na},
+  meaning.proofs.Common.{◌≡◌, take, map, All, Na},
   table_meaning.specs.Change.{cut_columns},
   frame_store.specs.Parts.{block_column, IsSingle},
 }

@@ -1,4 +1,4 @@
-use Rattle.std.proofs.Common.{arith}
+use Rattle.meaning.proofs.Common.{arith}
 use Rattle.frame_store.proofs.columns.strided_copy.Goals as goal
 
 pub returns : goal.returns

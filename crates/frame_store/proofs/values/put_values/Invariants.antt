@@ -1,5 +1,5 @@
 use Rattle.{
-  std.proofs.Common.{◌≡◌, drop, map, All, vec_len},
+  meaning.proofs.Common.{◌≡◌, drop, map, All, vec_len},
   table_meaning.specs.Change.{with_values_from},
   frame_store.{specs.Parts.{block_column, IsSingle}, proofs.ValueLaws.{AreAlike}},
 }

@@ -1,5 +1,6 @@
 use Rattle.{
-  std.proofs.Common.{arith, to_z-of_z},
+  meaning.proofs.Common.{arith},
+  std.proofs.Common.{to_z-of_z},
   group_by.proofs.GatherLaws.{count_wraps},
 }
 use Rattle.group_by.proofs.cells.counted.Goals as goal

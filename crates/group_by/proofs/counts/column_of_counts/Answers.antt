@@ -1,5 +1,5 @@
 use Rattle.{
-  std.proofs.{Common.{◌∷◌, [], arith, take, slice_index_or}, lemmas.List.{take_more, take_all, map-append}},
+  meaning.proofs.Common.{◌∷◌, [], arith, take, slice_index_or, take_more, take_all, map-append},
   group_meaning.specs.Reductions.{count_cell},
   group_by.proofs.NumberLaws.{no_numbers, numbers_more, same_numbers},
 }

@@ -1,5 +1,5 @@
 use Rattle.{
-  std.proofs.Common.{map, take},
+  meaning.proofs.Common.{map, take},
   group_meaning.specs.Reductions.{count_cell},
   group_by.specs.Counted.{AreNumbers},
 }

@@ -1,5 +1,5 @@
 use Rattle.{
-  std.proofs.Common.{◌≡◌, ◌<◌, ℕ, length, take, slice_index_or},
+  meaning.proofs.Common.{◌≡◌, ◌<◌, ℕ, length, take, slice_index_or},
   group_meaning.specs.Rows.{rows_of_group},
 }
 use Rattle.group_by.proofs.counts.count_rows.Given as goal

@@ -1,5 +1,5 @@
 use Rattle.{
-  std.proofs.{Common.{◌≡◌, ◌∙◌, ◌<◌, ap, sym, arith, length, take, slice_index_or, None}, lemmas.{List.FromFn.{map-range_with_len_more}, Option.{get_or_from_slice_get}}},
+  meaning.proofs.Common.{◌≡◌, ◌∙◌, ◌<◌, ap, sym, arith, length, take, slice_index_or, None, map-range_with_len_more, get_or_from_slice_get},
   group_meaning.specs.{Rows.{rows_of_group}, Reductions.{count_cell, of_group}},
   group_by.proofs.NumberLaws.{room, rows_counted, no_numbers, numbers_more, same_numbers, of_one_group},
 }

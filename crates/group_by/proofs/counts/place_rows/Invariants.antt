@@ -1,5 +1,5 @@
 use Rattle.{
-  std.{proofs.Common.{◌≡◌, ◌<◌, ℕ, length, map, take, slice_index_or}, specs.List.{range_with_len}},
+  meaning.proofs.Common.{◌≡◌, ◌<◌, ℕ, length, map, take, slice_index_or, range_with_len},
   group_meaning.specs.{Rows.{rows_of_group}, Reductions.{count_before}},
   group_by.specs.Counted.{AreNumbers},
 }

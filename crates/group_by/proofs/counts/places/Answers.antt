@@ -1,6 +1,6 @@
 use Rattle.{
+  meaning.proofs.Common.{arith},
   group_by.proofs.NumberLaws.{all_alike},
-  std.proofs.Common.{arith},
 }
 use Rattle.group_by.proofs.counts.places.Goals as goal
 

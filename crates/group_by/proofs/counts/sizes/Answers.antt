@@ -1,6 +1,6 @@
 use Rattle.{
+  meaning.proofs.Common.{◌∙◌, ap, arith, map, with_items_is},
   group_by.proofs.NumberLaws.{all_alike, same_numbers, counts_cells, if_ok_more},
-  std.proofs.{Common.{◌∙◌, ap, arith, map}, lemmas.List.{with_items_is}},
 }
 use Rattle.group_by.proofs.counts.sizes.Goals as goal
 

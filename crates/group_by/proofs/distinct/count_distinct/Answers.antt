@@ -1,6 +1,5 @@
 use Rattle.{
-  std.proofs.{Common.{◌≡◌, ◌<◌, arith, length, map, slice_index_or, None}, lemmas.{List.{get_or-map}, Option.{get_or_from_slice_get}}},
-  meaning.specs.Cell.{na_cell, datum, IsGiven},
+  meaning.proofs.Common.{◌≡◌, ◌<◌, arith, length, map, slice_index_or, None, get_or-map, get_or_from_slice_get, na_cell, datum, IsGiven},
   group_by.proofs.DistinctLaws.{room, seen_more, distinct_more},
 }
 use Rattle.group_by.proofs.distinct.count_distinct.Goals as goal

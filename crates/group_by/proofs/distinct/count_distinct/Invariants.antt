@@ -1,7 +1,5 @@
 use Rattle.{
-  std.{proofs.Common.{◌≡◌, ◌<◌, ℕ, false, length, map, take, slice_index_or}, specs.List.{list_any}},
-  cell_core.specs.declared.cell.Cell.{Cell},
-  meaning.specs.{Cell.{datum, IsGiven}, Reduce.{present, same_cell, distinct_count}},
+  meaning.proofs.Common.{◌≡◌, ◌<◌, ℕ, false, length, map, take, slice_index_or, list_any, Cell, datum, IsGiven, present, same_cell, distinct_count},
   group_meaning.specs.Rows.{cells_of_group},
   group_by.specs.Distincts.{is_missing, same_member},
 }

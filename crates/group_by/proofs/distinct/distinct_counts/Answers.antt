@@ -1,6 +1,6 @@
 use Rattle.{
+  meaning.proofs.Common.{◌∙◌, ap, arith, map, with_items_is},
   group_by.proofs.NumberLaws.{all_alike, same_numbers, counts_cells, if_ok_more},
-  std.proofs.{Common.{◌∙◌, ap, arith, map}, lemmas.List.{with_items_is}},
   group_meaning.specs.Reductions.{count_cell},
 }
 use Rattle.group_by.proofs.distinct.distinct_counts.Goals as goal

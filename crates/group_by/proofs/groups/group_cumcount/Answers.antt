@@ -1,5 +1,5 @@
 use Rattle.{
-  std.proofs.Common.{◌∙◌, ap},
+  meaning.proofs.Common.{◌∙◌, ap},
   group_meaning.specs.Reductions.{group_places},
   group_by.proofs.NumberLaws.{numbers_value, if_ok_more},
 }

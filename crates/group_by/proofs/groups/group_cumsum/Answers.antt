@@ -1,5 +1,5 @@
 use Rattle.{
-  std.proofs.Common.{arith},
+  meaning.proofs.Common.{arith},
   group_by.proofs.CallLaws.{cumsum_answer},
 }
 use Rattle.group_by.proofs.groups.group_cumsum.Goals as goal

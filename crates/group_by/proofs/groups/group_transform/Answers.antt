@@ -1,6 +1,5 @@
 use Rattle.{
-  std.proofs.Common.{arith, ◌≡◌, ◌∙◌, ap, map},
-  meaning.specs.{Cell.{na_cell, datum}, Column.{gap_cell}},
+  meaning.proofs.Common.{arith, ◌≡◌, ◌∙◌, ap, map, na_cell, datum, gap_cell},
   group_meaning.specs.Reductions.{reduced_cells},
   group_by.{specs.Operations.{reduction_of}, proofs.CallLaws.{transform_answer, gaps_seen, taken_given}},
 }

@@ -1,5 +1,5 @@
 use Rattle.{
-  std.proofs.{Common.{arith, ◌<◌, length}, lemmas.List.Elements.{All-set}},
+  meaning.proofs.Common.{arith, ◌<◌, length, All-set},
   group_meaning.specs.Reductions.{group_kind},
   group_by.specs.Cells.{IsCellOf},
 }

@@ -1,6 +1,5 @@
 use Rattle.{
-  std.proofs.{Common.{◌≡◌, ◌<◌, arith, length, map, slice_index_or, None}, lemmas.{List.{take_all, get_or-map}, Option.{get_or_from_slice_get}}},
-  meaning.specs.Cell.{na_cell, datum},
+  meaning.proofs.Common.{◌≡◌, ◌<◌, arith, length, map, slice_index_or, None, take_all, get_or-map, get_or_from_slice_get, na_cell, datum},
   group_by.proofs.RowLaws.{taken_in},
 }
 use Rattle.group_by.proofs.reduce.gather_rows.Goals as goal

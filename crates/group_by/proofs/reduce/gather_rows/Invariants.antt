@@ -1,7 +1,5 @@
 use Rattle.{
-  std.proofs.Common.{◌≡◌, ◌<◌, ℕ, length, map, take, slice_index_or, All},
-  cell_core.specs.declared.cell.Cell.TheVariants.{Na},
-  meaning.specs.Cell.{datum},
+  meaning.proofs.Common.{◌≡◌, ◌<◌, ℕ, length, map, take, slice_index_or, All, Na, datum},
   group_meaning.specs.{Rows.{cells_of_group}, Reductions.{group_cell, group_kind}},
   group_by.specs.Cells.{IsCellOf},
 }

@@ -1,7 +1,5 @@
 use Rattle.{
-  std.proofs.{Common.{◌≡◌, ◌∙◌, [], ap, subst, arith, map, All}, lemmas.List.{with_items_is, Elements.{All-replicate}}},
-  cell_core.specs.declared.cell.Cell.{Cell},
-  meaning.specs.Cell.{datum},
+  meaning.proofs.Common.{◌≡◌, ◌∙◌, [], ap, subst, arith, map, All, with_items_is, All-replicate, Cell, datum},
   column_core.specs.Columns.{CellColumn, column_value},
   group_meaning.specs.Reductions.{group_cell, group_kind},
   group_by.{specs.Cells.{IsCellOf}, proofs.{GatherLaws.{gathered_cells}, NumberLaws.{if_ok_more}}},

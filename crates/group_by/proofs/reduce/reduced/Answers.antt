@@ -1,6 +1,5 @@
 use Rattle.{
-  std.proofs.Common.{◌∙◌, sym, map},
-  meaning.specs.Cell.{datum},
+  meaning.proofs.Common.{◌∙◌, sym, map, datum},
   group_meaning.specs.Reductions.{group_kind, reduced_cells},
   group_by.{specs.Operations.{reduction_of}, proofs.NumberLaws.{numbers_value, if_ok_more}},
 }

@@ -1,7 +1,5 @@
 use Rattle.{
-  std.proofs.{Common.{arith, ◌≡◌, ◌∙◌, ◌<◌, ℕ, List, true, ap, length}, lemmas.List.{get_or_default, Elements.{All-set}}},
-  cell_core.specs.declared.cell.{Cell.{Cell}, Kind.TheVariants.{Int64}},
-  meaning.specs.{Cell.{int_cell, datum, holds}, Reduce.{number_in}},
+  meaning.proofs.Common.{arith, ◌≡◌, ◌∙◌, ◌<◌, ℕ, List, true, ap, length, get_or_default, All-set, Cell, Int64, int_cell, datum, holds, number_in},
   group_by.{specs.Gathered.{plus, total_of}, proofs.{GatherLaws.{total_more, takes_at}, NumberLaws.{number_given}}},
 }
 use Rattle.group_by.proofs.running.add_cell.Goals as goal

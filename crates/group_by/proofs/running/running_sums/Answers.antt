@@ -1,7 +1,6 @@
 use Rattle.{
+  meaning.proofs.Common.{arith, pos, Int},
   group_by.proofs.NumberLaws.{all_alike},
-  std.proofs.Common.{arith, pos},
-  cell_core.specs.declared.cell.Cell.TheVariants.{Int},
 }
 use Rattle.group_by.proofs.running.running_sums.Goals as goal
 

@@ -1,7 +1,5 @@
 use Rattle.{
-  std.proofs.{Common.{◌≡◌, ◌∙◌, ◌<◌, ◌+◌, ap, sym, arith, length, map, take, slice_index_or, ℕ, List, None}, lemmas.{List.{get_or-map, FromFn.{map-range_with_len_more}}, Option.{get_or_from_slice_get}}},
-  cell_core.specs.declared.cell.Cell.TheVariants.{Na},
-  meaning.specs.{Cell.{na_cell, datum}, Cumulate.{unless_missing}},
+  meaning.proofs.Common.{◌≡◌, ◌∙◌, ◌<◌, ◌+◌, ap, sym, arith, length, map, take, slice_index_or, ℕ, List, None, get_or-map, map-range_with_len_more, get_or_from_slice_get, Na, na_cell, datum, unless_missing},
   group_meaning.specs.{Rows.{cells_of_group}, Reductions.{of_group, group_cell, sum}},
   group_by.proofs.{RowLaws.{taken_in}, NumberLaws.{numbers_more, same_numbers, of_one_group}},
 }

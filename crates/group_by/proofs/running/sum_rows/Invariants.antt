@@ -1,7 +1,5 @@
 use Rattle.{
-  std.{proofs.Common.{◌≡◌, ◌<◌, ℕ, true, List, length, map, take, slice_index_or, All}, specs.List.{range_with_len}},
-  cell_core.specs.declared.cell.{Cell.{Cell, TheVariants.{Na}}, Kind.TheVariants.{Int64}},
-  meaning.specs.Cell.{datum, holds},
+  meaning.proofs.Common.{◌≡◌, ◌<◌, ℕ, true, List, length, map, take, slice_index_or, All, range_with_len, Cell, Na, Int64, datum, holds},
   group_meaning.specs.{Rows.{cells_of_group}, Reductions.{sum, group_cell, running_cell}},
   group_by.specs.Counted.{AreNumbers},
 }

@@ -1,6 +1,5 @@
 use Rattle.{
-  std.proofs.{Common.{◌∙◌, ap, sym, length, map, ◌++◌, rules}, lemmas.{List.{length-map}, Result.{err_from_is_err_and}}},
-  table_meaning.specs.Table.{table_value},
+  form_parts.proofs.Common.{◌∙◌, ap, sym, length, map, ◌++◌, rules, length-map, err_from_is_err_and, table_value},
   group_forms.{specs.{declared.columns.ColumnCall.TheVariants.{Reduced}, Columns.{made_at}, Grouped.{grouping_seen}, Tables.{group_keys}}, proofs.{ColumnLaws.{all_taken}, RowLaws.{own_settled, labels_counted}, GroupLaws.{group_headings_settled, reduced_refused, reduced_shown, reduced_headings, reduced_table, group_made, group_headings_counted, axis_counted, blocks_counted}, ShownLaws.{made_is, refused_is}}},
 }
 use Rattle.group_forms.proofs.by_group.reduced.Goals as goal

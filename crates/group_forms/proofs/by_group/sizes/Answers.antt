@@ -1,7 +1,6 @@
 use Rattle.{
-  std.proofs.{Common.{◌∙◌, ap, sym, refl, [], ◌∷◌, length}, lemmas.Result.{err_from_is_err_and}},
+  form_parts.proofs.Common.{◌∙◌, ap, sym, refl, [], ◌∷◌, length, err_from_is_err_and, table_value},
   group_forms.{proofs.{GroupLaws.{grouped_is, group_headings_settled, group_headings_counted, size_table, size_headings, sizes_boxed, sizes_seen, one_settled, group_made, axis_counted, blocks_counted}, ShownLaws.{made_is, refused_is}}, specs.Grouped.{grouping_seen}},
-  table_meaning.specs.Table.{table_value},
 }
 use Rattle.group_forms.proofs.by_group.sizes.Goals as goal
 

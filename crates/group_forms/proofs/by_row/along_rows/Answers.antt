@@ -1,7 +1,5 @@
 use Rattle.{
-  frame_store.proofs.Settling.{labels_part, level_names_part, columns_name_part},
-  std.proofs.{Common.{arith, ◌∙◌, ap, sym, true, length, rules}, lemmas.{List.{length-map}, Result.{err_from_is_err_and}}},
-  table_meaning.specs.Table.{table_value},
+  form_parts.proofs.Common.{labels_part, level_names_part, columns_name_part, arith, ◌∙◌, ap, sym, true, length, rules, length-map, err_from_is_err_and, table_value},
   group_forms.{specs.Columns.{made_at}, proofs.{GroupLaws.{blocks_counted}, RowLaws.{own_settled, labels_counted, along_refused, along_meant, along_headings, along_table, blocks_placed}, ShownLaws.{made_is, refused_is}}},
 }
 use Rattle.group_forms.proofs.by_row.along_rows.Goals as goal

@@ -1,6 +1,5 @@
 use Rattle.{
-  std.proofs.{lemmas.{List.{length-map}, Result.{err_from_is_err_and}}, Common.{arith, ◌∙◌, ap, refl, true, [], ◌∷◌, None, length}},
-  frame_store.proofs.Settling.{labels_part, level_names_part, columns_name_part},
+  form_parts.proofs.Common.{length-map, err_from_is_err_and, arith, ◌∙◌, ap, refl, true, [], ◌∷◌, None, length, labels_part, level_names_part, columns_name_part},
   group_forms.proofs.{RowLaws.{counts_table, counts_boxed, counts_seen}, ShownLaws.{made_is, refused_is}},
 }
 use Rattle.group_forms.proofs.by_row.counts.Goals as goal

@@ -1,6 +1,5 @@
 use Rattle.{
-  std.proofs.Common.{arith, ◌≡◌, ap, sym},
-  frame_store.{specs.Objects.{tables, table_or}, proofs.Settling.{longer_self}},
+  form_parts.proofs.Common.{arith, ◌≡◌, ap, sym, tables, table_or, longer_self},
   group_forms.{specs.{Calls.{call_of}, Grouped.{grouping_seen, values_seen}}, proofs.FormLaws.{known_table, answer_at}},
 }
 use Rattle.group_forms.proofs.calling.answer.Goals as goal

@@ -1,6 +1,5 @@
 use Rattle.{
-  frame_store.{proofs.Settling.{settled_later, object_settled}, specs.declared.fault.OpFault.TheVariants.{NoMemory}},
-  std.proofs.Common.{◌≡◌, ap, Err, rules},
+  form_parts.proofs.Common.{settled_later, object_settled, NoMemory, ◌≡◌, ap, Err, rules},
   method_meaning.specs.Groups.{group_answer},
   group_forms.{specs.Grouped.{grouping_seen, values_seen}, proofs.FormLaws.{seen_before, no_memory_forms, forms_so}},
 }

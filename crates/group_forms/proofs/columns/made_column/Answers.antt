@@ -1,5 +1,5 @@
 use Rattle.{
-  meaning.specs.Cell.{AreGiven},
+  form_parts.proofs.Common.{AreGiven},
   group_forms.{specs.declared.columns.ColumnCall.TheVariants.{Reduced, Cumsum}, proofs.{KeyLaws.{if_ok}, ColumnLaws.{never_mismatch, through, column_by, count_by}}},
 }
 use Rattle.group_forms.proofs.columns.made_column.Goals as goal

@@ -1,5 +1,5 @@
 use Rattle.{
-  std.proofs.Common.{arith},
+  form_parts.proofs.Common.{arith},
   group_forms.proofs.ColumnLaws.{one_more_block, one_more_value, one_more_column, place_given, place_seen, place_inside},
 }
 use Rattle.group_forms.proofs.columns.more_columns.Goals as goal

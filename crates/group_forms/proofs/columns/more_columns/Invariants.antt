@@ -1,7 +1,5 @@
 use Rattle.{
-  std.proofs.Common.{◌≡◌, ◌++◌, map, take},
-  table_meaning.specs.Table.{table_value},
-  form_parts.specs.Makes.{blocks_value},
+  form_parts.proofs.Common.{◌≡◌, ◌++◌, map, take, table_value, blocks_value},
   group_forms.specs.Columns.{made_at, rows_made, AreBlocks},
 }
 use Rattle.group_forms.proofs.columns.more_columns.Given as goal

@@ -1,5 +1,5 @@
 use Rattle.{
-  std.proofs.Common.{arith, ◌∙◌},
+  form_parts.proofs.Common.{arith, ◌∙◌},
   key_columns.proofs.KeyLaws.{keys_are},
   group_forms.proofs.KeyLaws.{groups_found, rows_found, labels_found},
 }

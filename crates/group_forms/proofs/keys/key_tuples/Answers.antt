@@ -1,5 +1,5 @@
 use Rattle.{
-  std.proofs.Common.{arith},
+  form_parts.proofs.Common.{arith},
   group_forms.proofs.KeyLaws.{one_more_tuple},
 }
 use Rattle.group_forms.proofs.keys.key_tuples.Goals as goal

@@ -1,5 +1,5 @@
 use Rattle.{
-  std.proofs.Common.{◌≡◌, map, take},
+  form_parts.proofs.Common.{◌≡◌, map, take},
   label_methods.specs.Levels.{row_labels},
 }
 use Rattle.group_forms.proofs.keys.key_tuples.Given as goal

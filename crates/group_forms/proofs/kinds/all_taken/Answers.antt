@@ -1,5 +1,5 @@
 use Rattle.{
-  std.proofs.Common.{add-one, rules, arith},
+  form_parts.proofs.Common.{add-one, rules, arith},
   label_methods.proofs.Lists.{drop_next},
 }
 use Rattle.group_forms.proofs.kinds.all_taken.Goals as goal

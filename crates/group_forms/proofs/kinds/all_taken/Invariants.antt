@@ -1,5 +1,5 @@
 use Rattle.{
-  std.{proofs.Common.{◌≡◌, drop}, specs.List.{list_all}},
+  form_parts.proofs.Common.{◌≡◌, drop, list_all},
   group_forms.specs.Columns.{takes_at},
 }
 use Rattle.group_forms.proofs.kinds.all_taken.Given as goal

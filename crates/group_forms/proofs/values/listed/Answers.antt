@@ -1,5 +1,5 @@
 use Rattle.{
-  std.proofs.Common.{arith},
+  form_parts.proofs.Common.{arith},
   group_forms.proofs.FormLaws.{listed_settled},
 }
 use Rattle.group_forms.proofs.values.listed.Goals as goal

@@ -1,8 +1,7 @@
 use Rattle.{
-  std.proofs.Common.{arith, ◌≡◌, ◌∙◌, ap, sym, length, Some, None, option_map},
-  table_meaning.specs.Table.{table_value},
+  form_parts.proofs.Common.{arith, ◌≡◌, ◌∙◌, ap, sym, length, Some, None, table_value, items_of, tables, table_at, world, argument_in},
+  meaning.proofs.Common.{option_map},
   method_meaning.specs.Groups.{values_in, values_named},
-  frame_store.specs.{Arguments.{items_of}, Objects.{tables, table_at}, World.{world, argument_in}},
   label_methods.proofs.NamedLaws.{others_inside},
   group_forms.proofs.FormLaws.{known_table, items_known, many_values},
 }

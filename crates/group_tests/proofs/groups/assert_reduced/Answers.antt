@@ -1,9 +1,4 @@
-use Rattle.{
-  std.proofs.Common.{sym, subst},
-  meaning.specs.Cell.{AreGiven},
-  column_core.specs.Columns.{CellColumn},
-}
 use Rattle.group_tests.proofs.groups.assert_reduced.Goals as goal
 
 pub group_reduce-requires-clause-given : goal.group_reduce-requires-clause-given
-group_reduce-requires-clause-given g c = subst (λ (col : CellColumn). AreGiven c.new-dict.result col.cells) (sym c.as_ref-cells.ensures) (c.in_ok-column.ensures.given c.new-dict.result)
+group_reduce-requires-clause-given g c = rw c.as_ref-cells.ensures (c.in_ok-column.ensures.given c.new-dict.result)

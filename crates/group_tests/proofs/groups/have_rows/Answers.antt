@@ -1,5 +1,5 @@
 use Rattle.{
-  std.proofs.{Common.{◌≡◌, ◌<◌, ◌≤◌, length, All, arith, rules, subst, slice_index_or}, lemmas.{Grind.{common_steps}, List.{take_all, Elements.{All-more}}}},
+  meaning.proofs.Common.{◌≡◌, ◌<◌, ◌≤◌, length, All, arith, rules, subst, slice_index_or, common_steps, take_all, All-more},
   column_core.specs.Columns.{CellColumn},
 }
 use Rattle.group_tests.proofs.groups.have_rows.Goals as goal

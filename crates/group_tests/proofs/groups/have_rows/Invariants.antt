@@ -1,4 +1,4 @@
-use Rattle.std.proofs.Common.{◌≡◌, length, take, All}
+use Rattle.meaning.proofs.Common.{◌≡◌, length, take, All}
 use Rattle.group_tests.proofs.groups.have_rows.Given as goal
 
 -- the columns so far have so many rows

@@ -1,6 +1,5 @@
 use Rattle.{
-  std.proofs.{Common.{◌∙◌, ap, sym, subst}, lemmas.List.Elements.{All-push}},
-  meaning.specs.Cell.{IsGiven, AreGiven},
+  meaning.proofs.Common.{◌∙◌, ap, sym, subst, All-push, IsGiven},
   column_core.specs.Columns.{CellColumn, number_given},
 }
 use Rattle.group_tests.proofs.groups.numbers.Goals as goal
@@ -8,6 +7,6 @@ use Rattle.group_tests.proofs.groups.numbers.Goals as goal
 pub loop-value-preserved : goal.loop-value-preserved
 loop-value-preserved c = record {
   kind = ap (λ (col : CellColumn). col.kind) c.in_ok-push.ensures.ok ∙ c.loop-value.invariant.kind;
-  given = λ texts. subst (λ (col : CellColumn). AreGiven texts col.cells) (sym c.in_ok-push.ensures.ok)
+  given = λ texts. rw c.in_ok-push.ensures.ok
       (All-push (IsGiven texts) c.loop-value.column.cells c.cell_of_number.result (c.loop-value.invariant.given texts) (subst (IsGiven texts) (sym c.cell_of_number.ensures.cell) (number_given texts _)));
 }

@@ -1,8 +1,4 @@
-use Rattle.{
-  std.proofs.Common.{◌≡◌, ℕ, List},
-  cell_core.specs.declared.cell.Kind.TheVariants.{Int64},
-  meaning.specs.Cell.{AreGiven},
-}
+use Rattle.meaning.proofs.Common.{◌≡◌, ℕ, List, Int64, AreGiven}
 use Rattle.group_tests.proofs.groups.numbers.Given as goal
 
 -- numbers so far

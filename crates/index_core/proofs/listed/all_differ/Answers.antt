@@ -1,5 +1,5 @@
 use Rattle.{
-  std.proofs.{lemmas.List.{drop_more}, Common.{◌≡◌, ◌∙◌, ◌<◌, ◌+◌, ◌-◌, true, sym, length, drop, arith}},
+  meaning.proofs.Common.{drop_more, ◌≡◌, ◌∙◌, ◌<◌, ◌+◌, ◌-◌, true, sym, length, drop, arith},
   pick_meaning.specs.Labels.{all_differ},
   index_core.{specs.Labels.{same_number}, proofs.DifferLaws.{AreKeys, keys_more, stands_twice}},
 }

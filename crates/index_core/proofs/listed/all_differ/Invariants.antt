@@ -1,5 +1,5 @@
 use Rattle.{
-  std.proofs.Common.{◌≡◌, true, drop},
+  meaning.proofs.Common.{◌≡◌, true, drop},
   pick_meaning.specs.Labels.{all_differ},
   index_core.{specs.Labels.{same_number}, proofs.DifferLaws.{AreKeys}},
 }

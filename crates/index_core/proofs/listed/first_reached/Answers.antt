@@ -1,5 +1,5 @@
 use Rattle.{
-  std.{proofs.{Common.{arith, of_calls}, lemmas.Fn.{always_returns_same}}, specs.Ordering.{is_lt}},
+  meaning.proofs.Common.{arith, of_calls, always_returns_same, is_lt},
   index_core.{specs.Labels.{order_in}, proofs.SplitLaws.{below_first}},
 }
 use Rattle.index_core.proofs.listed.first_reached.Goals as goal

@@ -1,5 +1,5 @@
 use Rattle.{
-  std.{proofs.Common.{◌∙◌, ap, sym}, specs.Ordering.{is_lt}},
+  meaning.proofs.Common.{◌∙◌, ap, sym, is_lt},
   pick_meaning.proofs.OrderLaws.{order_goes_on, order_broken},
 }
 use Rattle.index_core.proofs.listed.is_sorted.Goals as goal

@@ -1,5 +1,5 @@
 use Rattle.{
-  std.proofs.Common.{◌≡◌, ◌-◌, drop},
+  meaning.proofs.Common.{◌≡◌, ◌-◌, drop},
   pick_meaning.specs.Slices.{is_in_order},
   index_core.specs.Labels.{order_in},
 }

@@ -1,7 +1,6 @@
 use Rattle.{
+  meaning.proofs.Common.{arith, Bool, ◌∙◌, ap, sym, is_eq, Label},
   pick_meaning.proofs.RowLaws.{rows_more_no},
-  std.{proofs.Common.{arith, Bool, ◌∙◌, ap, sym}, specs.Ordering.{is_eq}},
-  cell_core.specs.declared.cell.Label.{Label},
   index_core.{specs.Labels.{order_in}, proofs.{BoundLaws.{first_time, second_time}, listed.place_of_bound.Goals.{then-is_eq+else-is_some, else-is_eq}}},
 }
 use Rattle.index_core.proofs.listed.place_of_bound.Goals as goal

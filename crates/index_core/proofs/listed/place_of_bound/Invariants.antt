@@ -1,5 +1,5 @@
 use Rattle.{
-  std.{proofs.Common.{◌<◌, length}, specs.{Prelude.{IfSome}, Ordering.{is_eq}}},
+  meaning.proofs.Common.{◌<◌, length, IfSome, is_eq},
   index_core.{specs.Labels.{order_in}, proofs.BoundLaws.{IsSoFar}},
 }
 use Rattle.index_core.proofs.listed.place_of_bound.Given as goal

@@ -1,5 +1,5 @@
 use Rattle.{
-  std.proofs.Common.{arith},
+  meaning.proofs.Common.{arith},
   index_core.proofs.listed.places_of.Goals.{then-eq+in_ok-push},
   pick_meaning.proofs.RowLaws.{rows_more_yes, rows_more_no},
 }

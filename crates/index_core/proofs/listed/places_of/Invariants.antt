@@ -1,5 +1,5 @@
 use Rattle.{
-  std.proofs.Common.{◌≡◌, take},
+  meaning.proofs.Common.{◌≡◌, take},
   pick_meaning.specs.Rows.{rows_where},
   index_core.specs.Labels.{same_number},
 }

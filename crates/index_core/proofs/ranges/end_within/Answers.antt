@@ -1,5 +1,5 @@
 use Rattle.{
-  std.proofs.Common.{refl},
+  meaning.proofs.Common.{refl},
   index_core.proofs.NumberLaws.{none_passes},
 }
 use Rattle.index_core.proofs.ranges.end_within.Goals as goal

@@ -1,5 +1,5 @@
 use Rattle.{
-  std.proofs.{Common.{arith}, lemmas.Int.{to_z-of_z}},
+  meaning.proofs.Common.{arith, to_z-of_z},
   index_core.proofs.NumberLaws.{reached_number, reached_below},
 }
 use Rattle.index_core.proofs.ranges.first_from.Goals as goal

@@ -1,6 +1,6 @@
 use Rattle.{
+  meaning.proofs.Common.{arith, to_z-of_z},
   index_core.proofs.NumberLaws.{nowhere, not_same, label_decides, same_pos, number_there, no_number},
-  std.proofs.{Common.{arith}, lemmas.Int.{to_z-of_z}},
 }
 use Rattle.index_core.proofs.ranges.place_of_number.Goals as goal
 

@@ -1,5 +1,5 @@
 use Rattle.{
-  std.proofs.Common.{◌∙◌, [], arith},
+  meaning.proofs.Common.{◌∙◌, [], arith},
   cell_core.specs.declared.cell.Label.TheVariants.{Na},
   index_core.proofs.{RangeLaws.{length-range_labels}, SplitLaws.{rows_of_splits}},
 }

@@ -1,5 +1,5 @@
 use Rattle.{
-  std.proofs.Common.{arith},
+  meaning.proofs.Common.{arith},
   indexers.proofs.SpanLaws.{all_listed},
 }
 use Rattle.indexers.proofs.labels.all_rows.Goals as goal

@@ -1,5 +1,5 @@
 use Rattle.{
-  std.proofs.{Common.{◌∙◌, ◌<◌, ap, sym, length, [], arith}, lemmas.Option.{get_or_from_slice_get}},
+  meaning.proofs.Common.{◌∙◌, ◌<◌, ap, sym, length, [], arith, get_or_from_slice_get},
   pick_meaning.specs.{Faults.{not_there}, Labels.{rows_of_key}, Leading.{leads}},
   index_core.specs.Labels.{same_number},
   multi_index.specs.Axes.{single_tuples},

@@ -1,5 +1,5 @@
 use Rattle.{
-  std.proofs.{Common.{◌≡◌, ◌∙◌, ◌<◌, sym, length, slice_index_or, [], arith}, lemmas.{List.{length-map, Elements.{All-append}}, Option.{get_or_from_slice_get}}},
+  meaning.proofs.Common.{◌≡◌, ◌∙◌, ◌<◌, sym, length, slice_index_or, [], arith, length-map, All-append, get_or_from_slice_get},
   pick_meaning.specs.{Faults.{not_there}, Leading.{leads}},
   index_core.specs.Labels.{same_number},
   indexers.proofs.{AnswerLaws.{row_found, whole_found, whole_missing}, TurnLaws.{label_more, label_refused}},

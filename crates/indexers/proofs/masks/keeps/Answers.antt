@@ -1,6 +1,6 @@
 use Rattle.{
+  meaning.proofs.Common.{arith},
   indexers.proofs.MaskLaws.{cell_read, only_inside},
-  std.proofs.Common.{arith},
 }
 use Rattle.indexers.proofs.masks.keeps.Goals as goal
 

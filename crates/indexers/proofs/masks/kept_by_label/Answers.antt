@@ -1,5 +1,5 @@
 use Rattle.{
-  std.proofs.{Common.{◌∙◌, ◌<◌, ap, sym, length, map, arith}, lemmas.{Option.{get_or_from_slice_get}, Result.{err_from_is_err_and}}},
+  meaning.proofs.Common.{◌∙◌, ◌<◌, ap, sym, length, map, arith, get_or_from_slice_get, err_from_is_err_and},
   cell_core.specs.declared.cell.Label.TheVariants.{Na},
   pick_meaning.{specs.Masks.{cell_of_label}, proofs.RowLaws.{when_so, when_not}},
   index_core.specs.Labels.{same_number},

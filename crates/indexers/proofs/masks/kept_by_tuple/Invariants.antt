@@ -1,5 +1,5 @@
 use Rattle.{
-  std.{proofs.Common.{◌≡◌, drop, map}, specs.Cmp.Lexicographic.{pointwise}},
+  meaning.proofs.Common.{◌≡◌, drop, map, pointwise},
   pick_meaning.specs.Masks.{kept_by_label},
   index_core.specs.Labels.{same_number},
   indexers.{specs.Masks.{is_true}, proofs.TurnLaws.{added}},

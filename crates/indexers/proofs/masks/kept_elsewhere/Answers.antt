@@ -1,5 +1,5 @@
 use Rattle.{
-  std.proofs.Common.{map, arith},
+  meaning.proofs.Common.{map, arith},
   indexers.{specs.Masks.{is_true}, proofs.MaskLaws.{kept_seen, none_kept}},
 }
 use Rattle.indexers.proofs.masks.kept_elsewhere.Goals as goal

@@ -1,5 +1,5 @@
 use Rattle.{
-  std.proofs.{Common.{◌∙◌, ◌<◌, sym, map, length, arith}, lemmas.List.{length-map}},
+  meaning.proofs.Common.{◌∙◌, ◌<◌, sym, map, length, arith, length-map},
   pick_meaning.proofs.RowLaws.{rows_more_yes, rows_more_no},
   indexers.{specs.Masks.{is_true}, proofs.{MaskLaws.{cell_read}, masks.kept_rows.Goals.{then-is_true+in_ok-push, else-is_true}}},
 }

@@ -1,5 +1,5 @@
 use Rattle.{
-  std.proofs.Common.{◌≡◌, take, map},
+  meaning.proofs.Common.{◌≡◌, take, map},
   pick_meaning.specs.Rows.{rows_where},
   indexers.specs.Masks.{is_true},
 }

@@ -1,5 +1,5 @@
 use Rattle.{
-  std.proofs.Common.{arith, map},
+  meaning.proofs.Common.{arith, map},
   pick_meaning.proofs.InsideLaws.{by_label_inside},
   indexers.{specs.Masks.{is_true}, proofs.{AnswerLaws.{rows_inside}, MaskLaws.{masked_alike, alike_inside, masked_otherwise}}},
 }

@@ -1,5 +1,5 @@
 use Rattle.{
-  std.proofs.{Common.{◌∙◌, ◌<◌, ap, length, pos, Ok, arith, rules, w64, FitsSigned}, lemmas.{Option.{get_or_from_slice_get}, Int.{to_z-of_z}, Result.{err_from_is_err_and}}},
+  meaning.proofs.Common.{◌∙◌, ◌<◌, ap, length, pos, Ok, arith, rules, w64, FitsSigned, get_or_from_slice_get, to_z-of_z, err_from_is_err_and},
   pick_meaning.specs.{Faults.{then_pick}, Keys.{listed_pick}, Positions.{row_at}},
   indexers.{specs.Picks.{as_it_is, pick_of}, proofs.{AnswerLaws.{handed_on}, TurnLaws.{place_more, place_refused}}},
 }

@@ -1,6 +1,5 @@
 use Rattle.{
-  std.proofs.Common.{◌≡◌, drop, List},
-  cell_core.specs.declared.cell.Label.{Label},
+  meaning.proofs.Common.{◌≡◌, drop, List, Label},
   pick_meaning.specs.Positions.{rows_at},
   indexers.proofs.TurnLaws.{added},
 }

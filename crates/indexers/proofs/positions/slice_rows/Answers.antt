@@ -1,6 +1,5 @@
-use mir.Val.{of_z}
 use Rattle.{
-  std.proofs.{Common.{ap, w64}, lemmas.Int.{to_z-of_z}},
+  meaning.proofs.Common.{of_z, ap, w64, to_z-of_z},
   indexers.proofs.SpanLaws.{forward_spaced, backward_spaced},
 }
 use Rattle.indexers.proofs.positions.slice_rows.Goals as goal

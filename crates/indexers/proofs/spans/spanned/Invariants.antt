@@ -1,7 +1,4 @@
-use Rattle.{
-  std.{proofs.Common.{◌≡◌, map}, specs.List.{range_with_len}},
-  cell_core.specs.Grids.{place_from},
-}
+use Rattle.meaning.proofs.Common.{◌≡◌, map, range_with_len, place_from}
 use Rattle.indexers.proofs.spans.spanned.Given as goal
 
 -- the places so far

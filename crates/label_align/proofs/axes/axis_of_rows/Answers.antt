@@ -1,7 +1,7 @@
 use Rattle.{
-  std.proofs.Common.{arith, ◌≡◌, ◌∙◌, ap, subst, sym},
+  meaning.proofs.Common.{arith, ◌≡◌, ◌∙◌, ap, subst, sym},
   multi_index.{specs.Axes.{HaveLevels, nameless_axis, single_tuples}, proofs.TupleLaws.{levels_of_taken}},
-  label_align.proofs.AxisLaws.{single_rows},
+  label_align.proofs.OuterJoinLaws.{single_rows},
 }
 use Rattle.label_align.proofs.axes.axis_of_rows.Goals as goal
 

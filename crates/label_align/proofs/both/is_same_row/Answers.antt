@@ -1,6 +1,6 @@
 use Rattle.{
-  std.proofs.Common.{arith},
-  label_align.proofs.OrderLaws.{rows_agree},
+  meaning.proofs.Common.{arith},
+  label_align.proofs.OuterJoinLaws.{rows_agree},
 }
 use Rattle.label_align.proofs.both.is_same_row.Goals as goal
 

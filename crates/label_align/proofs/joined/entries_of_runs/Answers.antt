@@ -1,7 +1,7 @@
 use Rattle.{
-  std.proofs.{lemmas.List.{drop-drop, Sums.{sum_by_more}}, Common.{◌≡◌, ◌∙◌, ◌<◌, List, ℕ, take, drop, length, ap, arith, slice_index_or}},
+  meaning.proofs.Common.{drop-drop, sum_by_more, ◌≡◌, ◌∙◌, ◌<◌, List, ℕ, take, drop, length, ap, arith, slice_index_or},
   align_meaning.specs.Joins.{lists_of},
-  label_align.{specs.{declared.runs.Run.{Run}, Runs.{no_run, entries_in, rows_in, total}}, proofs.{JoinedLaws.{lists_more}, SideLaws.{run_more}}},
+  label_align.{specs.{declared.runs.Run.{Run}, Runs.{no_run, entries_in, rows_in, total}}, proofs.OuterJoinLaws.{lists_more, run_more}},
 }
 use Rattle.label_align.proofs.joined.entries_of_runs.Goals as goal
 

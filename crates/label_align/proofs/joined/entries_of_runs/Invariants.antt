@@ -1,5 +1,5 @@
 use Rattle.{
-  std.proofs.Common.{◌≡◌, take},
+  meaning.proofs.Common.{◌≡◌, take},
   align_meaning.specs.Joins.{lists_of},
   label_align.specs.{Joined.{entries_seen}, Runs.{run_entries, total}},
 }

@@ -1,6 +1,6 @@
 use Rattle.{
-  std.proofs.{Common.{arith, ◌<◌, length, subst}, lemmas.List.{take_all}},
-  label_align.{specs.Joined.{HasMore}, proofs.EntryLaws.{entries_of_some}},
+  meaning.proofs.Common.{arith, ◌<◌, length, subst, take_all},
+  label_align.{specs.Joined.{HasMore}, proofs.OuterJoinLaws.{entries_of_some}},
 }
 use Rattle.label_align.proofs.joined.push_key.Goals as goal
 

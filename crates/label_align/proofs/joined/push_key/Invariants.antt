@@ -1,5 +1,5 @@
 use Rattle.{
-  std.{proofs.Common.{Some, take, map, ◌-◌}, specs.List.{flat_map}},
+  meaning.proofs.Common.{Some, take, map, ◌-◌, flat_map},
   align_meaning.specs.Joins.{entries_with},
   label_align.specs.Joined.{HasMore},
 }

@@ -1,6 +1,6 @@
 use Rattle.{
-  std.proofs.{Common.{arith, ◌<◌, ◌-◌, length}, lemmas.List.{take_all}},
-  label_align.proofs.EntryLaws.{entries_with_some},
+  meaning.proofs.Common.{arith, ◌<◌, ◌-◌, length, take_all},
+  label_align.proofs.OuterJoinLaws.{entries_with_some},
 }
 use Rattle.label_align.proofs.joined.push_left.Goals as goal
 

@@ -1,5 +1,5 @@
 use Rattle.{
-  std.proofs.Common.{map, Some, take, ◌-◌},
+  meaning.proofs.Common.{map, Some, take, ◌-◌},
   align_meaning.specs.Joins.{entry},
   label_align.specs.Joined.{HasMore},
 }

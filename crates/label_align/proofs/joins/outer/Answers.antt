@@ -1,7 +1,7 @@
 use Rattle.{
-  std.proofs.Common.{◌∙◌, ◌++◌, ap, sym, Ok},
+  meaning.proofs.Common.{◌∙◌, ◌++◌, ap, sym, Ok},
   multi_index.specs.Axes.{AxisValue, tuples_at},
-  label_align.proofs.LawOfJoins.{law_of},
+  label_align.proofs.OuterJoinLaws.{law_of},
 }
 use Rattle.label_align.proofs.joins.outer.Goals as goal
 

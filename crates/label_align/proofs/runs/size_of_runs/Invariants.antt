@@ -1,5 +1,5 @@
 use Rattle.{
-  std.proofs.Common.{◌≡◌, ◌≤◌, take},
+  meaning.proofs.Common.{◌≡◌, ◌≤◌, take},
   label_align.specs.Runs.{counted},
 }
 use Rattle.label_align.proofs.runs.size_of_runs.Given as goal

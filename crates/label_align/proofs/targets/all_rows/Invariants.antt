@@ -1,4 +1,4 @@
-use Rattle.std.{proofs.Common.{◌≡◌, Some, map}, specs.List.{range_with_len}}
+use Rattle.meaning.proofs.Common.{◌≡◌, Some, map, range_with_len}
 use Rattle.label_align.proofs.targets.all_rows.Given as goal
 
 -- the rows so far

@@ -1,4 +1,4 @@
-use Rattle.std.proofs.Common.{◌≡◌, ◌<◌, ℕ, slice_index}
+use Rattle.meaning.proofs.Common.{◌≡◌, ◌<◌, ℕ, slice_index}
 use Rattle.label_align.proofs.targets.are_in_sequence.Given as goal
 
 -- the codes so far are their places

@@ -1,5 +1,5 @@
 use Rattle.{
-  std.proofs.Common.{◌≡◌, map, take},
+  meaning.proofs.Common.{◌≡◌, map, take},
   label_align.specs.Targets.{row_below},
 }
 use Rattle.label_align.proofs.targets.rows_below.Given as goal

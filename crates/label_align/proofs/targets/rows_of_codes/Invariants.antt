@@ -1,5 +1,5 @@
 use Rattle.{
-  std.proofs.Common.{◌≡◌, [], map, take, slice_index_or},
+  meaning.proofs.Common.{◌≡◌, [], map, take, slice_index_or},
   pick_meaning.specs.Rows.{only_row},
 }
 use Rattle.label_align.proofs.targets.rows_of_codes.Given as goal

@@ -1,7 +1,7 @@
 use Rattle.{
+  form_parts.proofs.Common.{arith, ◌≡◌, [], ◌∷◌, rules},
   signatures.proofs.{ScalarLaws.{scalars_are}, ToldLaws.{some_same}},
   column_core.proofs.CellRows.{map-map},
-  std.proofs.Common.{arith, ◌≡◌, [], ◌∷◌, rules},
   label_methods.proofs.{LevelNameLaws.{single_name}, axis_names.level_names.Goals.{in-Some+in_ok-push_names-in-Some, in-None+in_ok-push-in-None}},
 }
 use Rattle.label_methods.proofs.axis_names.level_names.Goals as goal

@@ -1,7 +1,5 @@
 use Rattle.{
-  std.proofs.Common.{◌≡◌, ◌++◌, List, drop},
-  meaning.specs.Text.{Text},
-  frame_store.specs.Shown.{headings_value},
+  form_parts.proofs.Common.{◌≡◌, ◌++◌, List, drop, Text, headings_value},
   signatures.specs.Scalars.{scalars},
   label_methods.specs.Levels.{some_labels},
 }

@@ -1,5 +1,5 @@
 use Rattle.{
-  std.proofs.Common.{rules},
+  form_parts.proofs.Common.{rules},
   label_methods.proofs.ResetLaws.{renumbered_made},
 }
 use Rattle.label_methods.proofs.axis_names.renumber.Goals as goal

@@ -1,5 +1,5 @@
 use Rattle.{
-  std.proofs.Common.{◌≡◌, map, take},
+  form_parts.proofs.Common.{◌≡◌, map, take},
   label_methods.specs.Labels.{column_tuple},
 }
 use Rattle.label_methods.proofs.column_labels.column_tuples.Given as goal

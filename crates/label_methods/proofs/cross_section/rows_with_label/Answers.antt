@@ -1,7 +1,6 @@
 use Rattle.{
-  std.proofs.Common.{◌<◌, ◌≡◌, [], length, slice_index_or, arith},
+  form_parts.proofs.Common.{◌<◌, ◌≡◌, [], length, slice_index_or, arith, label_there},
   pick_meaning.proofs.RowLaws.{rows_more_yes, rows_more_no},
-  multi_index.proofs.SideLaws.{label_there},
   label_methods.{specs.Section.{has_number}, proofs.cross_section.rows_with_label.Goals.{then-eq+in_ok-push}},
 }
 use Rattle.label_methods.proofs.cross_section.rows_with_label.Goals as goal

@@ -1,5 +1,5 @@
 use Rattle.{
-  std.proofs.Common.{◌≡◌, take},
+  form_parts.proofs.Common.{◌≡◌, take},
   pick_meaning.specs.Rows.{rows_where},
   label_methods.specs.Section.{has_number},
 }

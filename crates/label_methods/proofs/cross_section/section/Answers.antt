@@ -1,5 +1,5 @@
 use Rattle.{
-  std.proofs.Common.{arith, rules},
+  form_parts.proofs.Common.{arith, rules},
   label_methods.proofs.LevelMoveLaws.{section_answer},
 }
 use Rattle.label_methods.proofs.cross_section.section.Goals as goal

@@ -1,4 +1,7 @@
-use Rattle.{std.proofs.Common.{arith}, label_methods.proofs.IndexingLaws.{one_more_label}}
+use Rattle.{
+  form_parts.proofs.Common.{arith},
+  label_methods.proofs.IndexingLaws.{one_more_label},
+}
 use Rattle.label_methods.proofs.indexing.cell_labels.Goals as goal
 
 pub loop-row-preserved : goal.loop-row-preserved

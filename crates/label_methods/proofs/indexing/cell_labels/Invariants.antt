@@ -1,7 +1,4 @@
-use Rattle.{
-  std.proofs.Common.{◌≡◌, map, take},
-  form_parts.specs.Labels.{label_of},
-}
+use Rattle.form_parts.proofs.Common.{◌≡◌, map, take, label_of}
 use Rattle.label_methods.proofs.indexing.cell_labels.Given as goal
 
 -- the labels so far

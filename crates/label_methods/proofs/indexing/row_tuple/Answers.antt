@@ -1,5 +1,5 @@
 use Rattle.{
-  std.proofs.{Common.{◌<◌, length, refl, arith}, lemmas.List.{length-set}},
+  form_parts.proofs.Common.{◌<◌, length, refl, arith, length-set},
   label_methods.proofs.{ReindexLaws.{one_more_name}, IndexingLaws.{label_at, labels_count}},
 }
 use Rattle.label_methods.proofs.indexing.row_tuple.Goals as goal

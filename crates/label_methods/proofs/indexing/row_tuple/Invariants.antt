@@ -1,5 +1,5 @@
 use Rattle.{
-  std.proofs.Common.{◌≡◌, length, take},
+  form_parts.proofs.Common.{◌≡◌, length, take},
   label_methods.specs.Levels.{row_labels},
 }
 use Rattle.label_methods.proofs.indexing.row_tuple.Given as goal

@@ -1,5 +1,5 @@
 use Rattle.{
-  std.{proofs.Common.{◌≡◌, map}, specs.List.{range_with_len}},
+  form_parts.proofs.Common.{◌≡◌, map, range_with_len},
   label_methods.specs.Levels.{row_labels},
 }
 use Rattle.label_methods.proofs.indexing.row_tuples.Given as goal

@@ -1,4 +1,8 @@
-use Rattle.{std.proofs.{Common.{◌∙◌, ap, sym, refl, arith, rules}, lemmas.Result.{err_from_is_err_and}}, selections.specs.Headings.{repeated_heading}, label_methods.proofs.{NamedLaws.{others_inside}, IndexingLaws.{index_repeated, index_beyond, index_whole, index_made}, indexing.set_index.Goals.{then-levels-eq0-via-then-levels-eq0, then-levels-eq0-via-else-levels-eq0+then-levels-gt4, then-levels-eq0-via-else-levels-eq0+else-levels-gt4+then-not-within_limits}}}
+use Rattle.{
+  form_parts.proofs.Common.{◌∙◌, ap, sym, refl, arith, rules, err_from_is_err_and},
+  selections.specs.Headings.{repeated_heading},
+  label_methods.proofs.{NamedLaws.{others_inside}, IndexingLaws.{index_repeated, index_beyond, index_whole, index_made}, indexing.set_index.Goals.{then-levels-eq0-via-then-levels-eq0, then-levels-eq0-via-else-levels-eq0+then-levels-gt4, then-levels-eq0-via-else-levels-eq0+else-levels-gt4+then-not-within_limits}},
+}
 use Rattle.label_methods.proofs.indexing.set_index.Goals as goal
 
 pub headings_at-requires : goal.headings_at-requires

@@ -1,5 +1,5 @@
 use Rattle.{
-  std.proofs.{Common.{arith}, lemmas.Result.{err_from_is_err_and}},
+  form_parts.proofs.Common.{arith, err_from_is_err_and},
   label_methods.proofs.LevelColumnLaws.{held_step, held_refused, held_ends},
 }
 use Rattle.label_methods.proofs.level_columns.column_of_kind.Goals as goal

@@ -1,7 +1,5 @@
 use Rattle.{
-  std.proofs.Common.{◌≡◌, List},
-  meaning.specs.Text.{Text},
-  frame_store.specs.Shown.{cells_value},
+  form_parts.proofs.Common.{◌≡◌, List, Text, cells_value},
   label_methods.{specs.LevelColumns.{level_cells, held_column}, proofs.LevelColumnLaws.{held_from}},
 }
 use Rattle.label_methods.proofs.level_columns.column_of_kind.Given as goal

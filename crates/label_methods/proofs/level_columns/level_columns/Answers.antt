@@ -1,6 +1,5 @@
 use Rattle.{
-  std.proofs.{Common.{arith}, lemmas.{List.Elements.{All-push}, Result.{err_from_is_err_and}}},
-  frame_store.specs.Parts.{IsSingle},
+  form_parts.proofs.Common.{arith, All-push, err_from_is_err_and, IsSingle},
   label_methods.proofs.LevelColumnLaws.{level_step, level_refused},
 }
 use Rattle.label_methods.proofs.level_columns.level_columns.Goals as goal

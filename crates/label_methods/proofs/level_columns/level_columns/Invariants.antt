@@ -1,7 +1,5 @@
 use Rattle.{
-  std.proofs.Common.{◌≡◌, List, All},
-  meaning.specs.Text.{Text},
-  frame_store.specs.Parts.{IsSingle},
+  form_parts.proofs.Common.{◌≡◌, List, All, Text, IsSingle},
   label_methods.proofs.LevelColumnLaws.{columns_from},
 }
 use Rattle.label_methods.specs.LevelColumns as levels

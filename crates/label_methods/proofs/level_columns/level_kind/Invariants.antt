@@ -1,8 +1,5 @@
 use Rattle.{
-  std.proofs.Common.{◌≡◌, List, drop},
-  meaning.specs.Text.{Text},
-  form_meaning.specs.Set.{first_kind},
-  frame_store.specs.Shown.{cells_value},
+  form_parts.proofs.Common.{◌≡◌, List, drop, Text, first_kind, cells_value},
   label_methods.specs.LevelColumns.{level_cells},
 }
 use Rattle.label_methods.proofs.level_columns.level_kind.Given as goal

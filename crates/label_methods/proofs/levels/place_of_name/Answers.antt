@@ -1,5 +1,5 @@
 use Rattle.{
-  std.proofs.{Common.{length, ap, arith, rules}, lemmas.Option.{get_or_from_slice_get}},
+  form_parts.proofs.Common.{length, ap, arith, rules, get_or_from_slice_get},
   selections.proofs.PlaceLaws.{heading_settled, place_met},
 }
 use Rattle.label_methods.proofs.levels.place_of_name.Goals as goal

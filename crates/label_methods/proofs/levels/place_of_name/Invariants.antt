@@ -1,8 +1,5 @@
 use Rattle.{
-  std.proofs.Common.{◌≡◌, drop},
-  meaning.specs.Cell.{label_datum},
-  form_meaning.specs.Select.{place_of_label},
-  frame_store.specs.Shown.{headings_value},
+  form_parts.proofs.Common.{◌≡◌, drop, label_datum, place_of_label, headings_value},
   selections.proofs.PlaceLaws.{moved},
 }
 use Rattle.label_methods.proofs.levels.place_of_name.Given as goal

@@ -1,6 +1,5 @@
 use Rattle.{
-  std.proofs.Common.{arith},
-  frame_store.specs.Objects.{tables, table_at},
+  form_parts.proofs.Common.{arith, tables, table_at},
   label_methods.proofs.{AnswerLaws.{forms_so}, NamedLaws.{others_inside, others_meant}},
 }
 use Rattle.label_methods.proofs.named_columns.drop_columns.Goals as goal

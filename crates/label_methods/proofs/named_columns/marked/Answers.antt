@@ -1,5 +1,5 @@
 use Rattle.{
-  std.proofs.Common.{◌<◌, length, arith},
+  form_parts.proofs.Common.{◌<◌, length, arith},
   selections.proofs.TakeLaws.{place_inside},
   label_methods.proofs.NamedLaws.{marks_more},
 }

@@ -1,5 +1,5 @@
 use Rattle.{
-  std.proofs.Common.{take},
+  form_parts.proofs.Common.{take},
   label_methods.specs.Named.{AreMarks},
 }
 use Rattle.label_methods.proofs.named_columns.marked.Given as goal

@@ -1,8 +1,6 @@
 use Rattle.{
-  std.proofs.Common.{arith, option_map},
-  meaning.specs.Cell.{datum},
-  table_meaning.specs.Value.{scalar_in},
-  frame_store.specs.{Objects.{tables}, World.{world}},
+  form_parts.proofs.Common.{arith, datum, scalar_in, tables, world},
+  meaning.proofs.Common.{option_map},
   signatures.proofs.{ScalarLaws.{items_settled, scalars_are}, ToldLaws.{told_settled, some_same}},
   label_methods.proofs.{AnswerLaws.{known_table}, NamedLaws.{found_at}},
 }

@@ -1,6 +1,6 @@
 use Rattle.{
+  form_parts.proofs.Common.{get_or_default, filter-append, nat_eq, arith},
   selections.proofs.PickedLaws.{one_more_place},
-  std.proofs.{lemmas.List.{get_or_default, Elements.{filter-append}}, Common.{nat_eq, arith}},
   label_methods.proofs.{NamedLaws.{other_same}, named_columns.places_besides.Goals.{then-not-index+in_ok-push}},
 }
 use Rattle.label_methods.proofs.named_columns.places_besides.Goals as goal

@@ -1,5 +1,5 @@
 use Rattle.{
-  std.{proofs.Common.{◌≡◌}, specs.{Prelude.{filter}, List.{range_with_len}}},
+  form_parts.proofs.Common.{◌≡◌, filter, range_with_len},
   label_methods.proofs.NamedLaws.{is_other},
 }
 use Rattle.label_methods.proofs.named_columns.places_besides.Given as goal

@@ -1,4 +1,4 @@
-use Rattle.std.proofs.Common.{◌∙◌, sym, ◌++◌}
+use Rattle.form_parts.proofs.Common.{◌∙◌, sym, ◌++◌}
 use Rattle.label_methods.proofs.named_columns.places_of.Goals as goal
 
 pub column_places-requires-clause-cells : goal.column_places-requires-clause-cells

@@ -1,7 +1,5 @@
 use Rattle.{
-  std.proofs.Common.{◌≡◌, List, ◌++◌, drop},
-  meaning.specs.Text.{Text},
-  frame_store.specs.Shown.{cells_value},
+  form_parts.proofs.Common.{◌≡◌, List, ◌++◌, drop, Text, cells_value},
   signatures.specs.Scalars.{scalars},
 }
 use Rattle.label_methods.proofs.named_columns.scalars_of.Given as goal

@@ -1,5 +1,5 @@
 use Rattle.{
-  std.proofs.{Common.{◌<◌, ap, length, arith, None}, lemmas.{List.{length-set}, Option.{get_or_from_slice_get}}},
+  form_parts.proofs.Common.{◌<◌, ap, length, arith, None, length-set, get_or_from_slice_get},
   label_methods.proofs.ReindexLaws.{one_more_name},
 }
 use Rattle.label_methods.proofs.reindexing.axis_like.Goals as goal

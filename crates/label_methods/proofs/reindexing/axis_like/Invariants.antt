@@ -1,4 +1,4 @@
-use Rattle.std.proofs.Common.{◌≡◌, length, take}
+use Rattle.form_parts.proofs.Common.{◌≡◌, length, take}
 use Rattle.label_methods.proofs.reindexing.axis_like.Given as goal
 
 -- the names so far

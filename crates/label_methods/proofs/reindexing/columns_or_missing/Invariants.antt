@@ -1,8 +1,6 @@
 use Rattle.{
-  std.proofs.Common.{◌≡◌, take, map, All},
-  cell_core.specs.declared.cell.Cell.TheVariants.{Na},
+  form_parts.proofs.Common.{◌≡◌, take, map, All, Na, block_column, IsSingle},
   method_meaning.specs.Reindex.{column_or_missing},
-  frame_store.specs.Parts.{block_column, IsSingle},
 }
 use Rattle.label_methods.proofs.reindexing.columns_or_missing.Given as goal
 

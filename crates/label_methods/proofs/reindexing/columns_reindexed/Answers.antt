@@ -1,5 +1,5 @@
 use Rattle.{
-  std.proofs.Common.{◌∙◌, rules},
+  form_parts.proofs.Common.{◌∙◌, rules},
   label_methods.proofs.ReindexLaws.{columns_whole, columns_answer},
 }
 use Rattle.label_methods.proofs.reindexing.columns_reindexed.Goals as goal

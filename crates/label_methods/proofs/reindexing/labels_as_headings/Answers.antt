@@ -1,6 +1,6 @@
 use Rattle.{
-  std.proofs.Common.{◌<◌, [], sym, length, arith},
-  multi_index.proofs.SideLaws.{one_row_more, label_there},
+  form_parts.proofs.Common.{◌<◌, [], sym, length, arith, label_there},
+  multi_index.proofs.SideLaws.{one_row_more},
   label_methods.proofs.ReindexLaws.{heading_there},
 }
 use Rattle.label_methods.proofs.reindexing.labels_as_headings.Goals as goal

@@ -1,5 +1,5 @@
 use Rattle.{
-  std.proofs.Common.{◌≡◌, map, take},
+  form_parts.proofs.Common.{◌≡◌, map, take},
   label_methods.specs.Reindexed.{heading_of},
 }
 use Rattle.label_methods.proofs.reindexing.labels_as_headings.Given as goal

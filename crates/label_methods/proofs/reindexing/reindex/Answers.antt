@@ -1,5 +1,5 @@
 use Rattle.{
-  frame_store.specs.Objects.{tables},
+  form_parts.proofs.Common.{tables},
   label_methods.proofs.ReindexLaws.{list_given},
 }
 use Rattle.label_methods.proofs.reindexing.reindex.Goals as goal

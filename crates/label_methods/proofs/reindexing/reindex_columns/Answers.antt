@@ -1,5 +1,5 @@
 use Rattle.{
-  frame_store.specs.{Objects.{tables}, World.{world}},
+  form_parts.proofs.Common.{tables, world},
   label_methods.proofs.{AnswerLaws.{known_table}, ReindexLaws.{keys_given}},
 }
 use Rattle.label_methods.proofs.reindexing.reindex_columns.Goals as goal

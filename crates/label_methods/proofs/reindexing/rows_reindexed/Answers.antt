@@ -1,5 +1,5 @@
 use Rattle.{
-  std.proofs.Common.{arith, rules},
+  form_parts.proofs.Common.{arith, rules},
   label_methods.proofs.ReindexLaws.{rows_made, rows_answer},
 }
 use Rattle.label_methods.proofs.reindexing.rows_reindexed.Goals as goal

@@ -1,5 +1,5 @@
 use Rattle.{
-  std.proofs.Common.{arith},
+  form_parts.proofs.Common.{arith},
   label_methods.proofs.ResetLaws.{label_settled, label_met, label_passed},
 }
 use Rattle.label_methods.proofs.resetting.has_label.Goals as goal

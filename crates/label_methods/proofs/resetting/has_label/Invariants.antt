@@ -1,8 +1,5 @@
 use Rattle.{
-  std.{proofs.Common.{◌≡◌, Some}, specs.List.{list_any}},
-  table_meaning.specs.Table.{heading_value},
-  form_meaning.specs.Finish.{same_heading},
-  frame_store.specs.Shown.{headings_value},
+  form_parts.proofs.Common.{◌≡◌, Some, list_any, heading_value, same_heading, headings_value},
   label_methods.{specs.Resets.{frame_headings}, proofs.ResetLaws.{stands_from}},
 }
 use Rattle.label_methods.proofs.resetting.has_label.Given as goal

@@ -1,5 +1,5 @@
 use Rattle.{
-  std.{proofs.Common.{◌≡◌, ◌∙◌, ap, sym, not, true, false, arith, rules}, specs.Prelude.{codes}},
+  form_parts.proofs.Common.{◌≡◌, ◌∙◌, ap, sym, not, true, false, arith, rules, codes},
   label_methods.proofs.ResetLaws.{text_seen, text_settled, one_nameless, label_if},
 }
 use Rattle.label_methods.proofs.resetting.index_label.Goals as goal

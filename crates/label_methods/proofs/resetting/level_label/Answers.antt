@@ -1,6 +1,5 @@
 use Rattle.{
-  std.proofs.Common.{arith, ◌≡◌, refl, Some, slice_get},
-  form_parts.proofs.LabelLaws.{heading_label},
+  form_parts.proofs.Common.{arith, ◌≡◌, refl, Some, slice_get, heading_label},
   label_methods.proofs.ResetLaws.{name_settled},
 }
 use Rattle.label_methods.proofs.resetting.level_label.Goals as goal

@@ -1,6 +1,5 @@
 use Rattle.{
-  std.proofs.{lemmas.List.{map-append}, Common.{arith}},
-  frame_store.proofs.Settling.{seen_later, longer_twice},
+  form_parts.proofs.Common.{map-append, arith, seen_later, longer_twice},
   selections.proofs.PickedLaws.{one_more_place},
   label_methods.proofs.ResetLaws.{one_more_given},
 }

@@ -1,9 +1,6 @@
 use Rattle.{
-  std.{proofs.Common.{◌≡◌, map, Some}, specs.List.{range_with_len}},
-  meaning.specs.Cell.{IsLonger},
-  table_meaning.specs.{Settled.{IsSettled}, Table.{table_value}},
+  form_parts.proofs.Common.{◌≡◌, map, Some, range_with_len, IsLonger, IsSettled, table_value, headings_value},
   method_meaning.specs.{Levels.{level_label}, Methods.{as_frame}},
-  frame_store.specs.Shown.{headings_value},
 }
 use Rattle.label_methods.proofs.resetting.level_labels.Given as goal
 

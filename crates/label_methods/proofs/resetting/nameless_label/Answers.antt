@@ -1,6 +1,5 @@
 use Rattle.{
-  std.proofs.Common.{arith},
-  form_parts.proofs.LabelLaws.{heading_label},
+  form_parts.proofs.Common.{arith, heading_label},
   label_methods.proofs.ResetLaws.{text_seen, text_settled},
 }
 use Rattle.label_methods.proofs.resetting.nameless_label.Goals as goal

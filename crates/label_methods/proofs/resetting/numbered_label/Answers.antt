@@ -1,4 +1,7 @@
-use Rattle.std.{proofs.Common.{arith}, specs.Fmt.{digits}}
+use Rattle.{
+  form_parts.proofs.Common.{arith},
+  std.specs.Fmt.{digits},
+}
 use Rattle.label_methods.proofs.resetting.numbered_label.Goals as goal
 
 pub returns-in-0 : goal.returns-in-0

@@ -1,6 +1,5 @@
 use Rattle.{
-  std.proofs.{Common.{arith}, lemmas.List.Elements.{All-push}},
-  frame_store.specs.Parts.{IsSingle},
+  form_parts.proofs.Common.{arith, All-push, IsSingle},
   label_methods.proofs.ResetLaws.{one_more_column},
 }
 use Rattle.label_methods.proofs.resetting.push_columns.Goals as goal

@@ -1,7 +1,4 @@
-use Rattle.{
-  std.proofs.Common.{◌≡◌, ◌++◌, map, take, All},
-  frame_store.specs.Parts.{block_column, IsSingle},
-}
+use Rattle.form_parts.proofs.Common.{◌≡◌, ◌++◌, map, take, All, block_column, IsSingle}
 use Rattle.label_methods.proofs.resetting.push_columns.Given as goal
 
 -- the columns so far

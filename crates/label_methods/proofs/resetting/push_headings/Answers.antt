@@ -1,5 +1,5 @@
 use Rattle.{
-  std.proofs.Common.{arith},
+  form_parts.proofs.Common.{arith},
   label_methods.proofs.ResetLaws.{one_more_heading},
 }
 use Rattle.label_methods.proofs.resetting.push_headings.Goals as goal

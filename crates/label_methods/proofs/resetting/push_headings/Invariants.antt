@@ -1,5 +1,5 @@
 use Rattle.{
-  std.proofs.Common.{◌≡◌, ◌++◌, take},
+  form_parts.proofs.Common.{◌≡◌, ◌++◌, take},
   label_methods.specs.Resets.{frame_headings},
 }
 use Rattle.label_methods.proofs.resetting.push_headings.Given as goal

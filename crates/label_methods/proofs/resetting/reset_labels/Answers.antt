@@ -1,5 +1,5 @@
 use Rattle.{
-  frame_store.proofs.Settling.{settled_later},
+  form_parts.proofs.Common.{settled_later},
   label_methods.proofs.ResetLaws.{labels_given},
 }
 use Rattle.label_methods.proofs.resetting.reset_labels.Goals as goal

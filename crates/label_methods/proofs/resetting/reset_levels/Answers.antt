@@ -1,6 +1,6 @@
 use Rattle.{
-  std.proofs.{lemmas.List.{length-map, FromFn.{length-range_with_len}}, Common.{length-append, arith}},
-  frame_store.proofs.Settling.{settled_later},
+  form_parts.proofs.Common.{length-map, length-range_with_len, arith, settled_later},
+  meaning.proofs.Common.{length-append},
   label_methods.proofs.ResetLaws.{columns_are},
 }
 use Rattle.label_methods.proofs.resetting.reset_levels.Goals as goal

@@ -1,5 +1,5 @@
 use Rattle.{
-  std.proofs.Common.{arith, rules},
+  form_parts.proofs.Common.{arith, rules},
   label_methods.proofs.ResetLaws.{parts_whole, parts_made},
 }
 use Rattle.label_methods.proofs.resetting.reset_table.Goals as goal

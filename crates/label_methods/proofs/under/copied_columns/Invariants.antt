@@ -1,8 +1,4 @@
-use Rattle.{
-  std.proofs.Common.{◌≡◌, map, take, All},
-  table_meaning.specs.Table.{column_at},
-  frame_store.specs.Parts.{block_column, IsSingle},
-}
+use Rattle.form_parts.proofs.Common.{◌≡◌, map, take, All, column_at, block_column, IsSingle}
 use Rattle.label_methods.proofs.under.copied_columns.Given as goal
 
 -- the columns so far

@@ -1,5 +1,5 @@
 use Rattle.{
-  std.proofs.Common.{◌≡◌, ◌<◌, ◌-◌, drop, map},
+  meaning.proofs.Common.{◌≡◌, ◌<◌, ◌-◌, drop, map},
   multi_index.specs.Axes.{nameless_axis},
   merge_concat.specs.Axes.{levels_of_first, tuples_in},
 }

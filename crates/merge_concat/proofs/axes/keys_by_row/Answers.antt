@@ -1,6 +1,6 @@
 use Rattle.{
-  std.proofs.{Common.{◌≡◌, ◌∙◌, ◌+◌, ◌<◌, suc, length, ap, arith}, lemmas.List.{length-map}},
-  merge_concat.{specs.Axes.{tuples_of_each}, proofs.AxisLaws.{keys_more, tuples_there}},
+  meaning.proofs.Common.{◌≡◌, ◌∙◌, ◌+◌, ◌<◌, suc, length, ap, arith, length-map},
+  merge_concat.{specs.Axes.{tuples_of_each}, proofs.UnitedLaws.{keys_more, tuples_there}},
 }
 use Rattle.merge_concat.proofs.axes.keys_by_row.Goals as goal
 

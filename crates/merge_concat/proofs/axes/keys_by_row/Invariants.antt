@@ -1,5 +1,5 @@
 use Rattle.{
-  std.proofs.Common.{◌≡◌, take},
+  meaning.proofs.Common.{◌≡◌, take},
   merge_concat.specs.Axes.{tuples_of_each, keys_below},
 }
 use Rattle.merge_concat.proofs.axes.keys_by_row.Given as goal

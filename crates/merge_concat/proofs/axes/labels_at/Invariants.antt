@@ -1,5 +1,5 @@
 use Rattle.{
-  std.proofs.Common.{◌≡◌, take, map},
+  meaning.proofs.Common.{◌≡◌, take, map},
   row_keys.specs.Keys.{label_in},
   merge_concat.specs.Axes.{tuples_in},
 }

@@ -1,6 +1,6 @@
 use Rattle.{
-  std.proofs.Common.{◌∙◌, length, ap},
-  merge_concat.proofs.AxisLaws.{levels_more},
+  meaning.proofs.Common.{◌∙◌, length, ap},
+  merge_concat.proofs.UnitedLaws.{levels_more},
 }
 use Rattle.merge_concat.proofs.axes.levels_of.Goals as goal
 

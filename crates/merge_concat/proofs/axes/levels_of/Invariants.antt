@@ -1,5 +1,5 @@
 use Rattle.{
-  std.proofs.Common.{◌≡◌, ◌≤◌, take},
+  meaning.proofs.Common.{◌≡◌, ◌≤◌, take},
   multi_index.specs.Axes.{HaveLevels},
   merge_concat.specs.Axes.{levels_of_first, tuples_in},
 }

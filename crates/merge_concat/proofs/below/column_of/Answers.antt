@@ -1,6 +1,7 @@
 use Rattle.{
-  std.proofs.{Common.{arith}, lemmas.List.{Folds.{length-flat_map-take}, Concat.{length-flat_map}}},
-  merge_concat.{specs.Parts.{part_cells}, proofs.GrowLaws.{rows_counted}},
+  meaning.proofs.Common.{arith, length-flat_map},
+  std.proofs.lemmas.List.Folds.{length-flat_map-take},
+  merge_concat.{specs.Parts.{part_cells}, proofs.BelowLaws.{rows_counted}},
 }
 use Rattle.merge_concat.proofs.below.column_of.Goals as goal
 

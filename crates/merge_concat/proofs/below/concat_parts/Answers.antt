@@ -1,5 +1,5 @@
 use Rattle.{
-  std.proofs.Common.{◌∙◌, sym, arith},
+  meaning.proofs.Common.{◌∙◌, sym, arith},
   merge_concat.proofs.BelowLaws.{is_mixed, is_too_large, is_made},
 }
 use Rattle.merge_concat.proofs.below.concat_parts.Goals as goal

@@ -1,6 +1,5 @@
 use Rattle.{
-  std.proofs.{Common.{◌∙◌, sym, ap, map}, lemmas.Simd.{map-map}},
-  cell_core.specs.declared.cell.Kind.TheVariants.{Int64},
+  meaning.proofs.Common.{◌∙◌, sym, ap, map, map-map, Int64},
   column_core.specs.Columns.{column_value},
   merge_concat.specs.Parts.{part_column},
 }

@@ -1,5 +1,5 @@
 use Rattle.{
-  std.proofs.Common.{◌≡◌, ◌≤◌, take},
+  meaning.proofs.Common.{◌≡◌, ◌≤◌, take},
   merge_concat.specs.Parts.{count_below},
 }
 use Rattle.merge_concat.proofs.below.count_of.Given as goal

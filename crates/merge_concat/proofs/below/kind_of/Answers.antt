@@ -1,5 +1,5 @@
 use Rattle.{
-  std.{proofs.{Common.{◌≡◌, true, arith, ◌-◌, length, take, drop, sym}, lemmas.List.{take_all}}, specs.List.{list_all}},
+  meaning.proofs.Common.{◌≡◌, true, arith, ◌-◌, length, take, drop, sym, take_all, list_all},
   join_meaning.specs.Concat.{same_kind},
   merge_concat.{specs.Parts.{part_kind}, proofs.BelowLaws.{kind_told}},
 }

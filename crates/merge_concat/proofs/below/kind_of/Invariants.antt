@@ -1,5 +1,5 @@
 use Rattle.{
-  std.{proofs.Common.{◌≡◌, take, true}, specs.List.{list_all}},
+  meaning.proofs.Common.{◌≡◌, take, true, list_all},
   join_meaning.specs.Concat.{same_kind},
   merge_concat.specs.Parts.{part_kind},
 }

@@ -1,6 +1,5 @@
 use Rattle.{
-  std.proofs.Common.{◌≡◌, take, map},
-  cell_core.specs.declared.cell.Kind.TheVariants.{Int64},
+  meaning.proofs.Common.{◌≡◌, take, map, Int64},
   merge_concat.specs.Parts.{part_column},
 }
 use Rattle.merge_concat.proofs.below.parts_of.Given as goal

@@ -1,5 +1,5 @@
 use Rattle.{
-  std.proofs.Common.{◌≡◌, take, None},
+  meaning.proofs.Common.{◌≡◌, take, None},
   join_meaning.specs.Concat.{repeated_on_any},
   row_keys.specs.Keys.{same_tuple},
   merge_concat.specs.Axes.{tuples_of_each},

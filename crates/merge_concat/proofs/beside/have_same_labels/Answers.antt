@@ -1,6 +1,6 @@
 use Rattle.{
-  std.proofs.{Common.{arith, ◌-◌, length, take, drop, sym, true}, lemmas.List.{take_all, Folds.{list_all_at, list_all_more}}},
-  merge_concat.proofs.EqualLaws.{has_labels_of, labels_told, equal_told},
+  meaning.proofs.Common.{arith, ◌-◌, length, take, drop, sym, true, take_all, list_all_at, list_all_more},
+  merge_concat.proofs.BelowLaws.{has_labels_of, labels_told, equal_told},
 }
 use Rattle.merge_concat.proofs.beside.have_same_labels.Goals as goal
 

@@ -1,6 +1,6 @@
 use Rattle.{
-  std.{proofs.Common.{◌≡◌, take, true}, specs.List.{list_all}},
-  merge_concat.proofs.EqualLaws.{has_labels_of},
+  meaning.proofs.Common.{◌≡◌, take, true, list_all},
+  merge_concat.proofs.BelowLaws.{has_labels_of},
 }
 use Rattle.merge_concat.proofs.beside.have_same_labels.Given as goal
 

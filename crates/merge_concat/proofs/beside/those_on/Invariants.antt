@@ -1,5 +1,6 @@
 use Rattle.{
-  std.{proofs.Common.{◌≡◌, take}, specs.List.{filter, list_any}},
+  meaning.proofs.Common.{◌≡◌, take, list_any},
+  std.specs.List.{filter},
   row_keys.specs.Keys.{same_tuple},
 }
 use Rattle.merge_concat.proofs.beside.those_on.Given as goal

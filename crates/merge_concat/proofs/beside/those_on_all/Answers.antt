@@ -1,8 +1,7 @@
 use Rattle.{
-  std.{proofs.{Common.{◌+◌, ◌≡◌, ◌∙◌, List, [], length, take, sym, arith}, lemmas.List.{length-map, Folds.{list_all_more}, Elements.{All-filter}}}, specs.List.{list_any, list_all}},
-  cell_core.specs.declared.cell.Label.{Label},
+  meaning.proofs.Common.{◌+◌, ◌≡◌, ◌∙◌, List, [], length, take, sym, arith, length-map, list_all_more, All-filter, list_any, list_all, Label},
   row_keys.specs.Keys.{same_tuple},
-  merge_concat.{specs.Axes.{tuples_of_each}, proofs.{AxisLaws.{tuples_there}, UnitedLaws.{both_pass}}},
+  merge_concat.{specs.Axes.{tuples_of_each}, proofs.UnitedLaws.{tuples_there, both_pass}},
   factorize.proofs.NumberLaws.{filter_all},
 }
 use Rattle.merge_concat.proofs.beside.those_on_all.Goals as goal

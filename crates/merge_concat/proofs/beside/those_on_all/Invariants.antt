@@ -1,5 +1,6 @@
 use Rattle.{
-  std.{proofs.Common.{◌≡◌, take}, specs.List.{filter, list_any, list_all}},
+  meaning.proofs.Common.{◌≡◌, take, list_any, list_all},
+  std.specs.List.{filter},
   multi_index.specs.Axes.{HaveLevels},
   row_keys.specs.Keys.{same_tuple},
   merge_concat.specs.Axes.{tuples_of_each},

@@ -1,4 +1,4 @@
-use Rattle.std.proofs.{Common.{arith, []}, lemmas.{List.{take_more}, Option.{get_or_from_slice_get}}}
+use Rattle.meaning.proofs.Common.{arith, [], take_more, get_or_from_slice_get}
 use Rattle.merge_concat.proofs.beside.tuples_of.Goals as goal
 
 pub loop-row-preserved : goal.loop-row-preserved

@@ -1,10 +1,10 @@
 use Rattle.{
-  std.proofs.Common.{arith},
-  merge_concat.{specs.Growing.{cells_of_rows}, proofs.GrowLaws.{one_row_more}},
+  meaning.proofs.Common.{arith},
+  merge_concat.{specs.Growing.{cells_of_rows}, proofs.BelowLaws.{one_row_more}},
 }
 use Rattle.merge_concat.proofs.growing.with_rows.Goals as goal
 
 pub loop-row-preserved : goal.loop-row-preserved
 loop-row-preserved g c =
-    one_row_more g.T.Value.cell g.T.Value.kind (cells_of_rows g.T.Value.cell c.args.rows) _ _ _ _ _ _
+    one_row_more g.T.Element.cell g.T.Element.kind (cells_of_rows g.T.Element.cell c.args.rows) _ _ _ _ _ _
     (grind arith) c.loop-row.invariant

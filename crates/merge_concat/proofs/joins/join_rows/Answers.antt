@@ -1,5 +1,5 @@
 use Rattle.{
-  std.proofs.Common.{arith},
+  meaning.proofs.Common.{arith},
   merge_concat.proofs.JoinLaws.{left_below, right_below, allowed, law_of},
 }
 use Rattle.merge_concat.proofs.joins.join_rows.Goals as goal

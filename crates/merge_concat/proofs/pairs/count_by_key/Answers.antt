@@ -1,6 +1,6 @@
 use Rattle.{
-  std.proofs.{Common.{arith}, lemmas.Bool.{cases_lt}},
-  merge_concat.proofs.CountLaws.{counted_within},
+  meaning.proofs.Common.{arith, cases_lt},
+  merge_concat.proofs.JoinLaws.{counted_within},
 }
 use Rattle.merge_concat.proofs.pairs.count_by_key.Goals as goal
 

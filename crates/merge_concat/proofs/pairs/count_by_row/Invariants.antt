@@ -1,5 +1,5 @@
 use Rattle.{
-  std.proofs.Common.{◌≡◌, ◌≤◌, take},
+  meaning.proofs.Common.{◌≡◌, ◌≤◌, take},
   merge_concat.specs.Codes.{counted_by_row},
 }
 use Rattle.merge_concat.proofs.pairs.count_by_row.Given as goal

@@ -1,6 +1,6 @@
 use Rattle.{
-  std.proofs.Common.{arith},
-  merge_concat.proofs.PairLaws.{outer_more, pairs_more},
+  meaning.proofs.Common.{arith},
+  merge_concat.proofs.JoinLaws.{outer_more, pairs_more},
 }
 use Rattle.merge_concat.proofs.pairs.pairs_by_key.Goals as goal
 

@@ -1,6 +1,6 @@
 use Rattle.{
-  std.proofs.Common.{nat_eq, arith},
-  merge_concat.proofs.PairLaws.{from_more, pairs_more},
+  meaning.proofs.Common.{nat_eq, arith},
+  merge_concat.proofs.JoinLaws.{from_more, pairs_more},
 }
 use Rattle.merge_concat.proofs.pairs.pairs_by_row.Goals as goal
 

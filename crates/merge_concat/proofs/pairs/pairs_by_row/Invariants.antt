@@ -1,5 +1,5 @@
 use Rattle.{
-  std.proofs.Common.{take, nat_eq},
+  meaning.proofs.Common.{take, nat_eq},
   join_meaning.specs.Pairs.{pairs_from},
   merge_concat.specs.Pairs.{AreListed},
 }

@@ -1,6 +1,6 @@
 use Rattle.{
-  std.proofs.{Common.{arith, ◌<◌, length, subst}, lemmas.List.{take_all}},
-  merge_concat.{specs.Pairs.{HasMore}, proofs.PairLaws.{of_some}},
+  meaning.proofs.Common.{arith, ◌<◌, length, subst, take_all},
+  merge_concat.{specs.Pairs.{HasMore}, proofs.JoinLaws.{of_some}},
 }
 use Rattle.merge_concat.proofs.pairs.push_key.Goals as goal
 

@@ -1,5 +1,5 @@
 use Rattle.{
-  std.proofs.Common.{map, Some, take},
+  meaning.proofs.Common.{map, Some, take},
   join_meaning.specs.Pairs.{pair},
   merge_concat.specs.Pairs.{HasMore},
 }

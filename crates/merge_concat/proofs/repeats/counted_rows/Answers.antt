@@ -1,6 +1,6 @@
 use Rattle.{
-  std.proofs.{Common.{arith}, lemmas.List.{get_or_read}},
-  merge_concat.proofs.CodeLaws.{counts_more},
+  meaning.proofs.Common.{arith, get_or_read},
+  merge_concat.proofs.JoinLaws.{counts_more},
 }
 use Rattle.merge_concat.proofs.repeats.counted_rows.Goals as goal
 

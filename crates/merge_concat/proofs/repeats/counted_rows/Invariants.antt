@@ -1,5 +1,5 @@
 use Rattle.{
-  std.proofs.Common.{take},
+  meaning.proofs.Common.{take},
   merge_concat.specs.Codes.{AreCounts},
 }
 use Rattle.merge_concat.proofs.repeats.counted_rows.Given as goal

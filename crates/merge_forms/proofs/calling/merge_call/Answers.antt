@@ -1,7 +1,6 @@
 use Rattle.{
+  form_parts.proofs.Common.{arith, world},
   label_methods.proofs.AnswerLaws.{forms_so},
-  std.proofs.Common.{arith},
-  frame_store.specs.World.{world},
   merge_forms.proofs.KeyLaws.{is_call},
 }
 use Rattle.merge_forms.proofs.calling.merge_call.Goals as goal

@@ -1,8 +1,7 @@
 use Rattle.{
+  form_parts.proofs.Common.{◌∙◌, sym, tables, world, arguments_in},
   label_methods.proofs.AnswerLaws.{forms_so},
-  std.proofs.Common.{◌∙◌, sym},
   method_meaning.specs.Calls.{merge_call},
-  frame_store.specs.{Objects.{tables}, World.{world, arguments_in}},
   merge_forms.proofs.KeyLaws.{frame_called, merge_called, other_called},
 }
 use Rattle.merge_forms.proofs.calling.method.Goals as goal

@@ -1,6 +1,5 @@
 use Rattle.{
-  std.proofs.{Common.{arith}, lemmas.List.{map-append}},
-  form_parts.proofs.GapLaws.{block_on, single_on},
+  form_parts.proofs.Common.{arith, map-append, block_on, single_on},
   merge_forms.proofs.TableLaws.{one_more_at},
 }
 use Rattle.merge_forms.proofs.columns.columns_met.Goals as goal

@@ -1,6 +1,5 @@
 use Rattle.{
-  std.proofs.Common.{◌≡◌, ◌++◌, drop},
-  cell_core.specs.declared.cell.Cell.TheVariants.{Na},
+  form_parts.proofs.Common.{◌≡◌, ◌++◌, drop, Na},
   merge_forms.specs.Columns.{key_cells},
 }
 use Rattle.merge_forms.proofs.columns.key_column.Given as goal

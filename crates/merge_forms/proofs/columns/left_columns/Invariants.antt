@@ -1,7 +1,5 @@
 use Rattle.{
-  std.{proofs.Common.{◌≡◌, map, All}, specs.List.{range_with_len}},
-  cell_core.specs.declared.cell.Cell.TheVariants.{Na},
-  frame_store.specs.Parts.{columns_of, IsSingle},
+  form_parts.proofs.Common.{◌≡◌, map, All, range_with_len, Na, columns_of, IsSingle},
   merge_forms.specs.{Keys.{keys_value}, Columns.{left_column_on}},
 }
 use Rattle.merge_forms.proofs.columns.left_columns.Given as goal

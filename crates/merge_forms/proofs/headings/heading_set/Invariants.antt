@@ -1,5 +1,5 @@
 use Rattle.{
-  std.proofs.Common.{take},
+  form_parts.proofs.Common.{take},
   selections.specs.Selected.{headings_at},
   merge_forms.specs.Headings.{AreAmong},
 }

@@ -1,5 +1,5 @@
 use Rattle.{
-  frame_store.proofs.Settling.{headings_part},
+  form_parts.proofs.Common.{headings_part},
   selections.proofs.PlaceLaws.{heading_settled},
 }
 use Rattle.merge_forms.proofs.headings.label_beside.Goals as goal

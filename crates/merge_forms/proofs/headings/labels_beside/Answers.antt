@@ -1,7 +1,5 @@
 use Rattle.{
-  std.proofs.Common.{◌∷◌, []},
-  table_meaning.specs.Table.{Table},
-  frame_store.proofs.Settling.{longer_twice},
+  form_parts.proofs.Common.{◌∷◌, [], Table, longer_twice},
   merge_forms.{specs.Headings.{label_beside}, proofs.KeyLaws.{labels_given, one_more_label}},
 }
 use Rattle.merge_forms.proofs.headings.labels_beside.Goals as goal

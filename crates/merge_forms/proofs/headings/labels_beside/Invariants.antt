@@ -1,8 +1,5 @@
 use Rattle.{
-  std.proofs.Common.{◌≡◌, map, take},
-  meaning.specs.Cell.{IsLonger},
-  table_meaning.specs.{Settled.{IsSettled}, Table.{table_value}},
-  frame_store.specs.Shown.{headings_value},
+  form_parts.proofs.Common.{◌≡◌, map, take, IsLonger, IsSettled, table_value, headings_value},
   merge_forms.specs.Headings.{label_beside},
 }
 use Rattle.merge_forms.proofs.headings.labels_beside.Given as goal

@@ -1,5 +1,5 @@
 use Rattle.{
-  std.proofs.Common.{◌≡◌, drop},
+  form_parts.proofs.Common.{◌≡◌, drop},
   method_meaning.specs.Merge.{are_same_kinds},
   merge_forms.specs.Keys.{kinds_of},
 }

@@ -1,6 +1,5 @@
 use Rattle.{
-  std.proofs.Common.{◌≡◌, ◌∙◌, ◌<◌, sym, length, true, false, arith, rules},
-  frame_store.proofs.Settling.{headings_part},
+  form_parts.proofs.Common.{◌≡◌, ◌∙◌, ◌<◌, sym, length, true, false, arith, rules, headings_part},
   selections.proofs.PlaceLaws.{heading_settled},
   merge_forms.proofs.{KeyLaws.{common_by, cell_given, one_more_common, no_more_common}, keys.common_labels.Goals.{then-contains+in_ok-push, else-contains}},
 }

@@ -1,8 +1,6 @@
 use Rattle.{
-  std.{proofs.Common.{◌++◌, drop, ◌≡◌, filter}, specs.Prelude.{filter_map}},
+  form_parts.proofs.Common.{◌++◌, drop, ◌≡◌, filter, filter_map, table_value, IsSettled, cells_value, headings_value},
   method_meaning.specs.Merge.{common_labels},
-  table_meaning.specs.{Table.{table_value}, Settled.{IsSettled}},
-  frame_store.specs.Shown.{cells_value, headings_value},
   merge_forms.{specs.Keys.{cell_labels}, proofs.KeyLaws.{is_common}},
 }
 use Rattle.merge_forms.proofs.keys.common_labels.Given as goal

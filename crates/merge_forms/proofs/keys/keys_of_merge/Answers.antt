@@ -1,5 +1,5 @@
 use Rattle.{
-  std.proofs.{lemmas.Bool.Decides.{nat_tests}, Common.{refl, true, false, arith, rules}},
+  form_parts.proofs.Common.{nat_tests, refl, true, false, arith, rules},
   merge_forms.proofs.KeyLaws.{checked_by},
 }
 use Rattle.merge_forms.proofs.keys.keys_of_merge.Goals as goal

@@ -1,8 +1,7 @@
 use Rattle.{
+  form_parts.proofs.Common.{arith, ◌∙◌, ap, err_from_is_err_and, tables, world},
   merge_forms.proofs.KeyLaws.{rows_answered, told_given, told_some, right_shape, keys_refused},
-  std.proofs.{Common.{arith, ◌∙◌, ap}, lemmas.Result.{err_from_is_err_and}},
   method_meaning.specs.Merge.{validate_in},
-  frame_store.specs.{Objects.{tables}, World.{world}},
   label_methods.proofs.AnswerLaws.{known_table},
 }
 use Rattle.merge_forms.proofs.merging.merged.Goals as goal

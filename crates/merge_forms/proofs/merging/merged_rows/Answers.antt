@@ -1,8 +1,7 @@
 use Rattle.{
+  form_parts.proofs.Common.{arith, err_from_is_err_and, columns_name_part},
   merge_forms.proofs.TableLaws.{repeated_so, many_so, beyond_so, made_is, parts_fit},
   label_methods.proofs.NamedLaws.{others_inside},
-  std.proofs.{Common.{arith}, lemmas.Result.{err_from_is_err_and}},
-  frame_store.proofs.Settling.{columns_name_part},
 }
 use Rattle.merge_forms.proofs.merging.merged_rows.Goals as goal
 

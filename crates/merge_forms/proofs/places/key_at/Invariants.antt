@@ -1,4 +1,4 @@
-use Rattle.std.proofs.Common.{◌≡◌, ◌<◌, ℕ, false, nat_eq, slice_index_or}
+use Rattle.form_parts.proofs.Common.{◌≡◌, ◌<◌, ℕ, false, nat_eq, slice_index_or}
 use Rattle.merge_forms.proofs.places.key_at.Given as goal
 
 -- no key so far is the column

@@ -1,5 +1,5 @@
 use Rattle.{
-  std.proofs.Common.{◌∙◌},
+  form_parts.proofs.Common.{◌∙◌},
   key_columns.proofs.KeyLaws.{keys_are},
   merge_forms.proofs.RowLaws.{joins_meet, joins_inside},
 }

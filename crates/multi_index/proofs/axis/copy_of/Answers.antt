@@ -1,4 +1,4 @@
-use Rattle.std.proofs.{lemmas.{List.{take_more}, Option.{get_or_from_slice_get}}, Common.{arith, [], ap, ◌∙◌, sym}}
+use Rattle.meaning.proofs.Common.{take_more, get_or_from_slice_get, arith, [], ap, ◌∙◌, sym}
 use Rattle.multi_index.proofs.axis.copy_of.Goals as goal
 
 pub loop-row-preserved : goal.loop-row-preserved

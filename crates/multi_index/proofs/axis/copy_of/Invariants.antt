@@ -1,4 +1,4 @@
-use Rattle.std.proofs.Common.{◌≡◌, take}
+use Rattle.meaning.proofs.Common.{◌≡◌, take}
 use Rattle.multi_index.proofs.axis.copy_of.Given as goal
 
 abbrev pub invariant-loop-row : goal.invariant-loop-row

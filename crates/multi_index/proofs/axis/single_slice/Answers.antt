@@ -1,5 +1,5 @@
 use Rattle.{
-  std.proofs.Common.{arith, refl},
+  meaning.proofs.Common.{arith, refl},
   pick_meaning.specs.Rows.{rows_of},
   multi_index.proofs.PickLaws.{slice_seen, fault_lifted},
 }

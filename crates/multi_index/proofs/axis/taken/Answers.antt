@@ -1,4 +1,4 @@
-use Rattle.std.proofs.{lemmas.{List.{map_more}, Option.{get_or_from_slice_get}}, Common.{[], slice_index_or, arith}}
+use Rattle.meaning.proofs.Common.{map_more, get_or_from_slice_get, [], slice_index_or, arith}
 use Rattle.multi_index.proofs.axis.taken.Goals as goal
 
 pub loop-k-preserved : goal.loop-k-preserved

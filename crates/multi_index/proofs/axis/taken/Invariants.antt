@@ -1,5 +1,5 @@
 use Rattle.{
-  std.proofs.Common.{◌≡◌, take},
+  meaning.proofs.Common.{◌≡◌, take},
   multi_index.specs.Axes.{tuples_at},
 }
 use Rattle.multi_index.proofs.axis.taken.Given as goal

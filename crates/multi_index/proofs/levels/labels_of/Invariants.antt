@@ -1,5 +1,5 @@
 use Rattle.{
-  std.proofs.Common.{◌≡◌, ◌∷◌, [], map, take},
+  meaning.proofs.Common.{◌≡◌, ◌∷◌, [], map, take},
   index_core.specs.Labels.{labels_at},
   multi_index.specs.Axes.{single_tuples},
 }

@@ -1,5 +1,5 @@
 use Rattle.{
-  std.proofs.{Common.{◌<◌, length, sym, arith}, lemmas.{List.{length-set}, Option.{get_or_from_slice_get}}},
+  meaning.proofs.Common.{◌<◌, length, sym, arith, length-set, get_or_from_slice_get},
   multi_index.proofs.LevelLaws.{one_read_more},
 }
 use Rattle.multi_index.proofs.levels.names_of.Goals as goal

@@ -1,5 +1,6 @@
 use Rattle.{
-  std.proofs.{lemmas.{List.{take_all, length-append, length-replicate, length-take-le}, Option.{get_or_from_slice_get}}, Common.{◌≡◌, ◌<◌, ◌≤◌, ◌+◌, length, sym, arith}},
+  meaning.proofs.Common.{take_all, length-replicate, length-take-le, get_or_from_slice_get, ◌≡◌, ◌<◌, ◌≤◌, ◌+◌, length, sym, arith},
+  std.proofs.lemmas.List.{length-append},
   multi_index.{proofs.AddedLaws.{all_written, next_written}, specs.Axes.{first_of}},
 }
 use Rattle.multi_index.proofs.levels.names_with.Goals as goal

@@ -1,5 +1,5 @@
 use Rattle.{
-  std.proofs.Common.{◌≡◌, None, take},
+  meaning.proofs.Common.{◌≡◌, None, take},
   multi_index.proofs.AddedLaws.{four_with},
 }
 use Rattle.multi_index.proofs.levels.names_with.Given as goal

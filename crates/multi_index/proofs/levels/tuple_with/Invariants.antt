@@ -1,5 +1,5 @@
 use Rattle.{
-  std.proofs.Common.{◌≡◌, [], take, slice_index_or},
+  meaning.proofs.Common.{◌≡◌, [], take, slice_index_or},
   multi_index.proofs.AddedLaws.{four_with},
 }
 use Rattle.multi_index.proofs.levels.tuple_with.Given as goal

@@ -1,5 +1,5 @@
 use Rattle.{
-  std.proofs.Common.{◌≡◌, map, take},
+  meaning.proofs.Common.{◌≡◌, map, take},
   index_core.specs.Labels.{labels_at},
 }
 use Rattle.multi_index.proofs.levels.tuples_of.Given as goal

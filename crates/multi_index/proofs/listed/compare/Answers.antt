@@ -1,5 +1,5 @@
 use Rattle.{
-  std.proofs.Common.{arith},
+  meaning.proofs.Common.{arith},
   cell_core.specs.declared.cell.Label.TheVariants.{Na},
   index_core.specs.Labels.{order_in},
   multi_index.proofs.ListedLaws.{stands_step, stands_short, stays},

@@ -1,5 +1,5 @@
 use Rattle.{
-  std.proofs.{Common.{arith, below_more}, lemmas.Option.{get_or_from_slice_get}},
+  meaning.proofs.Common.{arith, below_more, get_or_from_slice_get},
   multi_index.proofs.ListedLaws.{ends_at},
 }
 use Rattle.multi_index.proofs.listed.end_within.Goals as goal

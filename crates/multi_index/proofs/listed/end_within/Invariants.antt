@@ -1,6 +1,5 @@
 use Rattle.{
-  std.{proofs.Common.{◌≡◌, ◌<◌, ℕ, List, false, slice_index_or}, specs.Ordering.{is_gt}},
-  cell_core.specs.declared.cell.Label.{Label},
+  meaning.proofs.Common.{◌≡◌, ◌<◌, ℕ, List, false, slice_index_or, is_gt, Label},
   pick_meaning.specs.Leading.{leading_cmp},
   index_core.specs.Labels.{order_in},
 }

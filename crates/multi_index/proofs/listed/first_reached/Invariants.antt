@@ -1,6 +1,5 @@
 use Rattle.{
-  std.{proofs.Common.{◌≡◌, ◌<◌, ℕ, List, true, slice_index_or}, specs.Ordering.{is_lt}},
-  cell_core.specs.declared.cell.Label.{Label},
+  meaning.proofs.Common.{◌≡◌, ◌<◌, ℕ, List, true, slice_index_or, is_lt, Label},
   pick_meaning.specs.Leading.{leading_cmp},
   index_core.specs.Labels.{order_in},
 }

@@ -1,5 +1,5 @@
 use Rattle.{
-  std.{proofs.{Common.{arith, ◌≡◌, ◌-◌, [], slice_index_or}, lemmas.Option.{get_or_from_slice_get}}, specs.Ordering.{is_lt}},
+  meaning.proofs.Common.{arith, ◌≡◌, ◌-◌, [], slice_index_or, get_or_from_slice_get, is_lt},
   index_core.specs.Labels.{order_in},
   pick_meaning.{specs.Leading.{leading_cmp}, proofs.OrderLaws.{order_goes_on, order_broken, order_kept}},
 }

@@ -1,5 +1,5 @@
 use Rattle.{
-  std.proofs.Common.{◌≡◌, true, false, arith, rules},
+  meaning.proofs.Common.{◌≡◌, true, false, arith, rules},
   index_core.specs.Labels.{same_number},
   multi_index.proofs.ListedLaws.{leads_step},
 }

@@ -1,5 +1,5 @@
 use Rattle.{
-  std.proofs.Common.{◌≡◌, drop},
+  meaning.proofs.Common.{◌≡◌, drop},
   pick_meaning.specs.Leading.{leads},
   index_core.specs.Labels.{same_number},
 }

@@ -1,6 +1,5 @@
 use Rattle.{
-  std.proofs.Common.{arith},
-  cell_core.specs.declared.cell.Kind.TheVariants.{Int64},
+  meaning.proofs.Common.{arith, Int64},
   column_core.specs.{Lanes.{lane_row}, Columns.{number_cell}},
   nullable_array.proofs.{ColumnAnswers.{numbers_given, text_cast, kept_cast, cast_answer, given_at}, CastLaws.{number_truth_cast}},
 }

@@ -1,5 +1,5 @@
 use Rattle.{
-  std.proofs.Common.{arith},
+  meaning.proofs.Common.{arith},
   cell_core.specs.declared.cell.Kind.TheVariants.{Text as string},
   column_core.specs.{Lanes.{lane_row}, Columns.{text_cell}},
   nullable_array.proofs.{ColumnAnswers.{kept_cast, cast_answer, given_at}, CastLaws.{text_number_cast, text_truth_cast}},

@@ -1,6 +1,5 @@
 use Rattle.{
-  std.proofs.Common.{arith},
-  cell_core.specs.declared.cell.Kind.TheVariants.{Boolean},
+  meaning.proofs.Common.{arith, Boolean},
   column_core.{specs.Columns.{truth_cell, truth_given}, proofs.ColumnLaws.{given-plain}},
   nullable_array.proofs.ColumnAnswers.{text_cast, kept_cast, given_at},
 }

@@ -1,5 +1,5 @@
 use Rattle.{
-  std.proofs.Common.{ap, sym, ◌∙◌, Ok},
+  meaning.proofs.Common.{ap, sym, ◌∙◌, Ok},
   column_core.{specs.Columns.{column_value}, proofs.{CellRows.{made_column}, ColumnLaws.{given-plain}}},
 }
 use Rattle.nullable_array.proofs.casts.convert.Goals as goal

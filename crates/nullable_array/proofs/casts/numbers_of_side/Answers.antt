@@ -1,7 +1,5 @@
 use Rattle.{
-  std.proofs.Common.{arith, refl, Ok},
-  cell_core.specs.declared.cell.Kind.TheVariants.{Int64, Boolean},
-  meaning.specs.Cast.{number_of_truth},
+  meaning.proofs.Common.{arith, refl, Ok, Int64, Boolean, number_of_truth},
   column_core.{specs.Columns.{number_cell, truth_cell}, proofs.{CellRows.{made_column}, RowsMade.{rows_written}}},
   nullable_array.{specs.Casts.{total_cast}, proofs.ColumnAnswers.{numbers_given, cast_answer}},
 }

@@ -1,8 +1,6 @@
 use Rattle.{
-  std.proofs.Common.{arith, refl},
+  meaning.proofs.Common.{arith, refl, Boolean, number_of_truth},
   column_core.{proofs.CellRows.{range-same}, specs.{Lanes.{lane_row}, Columns.{truth_cell}}},
-  cell_core.specs.declared.cell.Kind.TheVariants.{Boolean},
-  meaning.specs.Cast.{number_of_truth},
   nullable_array.{specs.Casts.{total_cast}, proofs.ColumnAnswers.{cast_answer}},
 }
 use Rattle.nullable_array.proofs.casts.numbers_of_truths.Goals as goal

@@ -1,7 +1,4 @@
-use Rattle.{
-  std.proofs.Common.{◌≡◌, length},
-  meaning.specs.Cast.{after_spaces},
-}
+use Rattle.meaning.proofs.Common.{◌≡◌, length, after_spaces}
 use Rattle.nullable_array.proofs.casts.trimmed_start.Given as goal
 
 -- only spaces were left out

@@ -1,5 +1,5 @@
 use Rattle.{
-  std.proofs.Common.{refl},
+  meaning.proofs.Common.{refl},
   nullable_array.specs.Folds.{running_row},
   column_core.proofs.{CellRows.{total_made}, RowsMade.{rows_written}},
 }
@@ -7,4 +7,4 @@ use Rattle.nullable_array.proofs.cumulations.run.Goals as goal
 
 pub returns : goal.returns
 returns g c =
-    total_made _ g.U.Value.cell _ _ (running_row (g.F.Fold.step_of _) (g.A.Source.row_of _)) _ _ _ _ (λ k. refl) (rows_written _ _ _ _ c.in_ok-rows.ensures.rows) c.in_ok-rows.ensures.count c.column.ensures
+    total_made _ g.U.Element.cell _ _ (running_row (g.F.Fold.step_of _) (g.A.Source.row_of _)) _ _ _ _ (λ k. refl) (rows_written _ _ _ _ c.in_ok-rows.ensures.rows) c.in_ok-rows.ensures.count c.column.ensures

@@ -1,5 +1,5 @@
 use Rattle.{
-  std.{proofs.Common.{◌≡◌, ◌≤◌, length, Some, None}, specs.Prelude.{vec_len, vec_capacity}},
+  meaning.proofs.Common.{◌≡◌, ◌≤◌, length, Some, None, vec_len, vec_capacity},
   nullable_array.specs.Folds.{folded, running_row},
   column_core.specs.Rows.{AreWritten},
 }

@@ -1,7 +1,7 @@
 use mir.Val.{bool_byte}
 use Rattle.{
+  meaning.proofs.Common.{int_eq_equiv, ◌≡◌, ◌∙◌, Bool, cond, arith},
   nullable_array.proofs.{DistinctLaws.{each_value_once}, PlaceLaws.{marked_step, one_at_most}},
-  std.proofs.{lemmas.Cmp.{int_eq_equiv}, Common.{◌≡◌, ◌∙◌, Bool, cond, arith}},
 }
 use Rattle.nullable_array.proofs.distinct_cells.count_marked.Goals as goal
 

@@ -1,5 +1,5 @@
 use Rattle.{
-  std.{proofs.Common.{◌≡◌, ◌≤◌, [], length}, specs.Ordering.{int_eq}},
+  meaning.proofs.Common.{◌≡◌, ◌≤◌, [], length, int_eq},
   indexmap.specs.IndexSet.{insert_key},
   nullable_array.specs.{Distincts.{AreMarked}, Folds.{folded}},
 }

@@ -1,5 +1,5 @@
 use Rattle.{
-  std.proofs.Common.{ap, sym, ◌∙◌},
+  meaning.proofs.Common.{ap, sym, ◌∙◌},
   column_core.specs.Views.{borrowed_column},
   nullable_array.proofs.{DistinctLaws.{if_ok_same, numbers_distinct, texts_distinct}, TruthLaws.{truths_distinct}},
 }

@@ -1,5 +1,5 @@
 use Rattle.{
-  std.proofs.Common.{arith},
+  meaning.proofs.Common.{arith},
   nullable_array.proofs.DistinctLaws.{each_value_once},
 }
 use Rattle.nullable_array.proofs.distinct_cells.distinct_values.Goals as goal

@@ -1,5 +1,5 @@
 use Rattle.{
-  std.proofs.Common.{◌≡◌, []},
+  meaning.proofs.Common.{◌≡◌, []},
   indexmap.specs.IndexSet.{insert_key},
   nullable_array.specs.Folds.{folded},
 }

@@ -1,5 +1,5 @@
 use Rattle.{
-  std.proofs.Common.{arith},
+  meaning.proofs.Common.{arith},
   nullable_array.proofs.OrderedLaws.{values_kept},
 }
 use Rattle.nullable_array.proofs.distinct_cells.present_numbers.Goals as goal

@@ -1,6 +1,6 @@
-use mir.Val.{of_z, to_z}
 use Rattle.{
-  std.{proofs.{Common.{arith, rules, FitsSigned, unwrap_or}, Math.Facts.{to_z-of_z}}, specs.Int.{w64}},
+  meaning.proofs.Common.{of_z, to_z, arith, rules, FitsSigned, unwrap_or},
+  std.{proofs.Math.Facts.{to_z-of_z}, specs.Int.{w64}},
   nullable_array.proofs.ExtremeLaws.{last_more},
 }
 use Rattle.nullable_array.proofs.extremes.last_or.Goals as goal

@@ -1,5 +1,5 @@
 use Rattle.{
-  std.proofs.Common.{◌≡◌, None, unwrap_or},
+  meaning.proofs.Common.{◌≡◌, None, unwrap_or},
   nullable_array.specs.Folds.{folded, greatest_step},
 }
 use Rattle.nullable_array.proofs.extremes.last_or.Given as goal

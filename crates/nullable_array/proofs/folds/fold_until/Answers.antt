@@ -1,5 +1,5 @@
 use Rattle.{
-  std.proofs.Common.{◌≡◌, ◌+◌, ◌-◌, arith},
+  meaning.proofs.Common.{◌≡◌, ◌+◌, ◌-◌, arith},
   nullable_array.proofs.FoldLaws.{folded_more, folded_stays, changed},
 }
 use Rattle.nullable_array.proofs.folds.fold_until.Goals as goal

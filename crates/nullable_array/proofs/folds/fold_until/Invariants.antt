@@ -1,5 +1,5 @@
 use Rattle.{
-  std.proofs.Common.{◌≡◌},
+  meaning.proofs.Common.{◌≡◌},
   nullable_array.specs.Folds.{folded},
 }
 use Rattle.nullable_array.proofs.folds.fold_until.Given as goal

@@ -1,5 +1,5 @@
 use Rattle.{
-  std.proofs.Common.{arith},
+  meaning.proofs.Common.{arith},
   nullable_array.proofs.PairRows.{value_pushed},
 }
 use Rattle.nullable_array.proofs.pairs.push_values.Goals as goal

@@ -1,5 +1,5 @@
 use Rattle.{
-  std.{proofs.Common.{◌≡◌, ◌≤◌, length}, specs.Prelude.{vec_len, vec_capacity}},
+  meaning.proofs.Common.{◌≡◌, ◌≤◌, length, vec_len, vec_capacity},
   nullable_array.specs.Pairs.{AreFlagged},
 }
 use Rattle.nullable_array.proofs.pairs.row_flags.Given as goal

@@ -1,5 +1,5 @@
 use Rattle.{
-  std.proofs.Common.{◌*◌},
+  meaning.proofs.Common.{◌*◌},
   nullable_array.specs.Pairs.{AreFilled},
 }
 use Rattle.nullable_array.proofs.pairs.row_values.Given as goal

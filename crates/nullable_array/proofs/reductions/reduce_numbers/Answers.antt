@@ -1,5 +1,5 @@
 use Rattle.{
-  std.proofs.Common.{arith},
+  meaning.proofs.Common.{arith},
   column_core.proofs.CellRows.{range-same},
 }
 use Rattle.nullable_array.proofs.reductions.reduce_numbers.Goals as goal

@@ -1,5 +1,6 @@
 use Rattle.{
-  std.proofs.{Common.{arith, refl}, Math.Facts.{to_z-of_z}},
+  meaning.proofs.Common.{arith, refl},
+  std.proofs.Math.Facts.{to_z-of_z},
   nullable_array.proofs.FoldLaws.{texts_reduced, rows_keep},
 }
 use Rattle.nullable_array.proofs.reductions.reduce_texts.Goals as goal

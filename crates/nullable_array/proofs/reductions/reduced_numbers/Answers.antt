@@ -1,5 +1,6 @@
 use Rattle.{
-  std.proofs.{Common.{arith}, Math.Facts.{to_z-of_z}},
+  meaning.proofs.Common.{arith},
+  std.proofs.Math.Facts.{to_z-of_z},
   nullable_array.proofs.FoldLaws.{numbers_reduced},
 }
 use Rattle.nullable_array.proofs.reductions.reduced_numbers.Goals as goal

@@ -1,5 +1,5 @@
 use Rattle.{
-  std.proofs.Common.{arith},
+  meaning.proofs.Common.{arith},
   nullable_array.proofs.FoldLaws.{numbers_reduced},
 }
 use Rattle.nullable_array.proofs.reductions.reduced_side.Goals as goal

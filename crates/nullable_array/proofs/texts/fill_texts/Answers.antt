@@ -1,5 +1,5 @@
 use Rattle.{
-  std.proofs.Common.{arith},
+  meaning.proofs.Common.{arith},
   nullable_array.proofs.TextRows.{longer_trans, text_written},
 }
 use Rattle.nullable_array.proofs.texts.fill_texts.Goals as goal

@@ -1,5 +1,5 @@
 use Rattle.{
-  meaning.specs.Cell.{IsLonger},
+  meaning.proofs.Common.{IsLonger},
   column_core.specs.Rows.{AreTexts},
 }
 use Rattle.nullable_array.proofs.texts.fill_texts.Given as goal

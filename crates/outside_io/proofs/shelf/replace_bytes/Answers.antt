@@ -1,5 +1,5 @@
 use Rattle.{
-  std.proofs.Common.{arith},
+  meaning.proofs.Common.{arith},
   outside_io.proofs.Held.{bytes_at-get, set-with_bytes},
 }
 use Rattle.outside_io.proofs.shelf.replace_bytes.Goals as goal

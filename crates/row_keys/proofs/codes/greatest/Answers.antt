@@ -1,5 +1,5 @@
 use Rattle.{
-  std.proofs.{Common.{◌<◌, length, arith}, lemmas.Option.{get_or_from_slice_get}},
+  meaning.proofs.Common.{◌<◌, length, arith, get_or_from_slice_get},
   row_keys.proofs.PairLaws.{greatest_more},
 }
 use Rattle.row_keys.proofs.codes.greatest.Goals as goal

@@ -1,7 +1,4 @@
-use Rattle.{
-  std.proofs.Common.{◌≤◌, ℕ, take, All},
-  cell_core.specs.declared.cell.Label.{Label},
-}
+use Rattle.meaning.proofs.Common.{◌≤◌, ℕ, take, All, Label}
 use Rattle.row_keys.proofs.codes.greatest.Given as goal
 
 abbrev pub invariant-loop-row : goal.invariant-loop-row

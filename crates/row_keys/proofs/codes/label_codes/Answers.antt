@@ -1,5 +1,5 @@
 use Rattle.{
-  std.proofs.Common.{rules},
+  meaning.proofs.Common.{rules},
   cell_core.specs.declared.cell.Label.TheVariants.{Na},
   index_core.specs.Labels.{same_number},
   row_keys.{specs.Numbers.{StandFor}, proofs.StandLaws.{codes_stand}},

@@ -1,5 +1,5 @@
 use Rattle.{
-  std.proofs.{Common.{◌≡◌, ◌<◌, ◌^◌, length, arith, rules}, lemmas.{Grind.{common_steps}, Option.{get_or_from_slice_get}}},
+  meaning.proofs.Common.{◌≡◌, ◌<◌, ◌^◌, length, arith, rules, common_steps, get_or_from_slice_get},
   cell_core.specs.declared.cell.Label.TheVariants.{Na},
   row_keys.proofs.{StandLaws.{row_more}, PairLaws.{pair_number, pair_below, pairs_below, pairs_stand}},
 }

@@ -1,5 +1,5 @@
 use Rattle.{
-  std.{proofs.Common.{◌≡◌, map}, specs.List.{range_with_len}},
+  meaning.proofs.Common.{◌≡◌, map, range_with_len},
   row_keys.proofs.PairLaws.{pair_number},
 }
 use Rattle.row_keys.proofs.codes.paired.Given as goal

@@ -1,6 +1,6 @@
 use Rattle.{
+  meaning.proofs.Common.{◌≡◌, ◌<◌, ◌++◌, ◌∷◌, [], length, arith, cond, get_or_from_slice_get},
   row_keys.proofs.{DistinctLaws.{numbers_more, seen_more}, factor.factorize.Goals.{then-new+in_ok-push-2, else-new}},
-  std.proofs.{Common.{◌≡◌, ◌<◌, ◌++◌, ◌∷◌, [], length, arith, cond}, lemmas.Option.{get_or_from_slice_get}},
 }
 use Rattle.row_keys.proofs.factor.factorize.Goals as goal
 

@@ -1,6 +1,5 @@
 use Rattle.{
-  std.proofs.Common.{◌≡◌, take},
-  meaning.specs.Reduce.{distinct},
+  meaning.proofs.Common.{◌≡◌, take, distinct},
   row_keys.proofs.RecodeLaws.{AreNumbers},
 }
 use Rattle.row_keys.proofs.factor.factorize.Given as goal

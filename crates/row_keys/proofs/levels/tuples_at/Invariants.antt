@@ -1,5 +1,5 @@
 use Rattle.{
-  std.proofs.Common.{◌≡◌, ◌++◌, take},
+  meaning.proofs.Common.{◌≡◌, ◌++◌, take},
   multi_index.specs.Axes.{tuples_at},
 }
 use Rattle.row_keys.proofs.levels.tuples_at.Given as goal

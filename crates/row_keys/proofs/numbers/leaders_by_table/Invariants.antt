@@ -1,5 +1,5 @@
 use Rattle.{
-  std.proofs.Common.{◌≡◌, ◌+◌, map, take, length},
+  meaning.proofs.Common.{◌≡◌, ◌+◌, map, take, length},
   row_keys.{specs.Numbers.{first_with}, proofs.LeaderLaws.{IsTable}},
 }
 use Rattle.row_keys.proofs.numbers.leaders_by_table.Given as goal

@@ -1,5 +1,5 @@
 use Rattle.{
-  std.proofs.{Common.{◌≡◌, ◌<◌, [], length, slice_index_or, arith}, lemmas.List.{take_all, length-set}},
+  meaning.proofs.Common.{◌≡◌, ◌<◌, [], length, slice_index_or, arith, take_all, length-set},
   multi_index.proofs.SideLaws.{tuple_there, label_there, one_label_more},
 }
 use Rattle.row_keys.proofs.sides.axis_tuple.Goals as goal

@@ -1,7 +1,6 @@
-use mir.Syntax.{w64}
 use mir.Val.{SFits}
 use Rattle.{
-  std.{proofs.{Common.{◌≡◌, ◌<◌, ◌≤◌, [], length, arith, rules}, lemmas.{Int.{to_z-of_z}, Option.{get_or_from_slice_get}}}, specs.Prelude.{slice_index_or}},
+  meaning.proofs.Common.{w64, ◌≡◌, ◌<◌, ◌≤◌, [], length, arith, rules, to_z-of_z, get_or_from_slice_get, slice_index_or},
   multi_index.proofs.SideLaws.{one_row_more},
   row_keys.{specs.Values.{number_in}, proofs.ValueLaws.{label_below, labels_below, labels_stand}},
 }

@@ -1,5 +1,5 @@
 use Rattle.{
-  std.proofs.Common.{◌≡◌, map, take},
+  meaning.proofs.Common.{◌≡◌, map, take},
   row_keys.specs.Values.{number_in},
 }
 use Rattle.row_keys.proofs.values.numbers_in.Given as goal

@@ -1,5 +1,5 @@
 use Rattle.{
-  std.proofs.Common.{take, All},
+  meaning.proofs.Common.{take, All},
   row_keys.specs.Values.{IsSpanned},
 }
 use Rattle.row_keys.proofs.values.span_of.Given as goal

@@ -1,9 +1,8 @@
 use Rattle.{
-  std.{proofs.{Common.{refl, length, ◌≡◌, sym, ◌∙◌, ap, subst, Some, None, arith, Option}, lemmas.List.{append-nil}}, specs.Prelude.{List, is_some, IfSome}},
+  meaning.proofs.Common.{refl, length, ◌≡◌, sym, ◌∙◌, ap, subst, Some, None, arith, Option, append-nil, List, is_some, IfSome, Text, Words},
   language_meaning.specs.{Tree.{arg_list, named_args, arg_pairs}, Depth.{depth, step_depth, arg_depth, list_depth, args_depth, pairs_depth}},
-  meaning.specs.Text.{Text},
   table_meaning.specs.Value.{Entry, one, entries, Given, NamedGiven},
-  form_meaning.specs.Signature.{function_named},
+  call_meaning.specs.Signature.{function_named},
   select_meaning.specs.Select.{plain, through},
   method_meaning.specs.Calls.{has_method, call_result},
   frame_store.{proofs.RowLaws.{item_of-Row, argument_of-Table}, specs.{declared.arguments.{Named.{Named}, Argument.{Argument}, NamedList.{NamedList}}, World.{World, entry_in, IsKnownArgument, AreKnownArguments}}},
@@ -14,7 +13,6 @@ use Rattle.{
   script_work.{specs.Work.{world_of}, proofs.{Worlds.{of_value, of_items, of_argument, of_pairs, of_arguments, of_subscript, seen_kept, keeps_both, brackets_seen, brackets_kept}, Rides.{then_gives}}},
   fault_laws.proofs.{FormFaults.{sign_result_fault, infix_result_fault, length_result_fault}, SelectFaults.{select_result_fault}, CallFaults.{call_result_fault}},
   label_methods.specs.Chains.{chain_in, IsKnownChain},
-  cell_core.specs.declared.words.Words.{Words},
 }
 use Rattle.method_meaning.specs.Calls as calls
 use Rattle.language_meaning.specs.Tree as tree

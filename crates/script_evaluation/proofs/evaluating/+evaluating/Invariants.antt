@@ -1,5 +1,5 @@
 use Rattle.{
-  std.proofs.Common.{◌*◌, ◌+◌, ◌++◌, max},
+  meaning.proofs.Common.{◌*◌, ◌+◌, ◌++◌, max},
   language_meaning.specs.{Tree.{arg_list, named_args, arg_pairs}, Depth.{depth, step_depth, sub_depth, optional_sub_depth, optional_arg_depth, arg_depth, list_depth, args_depth, pairs_depth}},
   script_meaning.specs.Expression.{parts_of as parts_given, named_of, pairs_of},
   script_tree.specs.View.{expr_of, step_of, sub_of, arg_of, optional_arg, parts_of, named_parts_of, pair_parts_of},

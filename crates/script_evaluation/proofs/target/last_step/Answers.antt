@@ -1,5 +1,5 @@
 use Rattle.{
-  std.proofs.Common.{refl, ◌∙◌, ap},
+  meaning.proofs.Common.{refl, ◌∙◌, ap},
   script_tree.specs.View.{step_of},
   script_evaluation.proofs.{Evaluations.{apart, stops, makes}, Parts.{key_known}, Trees.{step_of-Access}},
 }

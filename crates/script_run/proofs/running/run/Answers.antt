@@ -1,5 +1,5 @@
 use Rattle.{
-  std.{proofs.Common.{◌≡◌, ◌∙◌, Option, ap, map, refl, subst, sym, inr}, specs.Prelude.{IfSome}},
+  meaning.proofs.Common.{◌≡◌, ◌∙◌, Option, ap, map, refl, subst, sym, inr, IfSome},
   outside_io.specs.{Count.{HasRisen}, Files.{FilesValue}, Sink.{SinkValue, appended}},
   script_meaning.specs.Run.{RunWords, IsWordsResult, not_found_line, usage, usage_line, with_line, with_script},
   script_steps.{specs.{Ends.{outside, Ends, Is}, Errors.{RunLeaves}, declared.status.Status.{Status, TheVariants.{Usage}}}, proofs.{RunLaws.{early_none, ends_with_line}, Options.{none-always, some-always}}},

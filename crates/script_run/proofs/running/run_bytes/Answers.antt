@@ -1,5 +1,5 @@
 use Rattle.{
-  std.proofs.Common.{refl},
+  meaning.proofs.Common.{refl},
   script_steps.{specs.Ends.{outside}, proofs.Options.{some-always}},
   script_run.proofs.{FileLaws.{ends_unbegun}, OneResult.{script_one}},
 }

@@ -1,5 +1,5 @@
 use Rattle.{
-  std.proofs.Common.{Some, refl, arith},
+  meaning.proofs.Common.{Some, refl, arith},
   script_meaning.specs.Run.{RunWords},
   script_work.specs.Reads.{paths_of},
   script_steps.{specs.Ends.{outside}, proofs.{Options.{some-always, some-both, some-weaker}, RunLaws.{ends_with_line}}},

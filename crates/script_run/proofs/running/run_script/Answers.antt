@@ -1,8 +1,7 @@
 use Rattle.{
-  std.proofs.Common.{◌+◌, drop, arith},
-  meaning.specs.Text.{Contents},
+  meaning.proofs.Common.{◌+◌, drop, arith, Contents},
   script_meaning.specs.{Reading.{Reading}, State.{no_names}, Statement.{Answer, statement_result}, Run.{RunResult, statements_result}},
-  script_tree.specs.{View.{form_of, statement_of}, ScriptView.{statements_of}},
+  script_tree.specs.{View.{action_of, statement_of}, ScriptView.{statements_of}},
   script_work.{specs.Reads.{files_in}, proofs.Rides.{serves_both}},
   script_session.specs.Session.{state_of},
   script_steps.{specs.{Ends.{outside}, Steps.{Stops}}, proofs.{Options.{some-both, some-weaker}, RunLaws.{comes_more, ends_come, ends_done, next-result}, ErrorLaws.{warns_both, leaves_later}}},
@@ -20,7 +19,7 @@ returns-in-Err-clause-told g c =
     let line = c.statement-statement.result.now.line in
     let whole : Contents → RunResult = λ held. statements_result (files_in c.args.names.now held) no_names ss in
     let rest : Contents → RunResult = λ held. statements_result (files_in c.args.names.now held) (state_of c.loop-i.session) (drop i ss) in
-    let answer : Contents → Reading Answer = λ held. statement_result (files_in c.args.names.now held) (state_of c.loop-i.session) (form_of c.statement-statement.result.now.form) in
+    let answer : Contents → Reading Answer = λ held. statement_result (files_in c.args.names.now held) (state_of c.loop-i.session) (action_of c.statement-statement.result.now.action) in
     some-both _ _ _ (λ held. Stops (answer held) line status mid new) _
     c.loop-i.invariant.serves.contents c.loop-i.invariant.told c.in-Err.ensures.stops (λ held come stops.
     let next = next-result (files_in c.args.names.now held) ss i (statement_of c.statement-statement.result.now) (state_of c.loop-i.session) c.statement-statement.ensures in

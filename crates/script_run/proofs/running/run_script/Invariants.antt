@@ -1,5 +1,5 @@
 use Rattle.{
-  std.{proofs.Common.{◌≤◌, drop}, specs.Prelude.{IfSome}},
+  meaning.proofs.Common.{◌≤◌, drop, IfSome},
   outside_io.specs.Files.{Serves},
   script_meaning.specs.{State.{no_names}, Run.{statements_result}},
   script_tree.specs.ScriptView.{statements_of},

@@ -1,5 +1,5 @@
 use Rattle.{
-  std.proofs.Common.{◌≡◌, [], drop, map, string_bytes},
+  meaning.proofs.Common.{◌≡◌, [], drop, map, string_bytes},
   script_meaning.specs.Run.{pairs_after},
   script_work.specs.Reads.{paths_of},
 }

@@ -1,6 +1,6 @@
 use Rattle.{
+  meaning.proofs.Common.{sym, Some, Ok},
   script_tree.specs.View.{expr_of},
-  std.proofs.Common.{sym, Some, Ok},
   fault_laws.proofs.SetFaults.{removal_result_fault},
   script_evaluation.proofs.Evaluations.{known_after, seen_after, names_value},
   script_work.proofs.Worlds.{of_value, keeps_both},

@@ -1,6 +1,6 @@
 use Rattle.{
+  meaning.proofs.Common.{refl},
   script_tree.specs.View.{expr_of},
-  std.proofs.Common.{refl},
   script_session.proofs.Answering.{answers, fails, follows, does},
 }
 use Rattle.language_meaning.specs.Tree as tree

@@ -1,5 +1,5 @@
 use Rattle.{
-  std.proofs.Common.{sym, ◌∙◌},
+  meaning.proofs.Common.{sym, ◌∙◌},
   fault_laws.proofs.SetFaults.{assign_result_fault},
   script_meaning.specs.Expression.{named_by},
   script_tree.specs.View.{expr_of, step_of, arg_of},

@@ -1,5 +1,6 @@
 use Rattle.{
-  std.{proofs.{Common.{arith, refl}, lemmas.Result.{IfErr-weaker, on_ok_weaker}}, specs.FinMap.{empty}},
+  meaning.proofs.Common.{arith, refl, on_ok_weaker},
+  std.{proofs.lemmas.Result.{IfErr-weaker}, specs.FinMap.{empty}},
   script_steps.{specs.Ends.{outside}, proofs.{ErrorLaws.{warns_line, given_files, leaves_fault}, RunLaws.{goes_on, stops_input, stops_memory, stops_refused, stops_showing, stops_warning}}},
 }
 use Rattle.script_steps.proofs.advancing.advance.Goals as goal

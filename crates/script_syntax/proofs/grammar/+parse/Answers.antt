@@ -1,4 +1,4 @@
-use Rattle.std.proofs.Common.{arith}
+use Rattle.meaning.proofs.Common.{arith}
 use Rattle.script_syntax.proofs.Rooms as rooms
 use Rattle.script_syntax.proofs.grammar.+parse.Goals as goal
 

@@ -1,5 +1,5 @@
 use Rattle.{
-  std.proofs.Common.{length, ◌+◌, ◌≤◌},
+  meaning.proofs.Common.{length, ◌+◌, ◌≤◌},
   language_meaning.specs.Pieces.{pieces},
   script_tree.specs.ScriptView.{statements_of},
   script_syntax.specs.PieceRead.{Reads},

@@ -1,8 +1,8 @@
 use Rattle.{
-  std.proofs.Common.{arith, ◌≡◌, subst, Some, None},
+  meaning.proofs.Common.{arith, ◌≡◌, subst, Some, None},
   language_meaning.specs.Script.{IsBlank},
-  script_tree.specs.View.{form_of},
-  script_syntax.{specs.Reading.{form_read}, proofs.PieceLaws.{blank_is_none, no_statement, one_statement, filled_of, lexes_of}},
+  script_tree.specs.View.{action_of},
+  script_syntax.{specs.Reading.{action_read}, proofs.PieceLaws.{blank_is_none, no_statement, one_statement, filled_of, lexes_of}},
   script_tokens.specs.View.{tokens_of},
 }
 use Rattle.script_syntax.proofs.pieces.read_piece.Goals as goal
@@ -15,12 +15,12 @@ returns-then-is_blank c =
 pub returns-in-Ok-statement : goal.returns-in-Ok-statement
 returns-in-Ok-statement c =
     let lexes = lexes_of _ _ _ _ _ _ c.in-Some.is c.in_ok-tokens.ensures.found c.in-Ok.ensures.cases.0 in
-    let read = subst (λ ts. form_read (tokens_of ts) ≡ Some (form_of c.in-Ok-statement.form)) c.deref.ensures.value c.in-Ok-statement.ensures in
+    let read = subst (λ ts. action_read (tokens_of ts) ≡ Some (action_of c.in-Ok-statement.action)) c.deref.ensures.value c.in-Ok-statement.ensures in
     one_statement _ _ _ c.in-Ok.ensures.cases.1
     (search filled_of) lexes read
 
 pub returns-in-Err-Syntax : goal.returns-in-Err-Syntax
 returns-in-Err-Syntax c =
     let lexes = lexes_of _ _ _ _ _ _ c.in-Some.is c.in_ok-tokens.ensures.found c.in-Ok.ensures.cases.0 in
-    let none = subst (λ ts. form_read (tokens_of ts) ≡ None) c.deref.ensures.value (grind arith) in
+    let none = subst (λ ts. action_read (tokens_of ts) ≡ None) c.deref.ensures.value (grind arith) in
     search (filled_of, no_statement)

@@ -1,5 +1,5 @@
 use Rattle.{
-  std.proofs.Common.{◌≡◌, length},
+  meaning.proofs.Common.{◌≡◌, length},
   language_meaning.specs.Token.{skip},
 }
 use Rattle.script_tokens.proofs.blank.skip.Given as goal

@@ -1,5 +1,5 @@
 use Rattle.{
-  std.proofs.{lemmas.Grind.{common_steps}, Common.{◌<◌, length, refl, arith}},
+  meaning.proofs.Common.{common_steps, ◌<◌, length, refl, arith},
   script_tokens.proofs.LexLaws.{no_token_short, no_text, only_signs, IsUtf8-after_quote},
 }
 use Rattle.script_tokens.proofs.lexing.token_at.Goals as goal

@@ -1,5 +1,5 @@
 use Rattle.{
-  std.{proofs.Common.{length}, specs.Str.{IsUtf8}},
+  meaning.proofs.Common.{length, IsUtf8},
   script_tokens.{specs.View.{tokens_of}, proofs.LexLaws.{IsLexedTo}},
 }
 use Rattle.script_tokens.proofs.lexing.tokens.Given as goal

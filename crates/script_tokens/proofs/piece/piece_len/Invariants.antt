@@ -1,5 +1,5 @@
 use Rattle.{
-  std.proofs.Common.{◌≡◌, ◌+◌, ◌≤◌, length},
+  meaning.proofs.Common.{◌≡◌, ◌+◌, ◌≤◌, length},
   language_meaning.specs.Pieces.{plain},
   script_tokens.{specs.View.{mode_of}, proofs.FirstPiece.{rest_len}},
 }

@@ -1,5 +1,5 @@
 use Rattle.{
-  std.{proofs.Common.{length}, specs.Str.{IsUtf8}},
+  meaning.proofs.Common.{length, IsUtf8},
   script_tokens.proofs.Texts.{IsReadTo},
 }
 use Rattle.script_tokens.proofs.text.text_before.Given as goal

@@ -1,5 +1,5 @@
 use Rattle.{
-  std.proofs.Common.{arith},
+  meaning.proofs.Common.{arith},
   language_meaning.specs.Token.{continues_word},
   script_tokens.proofs.Runs.{prefix_len-le, run_at},
 }

@@ -1,5 +1,6 @@
 use Rattle.{
-  std.proofs.{lemmas.Fmt.{decimal_digit, first_decimal}, Common.{arith}},
+  meaning.proofs.Common.{arith},
+  std.proofs.lemmas.Fmt.{decimal_digit, first_decimal},
   script_tokens.proofs.{Runs.{IsUtf8-run}, TokenLaws.{digit_is_ascii, digits_spell, number_parses}, word.value_of.Goals.{else-digits-gt1-via-then-digits-gt1+else-digits-eq48}},
 }
 use Rattle.script_tokens.proofs.word.value_of.Goals as goal

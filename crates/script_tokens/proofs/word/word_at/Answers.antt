@@ -1,5 +1,5 @@
 use Rattle.{
-  std.proofs.Common.{arith},
+  meaning.proofs.Common.{arith},
   script_tokens.proofs.{Runs.{IsUtf8-run}, TokenLaws.{word_is_ascii}},
 }
 use Rattle.script_tokens.proofs.word.word_at.Goals as goal

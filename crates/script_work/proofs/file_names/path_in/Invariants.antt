@@ -1,5 +1,5 @@
 use Rattle.{
-  std.proofs.Common.{◌≡◌, length},
+  form_parts.proofs.Common.{◌≡◌, length},
   script_meaning.specs.Reading.{path_of_name},
   script_work.specs.Reads.{paths_of},
 }

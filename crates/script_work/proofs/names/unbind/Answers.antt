@@ -1,5 +1,5 @@
 use Rattle.{
-  std.proofs.Common.{◌∙◌, ap},
+  form_parts.proofs.Common.{◌∙◌, ap},
   script_work.{specs.Bindings.{bindings_of}, proofs.Bindings.{value_at-bindings_of, bindings_of-remove_entry}},
 }
 use Rattle.script_work.proofs.names.unbind.Goals as goal

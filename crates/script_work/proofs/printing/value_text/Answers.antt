@@ -1,6 +1,5 @@
 use Rattle.{
-  std.proofs.Common.{arith, sym, ◌∙◌},
-  frame_store.specs.Objects.{tables},
+  form_parts.proofs.Common.{arith, sym, ◌∙◌, tables},
   script_work.proofs.Printed.{object_text},
 }
 use Rattle.script_work.proofs.printing.value_text.Goals as goal

@@ -1,6 +1,5 @@
 use Rattle.{
-  std.proofs.Common.{sym, ◌∙◌, subst},
-  frame_store.specs.Objects.{tables},
+  form_parts.proofs.Common.{sym, ◌∙◌, subst, tables},
   script_work.{specs.Bindings.{bindings_of, AreNoted}, proofs.Bindings.{noted_named, noted_ended, kept_ended}},
 }
 use Rattle.script_work.proofs.sweeping.sweep.Goals as goal

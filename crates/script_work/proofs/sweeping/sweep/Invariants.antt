@@ -1,6 +1,6 @@
 use Rattle.{
-  std.proofs.Common.{vec_len},
-  frame_store.specs.Objects.{tables},
+  meaning.proofs.Common.{vec_len},
+  form_parts.proofs.Common.{tables},
   script_work.specs.Bindings.{bindings_of, AreNoted, KeepNamed},
 }
 use Rattle.script_work.proofs.sweeping.sweep.Given as goal

@@ -1,5 +1,5 @@
 use Rattle.{
-  std.proofs.Common.{◌<◌, ◌-◌, length, arith},
+  form_parts.proofs.Common.{◌<◌, ◌-◌, length, arith},
   selections.proofs.HeadingLaws.{first_places_more},
 }
 use Rattle.selections.proofs.headings.first_places.Goals as goal

@@ -1,5 +1,5 @@
 use Rattle.{
-  std.proofs.Common.{drop},
+  form_parts.proofs.Common.{drop},
   selections.specs.Headings.{HaveFirstPlaces},
 }
 use Rattle.selections.proofs.headings.first_places.Given as goal

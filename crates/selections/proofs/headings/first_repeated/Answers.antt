@@ -1,6 +1,5 @@
 use Rattle.{
-  std.{proofs.{lemmas.List.{drop_more}, Common.{◌≡◌, ◌<◌, ◌+◌, ◌-◌, Option, length, drop, arith}}, specs.List.{list_any}},
-  cell_core.specs.declared.cell.Label.{Label},
+  form_parts.proofs.Common.{drop_more, ◌≡◌, ◌<◌, ◌+◌, ◌-◌, Option, length, drop, arith, list_any, Label},
   selections.{specs.Headings.{same_heading}, proofs.HeadingLaws.{later_step}},
 }
 use Rattle.selections.proofs.headings.first_repeated.Goals as goal

@@ -1,6 +1,5 @@
 use Rattle.{
-  std.{proofs.Common.{◌≡◌, drop, Option}, specs.List.{list_any}},
-  cell_core.specs.declared.cell.Label.{Label},
+  form_parts.proofs.Common.{◌≡◌, drop, Option, list_any, Label},
   selections.specs.Headings.{same_heading, repeated_heading},
 }
 use Rattle.selections.proofs.headings.first_repeated.Given as goal

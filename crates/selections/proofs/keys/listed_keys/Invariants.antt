@@ -1,10 +1,7 @@
 use Rattle.{
-  std.proofs.Common.{◌≡◌, List, drop},
-  meaning.specs.Text.{Text},
-  multi_index.specs.Axes.{HaveLevels},
+  form_parts.proofs.Common.{◌≡◌, List, drop, Text, HaveLevels, Tables, items_of},
   select_meaning.specs.Keys.{whole_items},
-  frame_store.specs.{Objects.{Tables}, Arguments.{items_of}},
-  selections.proofs.KeyLaws.{keys_after},
+  selections.proofs.HeadingLaws.{keys_after},
 }
 use Rattle.selections.proofs.keys.listed_keys.Given as goal
 

@@ -1,8 +1,6 @@
 use Rattle.{
-  std.proofs.Common.{◌≡◌, List, length, take, drop},
-  meaning.specs.Text.{Text},
-  frame_store.specs.{Objects.{Tables}, Arguments.{items_of}},
-  selections.{specs.{Reaches.{labels_in}, Selected.{scalars_in}}, proofs.KeyLaws.{labels_after}},
+  form_parts.proofs.Common.{◌≡◌, List, length, take, drop, Text, Tables, items_of},
+  selections.{specs.{Reaches.{labels_in}, Selected.{scalars_in}}, proofs.HeadingLaws.{labels_after}},
 }
 use Rattle.selections.proofs.keys.scalar_labels.Given as goal
 

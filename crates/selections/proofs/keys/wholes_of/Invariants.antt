@@ -1,10 +1,7 @@
 use Rattle.{
-  std.proofs.Common.{◌≡◌, List, drop},
-  meaning.specs.Text.{Text},
-  form_meaning.specs.Finish.{try_all},
+  form_parts.proofs.Common.{◌≡◌, List, drop, Text, try_all, cells_value},
   select_meaning.specs.Keys.{whole_cell},
-  frame_store.specs.Shown.{cells_value},
-  selections.proofs.PlaceLaws.{made_after},
+  selections.proofs.HeadingLaws.{made_after},
 }
 use Rattle.selections.proofs.keys.wholes_of.Given as goal
 

@@ -1,17 +1,14 @@
 use Rattle.{
-  std.{proofs.{Common.{◌∙◌, ◌<◌, ap, length, sym, arith}, lemmas.List.Elements.{All-push}}, specs.Option.{option_copied}},
-  selections.proofs.PlaceLaws.{listed_settled, looked_up, looked_inside, places_more, place_refused},
+  form_parts.proofs.Common.{◌∙◌, ◌<◌, ap, length, sym, All-push},
+  meaning.proofs.Common.{option_copied},
+  selections.proofs.HeadingLaws.{listed_settled, looked_up, looked_inside, place_refused, from_label, one_more},
 }
 use Rattle.selections.proofs.labels.column_places.Goals as goal
 
 pub returns-in_default-clause-answer : goal.returns-in_default-clause-answer
 returns-in_default-clause-answer c =
-    let dict = c.args.dict.now in
-    let t = c.args.on.now in
-    let label = c.label_of-label.result in
-    let lt : c.loop-k.k < length c.args.cells.now = omega arith in
     let settled = listed_settled _ _ _ _ _ c.at.ensures c.label_of-label.ensures.seen c.requires.cells in
-    let none = looked_up _ _ t _ _ c.len.ensures.distinct c.requires.settled settled c.in_ok-first.ensures c.in_default.ensures.value in
+    let none = looked_up _ _ c.args.on.now _ _ c.len.ensures.distinct c.requires.settled settled c.in_ok-first.ensures c.in_default.ensures.value in
     rw c.missing.ensures (
       search (place_refused, c.label_of-label.ensures.seen),
       search,
@@ -19,14 +16,11 @@ returns-in_default-clause-answer c =
 
 pub loop-k-preserved : goal.loop-k-preserved
 loop-k-preserved c =
-    let dict = c.args.dict.now in
     let t = c.args.on.now in
-    let label = c.label_of-label.result in
-    let lt : c.loop-k.k < length c.args.cells.now = omega arith in
     let settled = listed_settled _ _ _ _ _ c.at.ensures c.label_of-label.ensures.seen c.requires.cells in
     let is = ap option_copied (sym c.in-Some.is) ∙ c.get.ensures.value in
     let here = looked_up _ _ t _ _ c.len.ensures.distinct c.requires.settled settled c.in_ok-first.ensures is in
     record {
-      places = search (places_more, c.at.ensures, c.label_of-label.ensures.seen, c.in_ok-push.ensures.ok);
+      places = search (one_more, from_label, c.at.ensures, c.label_of-label.ensures.seen, c.in_ok-push.ensures.ok);
       inside = rw c.in_ok-push.ensures.ok (All-push (λ place. place < length t.columns) c.loop-k.places _ c.loop-k.invariant.inside (looked_inside _ t _ _ c.requires.whole c.in_ok-first.ensures is));
     }

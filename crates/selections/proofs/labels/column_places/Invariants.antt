@@ -1,10 +1,6 @@
 use Rattle.{
-  std.proofs.Common.{◌≡◌, ◌<◌, drop, map, length, All},
-  meaning.specs.Operator.{cell_label},
-  table_meaning.specs.Table.{table_value},
-  form_meaning.specs.{Finish.{try_all}, Select.{column_place}},
-  frame_store.specs.Shown.{cells_value},
-  selections.proofs.PlaceLaws.{made_after, labels_seen},
+  form_parts.proofs.Common.{◌≡◌, ◌<◌, drop, map, length, All, cell_label, table_value, try_all, column_place, cells_value},
+  selections.proofs.HeadingLaws.{made_after, labels_seen},
 }
 use Rattle.selections.proofs.labels.column_places.Given as goal
 

@@ -1,6 +1,6 @@
 use Rattle.{
-  std.proofs.Common.{◌<◌, length, arith},
-  selections.{specs.Selected.{heading_of}, proofs.PickedLaws.{mapped_more}},
+  form_parts.proofs.Common.{◌<◌, length, arith},
+  selections.{specs.Selected.{heading_of}, proofs.CutLaws.{mapped_more}},
 }
 use Rattle.selections.proofs.labels.headings_at.Goals as goal
 

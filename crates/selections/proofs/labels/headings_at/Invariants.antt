@@ -1,5 +1,5 @@
 use Rattle.{
-  std.proofs.Common.{◌≡◌, take},
+  form_parts.proofs.Common.{◌≡◌, take},
   selections.specs.Selected.{headings_at},
 }
 use Rattle.selections.proofs.labels.headings_at.Given as goal

@@ -1,6 +1,6 @@
 use Rattle.{
-  std.proofs.Common.{◌≡◌, ◌∙◌, sym, true},
-  selections.proofs.PlaceLaws.{heading_settled, met_is},
+  form_parts.proofs.Common.{◌≡◌, ◌∙◌, sym, true},
+  selections.proofs.HeadingLaws.{heading_settled, met_is},
 }
 use Rattle.selections.proofs.labels.place_of_label.Goals as goal
 

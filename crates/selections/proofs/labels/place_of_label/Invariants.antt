@@ -1,9 +1,6 @@
 use Rattle.{
-  std.proofs.Common.{◌≡◌},
-  meaning.specs.Cell.{label_datum},
-  form_meaning.specs.Select.{place_of_label},
-  frame_store.specs.Shown.{headings_value},
-  selections.proofs.PlaceLaws.{place_from},
+  form_parts.proofs.Common.{◌≡◌, label_datum, place_of_label, headings_value},
+  selections.proofs.HeadingLaws.{place_from},
 }
 use Rattle.selections.proofs.labels.place_of_label.Given as goal
 

@@ -1,6 +1,6 @@
 use Rattle.{
-  frame_store.proofs.Settling.{object_settled},
-  selections.proofs.AnswerLaws.{own_name, own_labels},
+  form_parts.proofs.Common.{object_settled},
+  selections.proofs.CutLaws.{own_name, own_labels},
 }
 use Rattle.selections.proofs.new_objects.copied.Goals as goal
 

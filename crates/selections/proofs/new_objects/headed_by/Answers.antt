@@ -1,8 +1,6 @@
 use Rattle.{
-  std.{proofs.Common.{arith, ◌∙◌, ap}, specs.List.{range_with_len}},
-  table_meaning.specs.Table.{table_value},
-  frame_store.specs.Objects.{tables, table_at},
-  selections.{specs.Plans.{rows_in}, proofs.{PickedLaws.{read_is}, PlanLaws.{without_none}, TakenLaws.{taken_seen}, CutLaws.{whole_chosen}}},
+  form_parts.proofs.Common.{arith, ◌∙◌, ap, range_with_len, table_value, tables, table_at},
+  selections.{specs.Plans.{rows_in}, proofs.CutLaws.{read_is, without_none, taken_seen, whole_chosen}},
 }
 use Rattle.selections.proofs.new_objects.headed_by.Goals as goal
 

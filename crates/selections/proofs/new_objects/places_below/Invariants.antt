@@ -1,4 +1,4 @@
-use Rattle.std.{proofs.Common.{◌≡◌}, specs.List.{range_with_len}}
+use Rattle.form_parts.proofs.Common.{◌≡◌, range_with_len}
 use Rattle.selections.proofs.new_objects.places_below.Given as goal
 
 abbrev pub invariant-loop-place : goal.invariant-loop-place

@@ -1,7 +1,5 @@
 use Rattle.{
-  std.proofs.Common.{◌≡◌, drop, List},
-  meaning.specs.Text.{Text},
-  frame_store.specs.{Objects.{Tables}, Arguments.{items_of}},
+  form_parts.proofs.Common.{◌≡◌, drop, List, Text, Tables, items_of},
   selections.specs.Selected.{each_truth},
 }
 use Rattle.selections.proofs.planning.are_truths.Given as goal

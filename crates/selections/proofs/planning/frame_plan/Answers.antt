@@ -1,8 +1,4 @@
-use Rattle.{
-  std.proofs.Common.{arith, ◌≡◌},
-  table_meaning.specs.Settled.{IsSettled},
-  frame_store.specs.{Objects.{tables}, Arguments.{subscript_of}, World.{world, IsKnownSubscript}, declared.arguments.{Argument.{One, Many}, Subscript.TheVariants.{Key}}},
-}
+use Rattle.form_parts.proofs.Common.{arith, ◌≡◌, IsSettled, tables, subscript_of, world, IsKnownSubscript, One, Many, Key}
 use Rattle.selections.proofs.planning.frame_plan.Goals as goal
 
 pub value_plan-requires-clause-value : goal.value_plan-requires-clause-value

@@ -1,7 +1,6 @@
 use Rattle.{
-  std.{proofs.Common.{arith, ap, sym, ◌∙◌}, specs.Option.{option_map}},
-  frame_store.specs.{Arguments.{items_of}, Shown.{cells_value}},
-  selections.proofs.BracketLaws.{scalars_settled, list_planned},
+  form_parts.proofs.Common.{arith, ap, sym, ◌∙◌, length-map, option_map, cells_value},
+  selections.proofs.HeadingLaws.{scalars_settled},
 }
 use Rattle.selections.proofs.planning.list_plan.Goals as goal
 
@@ -10,6 +9,4 @@ column_places-requires-clause-cells c =
     scalars_settled _ _ _ _ (λ texts. ap (option_map (cells_value texts)) (sym c.in-Some.is) ∙ c.in_ok-cells.ensures _ texts) c.requires.items.1
 
 pub returns-in_ok-places-in-Some-clause-plan : goal.returns-in_ok-places-in-Some-clause-plan
-returns-in_ok-places-in-Some-clause-plan c = λ live.
-    list_planned _ _ _ c.whole_columns.ensures.rows (items_of live c.args.dict.now c.args.items.now) _ _
-    (grind arith) c.in_ok-places-in-Some.ensures.answer c.whole_columns.ensures.columns c.whole_columns.ensures.form
+returns-in_ok-places-in-Some-clause-plan c = λ live. grind (arith, length-map)

@@ -1,9 +1,7 @@
 use Rattle.{
-  std.proofs.Common.{arith},
-  table_meaning.specs.Table.{table_value},
+  form_parts.proofs.Common.{arith, table_value, tables, object_value},
   select_meaning.specs.Keys.{mask_pick},
-  frame_store.specs.{Objects.{tables}, Arguments.{object_value}},
-  selections.proofs.{PlanLaws.{reached_plan}, ReachLaws.{reach_frame}},
+  selections.proofs.{CutLaws.{reached_plan}, ReachLaws.{reach_frame}},
 }
 use Rattle.selections.proofs.planning.mask_plan.Goals as goal
 

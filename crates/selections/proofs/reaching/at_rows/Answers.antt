@@ -1,6 +1,5 @@
 use Rattle.{
-  std.proofs.{Common.{arith}, lemmas.Result.{err_from_is_err_and}},
-  frame_store.specs.Arguments.{subscript_of},
+  form_parts.proofs.Common.{arith, err_from_is_err_and, subscript_of},
   selections.proofs.ReachLaws.{at_refused, at_found, at_repeated},
 }
 use Rattle.selections.proofs.reaching.at_rows.Goals as goal

@@ -1,16 +1,15 @@
 use Rattle.{
-  std.proofs.{Math.Seq.{take-length}, Common.{◌≡◌, ◌∙◌, ◌<◌, arith, length, subst, sym}},
-  multi_index.specs.Axes.{HaveLevels},
-  selections.proofs.{ReachLaws.{axis_levels, heading_more}, reaching.columns_axis.Goals.{in-Some+in_ok-push, in_default}},
+  form_parts.proofs.Common.{◌≡◌, ◌∙◌, arith, length, subst, sym, None, ap, slice_get_within, slice_index_or, HaveLevels},
+  std.proofs.Math.Seq.{take-length},
+  selections.{proofs.{ReachLaws.{axis_levels}, reaching.columns_axis.Goals.{in-Some+in_ok-push, in_default}, CutLaws.{mapped_more}}, specs.Reaches.{heading_tuple}},
 }
 use Rattle.selections.proofs.reaching.columns_axis.Goals as goal
 
 pub loop-k-preserved : goal.loop-k-preserved
 loop-k-preserved c =
-    let lt : c.loop-k.k < length c.args.places.now = omega arith in
     elim c.match-heading.branch [
-      | in-Some+in_ok-push w ↦ heading_more _ _ _ _ _ _ _ _ lt c.at.ensures
-          (sym c.heading.ensures.value ∙ w.in-Some.is) w.of.ensures c.loop-k.invariant (w.labels-is ∙ w.in_ok-push.ensures.ok)
+      | in-Some+in_ok-push w ↦ mapped_more (λ place. heading_tuple (slice_index_or c.args.on.now.headings place None)) _ _ _ _ _ _ (slice_get_within _ _ _ c.at.ensures) c.at.ensures
+          (w.of.ensures ∙ ap heading_tuple (sym w.in-Some.is ∙ c.heading.ensures.value)) c.loop-k.invariant (w.labels-is ∙ w.in_ok-push.ensures.ok)
       | in_default w ↦ grind arith
     ]
 

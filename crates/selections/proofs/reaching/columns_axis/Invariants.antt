@@ -1,5 +1,5 @@
 use Rattle.{
-  std.proofs.Common.{◌≡◌, take},
+  form_parts.proofs.Common.{◌≡◌, take},
   selections.proofs.ReachLaws.{heading_tuples},
 }
 use Rattle.selections.proofs.reaching.columns_axis.Given as goal

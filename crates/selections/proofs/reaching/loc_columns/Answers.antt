@@ -1,7 +1,6 @@
 use Rattle.{
-  std.proofs.Common.{arith, length},
-  frame_store.{specs.Arguments.{subscript_of}, proofs.Settling.{headings_part}},
-  selections.proofs.ReachLaws.{axis_given, columns_found, axis_count},
+  form_parts.proofs.Common.{arith, length-map, length-range_with_len, subscript_of, headings_part},
+  selections.proofs.ReachLaws.{axis_given, columns_found},
 }
 use Rattle.selections.proofs.reaching.loc_columns.Goals as goal
 
@@ -15,4 +14,4 @@ returns-clause-columns c = λ live settled.
     c.in_ok-axis.ensures (grind arith) (c.in_ok-key.ensures.key live)
 
 pub returns-clause-within : goal.returns-clause-within
-returns-clause-within c = grind (arith, axis_count c.args.on.now.headings c.in_ok-places_below.field-0 (length c.args.on.now.columns) (grind arith))
+returns-clause-within = grind (arith, length-map, length-range_with_len)

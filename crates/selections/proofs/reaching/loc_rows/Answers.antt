@@ -1,7 +1,5 @@
 use Rattle.{
-  std.proofs.Common.{arith, ◌∙◌, ap, length},
-  multi_index.specs.Axes.{AxisValue},
-  frame_store.specs.{Objects.{tables}, Arguments.{subscript_of}},
+  form_parts.proofs.Common.{arith, ◌∙◌, ap, length, AxisValue, tables, subscript_of},
   selections.proofs.ReachLaws.{loc_found},
 }
 use Rattle.selections.proofs.reaching.loc_rows.Goals as goal

@@ -1,5 +1,5 @@
 use Rattle.{
-  std.proofs.{Common.{rules}, lemmas.Result.{err_from_is_err_and}},
+  form_parts.proofs.Common.{rules, err_from_is_err_and},
   selections.proofs.ReachLaws.{mask_made},
 }
 use Rattle.selections.proofs.reaching.mask_rows.Goals as goal

@@ -1,7 +1,4 @@
-use Rattle.{
-  std.proofs.Common.{arith},
-  frame_store.specs.Objects.{tables},
-}
+use Rattle.form_parts.proofs.Common.{arith, tables}
 use Rattle.selections.proofs.reaching.rows_by_two.Goals as goal
 
 pub rows_by-requires-clause-key : goal.rows_by-requires-clause-key

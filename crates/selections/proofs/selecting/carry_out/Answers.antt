@@ -1,11 +1,9 @@
 use Rattle.{
-  std.proofs.Common.{arith, refl, ◌∷◌, [], ap},
-  table_meaning.specs.Table.{table_value},
+  form_parts.proofs.Common.{arith, refl, ◌∷◌, [], ap, table_value, tables, longer_self, object_settled},
   select_meaning.specs.Select.{cut, row_result},
-  frame_store.{specs.Objects.{tables}, proofs.Settling.{longer_self, object_settled}},
-  selections.{specs.Plans.{has_single_row}, proofs.{PlanLaws.{only_place}, CarryLaws.{plan_meant, cell_made}}},
+  selections.{specs.Plans.{has_single_row}, proofs.CutLaws.{only_place, plan_meant, cell_made}},
 }
-use Rattle.selections.specs.declared.planning.Form.TheVariants as answer
+use Rattle.selections.specs.declared.planning.Extent.TheVariants as answer
 use Rattle.selections.proofs.selecting.carry_out.Goals as goal
 
 pub row_series-series-requires-clause-known : goal.row_series-series-requires-clause-known

@@ -1,9 +1,7 @@
 use Rattle.{
-  std.proofs.Common.{arith, ◌<◌, ℕ, List, subst, length, All},
-  table_meaning.specs.{Table.{NumberedTable, table_value}, Valid.{IsWhole}},
-  frame_store.specs.Objects.{tables, table_at},
+  form_parts.proofs.Common.{arith, ◌<◌, ℕ, List, subst, length, All, NumberedTable, table_value, IsWhole, tables, table_at},
   select_meaning.specs.Select.{cut},
-  selections.{specs.Plans.{rows_in, TakesAll}, proofs.{PickedLaws.{read_is}, PlanLaws.{without_none}, CutLaws.{all_rows_cut}}},
+  selections.{specs.Plans.{rows_in, TakesAll}, proofs.CutLaws.{read_is, without_none, all_rows_cut}},
 }
 use Rattle.selections.proofs.selecting.columns_of.Goals as goal
 

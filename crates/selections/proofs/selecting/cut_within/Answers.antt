@@ -1,8 +1,6 @@
 use Rattle.{
-  std.proofs.Common.{arith, rules, ◌≡◌, true, length, Err},
-  form_meaning.specs.Finish.{within_limits},
-  frame_store.{specs.declared.fault.OpFault.TheVariants.{NoMemory}, proofs.Settling.{longer_self}},
-  selections.{specs.Plans.{rows_in}, proofs.TakenLaws.{taken_answers}},
+  form_parts.proofs.Common.{arith, rules, ◌≡◌, true, length, Err, length-map, within_limits, NoMemory, table_at, tables, longer_self, settled_with},
+  selections.{specs.Plans.{rows_in}, proofs.CutLaws.{new_answers, table_is_settled, taken_seen, taken_settled}},
 }
 use Rattle.selections.proofs.selecting.cut_within.Goals as goal
 
@@ -13,5 +11,8 @@ returns-in_err-id c = λ texts settled given.
 
 pub returns : goal.returns
 returns c = λ texts settled given.
-    let within : within_limits (length (rows_in c.args.rows.now)) (length c.args.columns.now) ≡ true = search rules in
-    taken_answers texts c.args.store.now c.make_taken.new.store c.args.on.0 _ c.args.shape _ _ _ c.requires.live c.in_ok-id.ensures.fresh c.in_ok-id.ensures.ok within settled given
+    let within : within_limits (length (rows_in c.args.rows.now)) (length c.args.columns.now) ≡ true = search rules in (
+      new_answers _ _ _ _ _ _ c.in_ok-id.ensures.fresh c.in_ok-id.ensures.ok settled (grind (arith, taken_seen texts c.args.shape c.args.headings c.args.rows.now c.args.columns.now (table_at (tables c.args.store.now) c.args.on.0), length-map)),
+      longer_self texts,
+      settled_with _ _ _ _ _ settled (taken_settled texts c.args.shape _ c.args.rows.now _ (table_at (tables c.args.store.now) c.args.on.0) (table_is_settled _ _ _ c.requires.live settled) given) c.in_ok-id.ensures.ok,
+    )

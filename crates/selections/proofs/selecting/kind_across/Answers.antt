@@ -1,13 +1,11 @@
 use Rattle.{
-  std.{specs.Prelude.{◌≢◌}, proofs.Common.{rules, ◌≡◌, ◌<◌, length, arith}},
-  selections.proofs.RowLaws.{first_kind, kinds_refused, kinds_more, kind_later, other_kind, same_next, first_is, kinds_done},
+  form_parts.proofs.Common.{◌≢◌, rules, ◌≡◌, ◌<◌, length, arith},
+  selections.proofs.CutLaws.{first_kind, kinds_refused, kinds_more, kind_later, other_kind, same_next, first_is, kinds_done},
 }
 use Rattle.selections.proofs.selecting.kind_across.Goals as goal
 
 pub returns-then-ne-clause-kind : goal.returns-then-ne-clause-kind
 returns-then-ne-clause-kind c = λ texts.
-    let places = c.args.columns.now in
-    let lt : c.loop-k.k < length places = omega arith in
     let some : 0 < c.loop-k.k = search in
     let apart : c.kind-next.result ≢ c.loop-k.kind = search rules in
     rw c.wrong_kind.ensures (search (kinds_refused, other_kind, kind_later))

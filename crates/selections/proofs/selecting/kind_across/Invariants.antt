@@ -1,6 +1,6 @@
 use Rattle.{
-  std.proofs.Common.{◌≡◌, drop},
-  selections.proofs.RowLaws.{first_kind, kind_after, all_of},
+  form_parts.proofs.Common.{◌≡◌, drop},
+  selections.proofs.CutLaws.{first_kind, kind_after, all_of},
 }
 use Rattle.selections.proofs.selecting.kind_across.Given as goal
 

@@ -1,7 +1,6 @@
 use Rattle.{
-  std.proofs.Common.{arith},
-  selections.proofs.TakenLaws.{cut_is_chosen},
-  frame_store.specs.Objects.{tables, table_at},
+  form_parts.proofs.Common.{arith, tables, table_at},
+  selections.proofs.CutLaws.{cut_is_chosen},
 }
 use Rattle.selections.proofs.selecting.make_taken.Goals as goal
 

@@ -1,5 +1,5 @@
 use Rattle.{
-  std.proofs.Common.{◌≡◌, take},
+  form_parts.proofs.Common.{◌≡◌, take},
   selections.specs.Across.{cells_across},
 }
 use Rattle.selections.proofs.selecting.row_cells.Given as goal

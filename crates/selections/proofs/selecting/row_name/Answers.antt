@@ -1,6 +1,6 @@
 use Rattle.{
-  std.proofs.Common.{arith},
-  selections.proofs.SeriesLaws.{label_first, name_of_one, name_of_several},
+  form_parts.proofs.Common.{arith},
+  selections.proofs.CutLaws.{label_first, name_of_one, name_of_several},
 }
 use Rattle.selections.proofs.selecting.row_name.Goals as goal
 

@@ -1,7 +1,6 @@
 use Rattle.{
-  std.proofs.{Common.{arith, rules, ◌≡◌, refl, true, false, length}, lemmas.Result.{err_from_is_err_and}},
-  form_meaning.specs.Finish.{within_limits},
-  selections.proofs.SeriesLaws.{row_made, row_beyond, row_refused},
+  form_parts.proofs.Common.{arith, rules, ◌≡◌, refl, true, false, length, err_from_is_err_and, within_limits},
+  selections.proofs.CutLaws.{row_made, row_beyond, row_refused},
 }
 use Rattle.selections.proofs.selecting.row_series.Goals as goal
 

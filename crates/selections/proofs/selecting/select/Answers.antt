@@ -1,7 +1,7 @@
 use Rattle.{
-  std.specs.Option.{option_map},
-  frame_store.{specs.World.{world, subscript_in}, proofs.Settling.{object_settled}},
-  selections.{specs.Selected.{way_of}, proofs.CarryLaws.{select_made}},
+  form_parts.proofs.Common.{option_map, world, object_settled},
+  frame_store.specs.World.{subscript_in},
+  selections.{specs.Selected.{way_of}, proofs.CutLaws.{select_made}},
 }
 use Rattle.selections.proofs.selecting.select.Goals as goal
 

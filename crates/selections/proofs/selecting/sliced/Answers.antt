@@ -1,19 +1,12 @@
 use Rattle.{
-  std.{proofs.Common.{arith, ◌≡◌, ◌∙◌, ap}, specs.List.{range_with_len}},
-  cell_core.specs.declared.grid.Shape.{Shape},
+  form_parts.proofs.Common.{arith, ◌≡◌, ◌∙◌, ap, range_with_len, Shape, NumberedTable, table_value, limited, tables, table_at},
   pick_meaning.specs.Rows.{rows_of},
-  table_meaning.specs.Table.{NumberedTable, table_value},
-  form_meaning.specs.Finish.{limited},
-  frame_store.specs.Objects.{tables, table_at},
-  selections.{specs.Chosen.{chosen}, proofs.{AnswerLaws.{table_is_settled}, PickedLaws.{read_is}, CutLaws.{own_headings, all_taken, own_given}, TakenLaws.{chosen_rows}}},
+  selections.{specs.Chosen.{chosen}, proofs.CutLaws.{table_is_settled, read_is, own_headings, own_given, chosen_rows, places_count, places_inside}},
 }
 use Rattle.selections.proofs.selecting.sliced.Goals as goal
 
 pub cut_within-requires-clause-taken : goal.cut_within-requires-clause-taken
-cut_within-requires-clause-taken c =
-    let t = table_at (tables c.args.store.now) c.args.on.0 in
-    let own : c.in_ok-headings.headings ≡ own_headings t = grind arith in
-    all_taken _ t _ _ _ (grind arith) (grind arith) c.requires.rows own (c.in_ok-columns.ensures ∙ ap (range_with_len 0) (grind arith))
+cut_within-requires-clause-taken c = grind (arith, places_inside, places_count, read_is)
 
 pub returns : goal.returns
 returns c = λ texts settled.

@@ -1,6 +1,6 @@
 use Rattle.{
-  std.{proofs.Common.{◌≡◌, map}, specs.List.{range_with_len}},
-  cell_core.specs.Grids.{place_from},
+  form_parts.proofs.Common.{◌≡◌, map, range_with_len},
+  meaning.proofs.Common.{place_from},
 }
 use Rattle.selections.proofs.selecting.sliced_axis.Given as goal
 

@@ -1,8 +1,6 @@
 use Rattle.{
-  std.proofs.Common.{◌≡◌, length, List},
-  meaning.specs.Text.{Text},
-  frame_store.specs.{Objects.{Tables}, Arguments.{items_of}},
-  selections.{specs.Selected.{scalars_in}, proofs.SubscriptLaws.{scalars_after}},
+  form_parts.proofs.Common.{◌≡◌, length, List, Text, Tables, items_of},
+  selections.{specs.Selected.{scalars_in}, proofs.HeadingLaws.{scalars_after}},
 }
 use Rattle.selections.proofs.subscripts.scalars_of.Given as goal
 

@@ -1,6 +1,5 @@
 use Rattle.{
-  std.proofs.Common.{◌≡◌, map, take, All},
-  frame_store.specs.Parts.{block_column, IsSingle},
+  form_parts.proofs.Common.{◌≡◌, map, take, All, block_column, IsSingle},
   selections.specs.Chosen.{columns_at},
 }
 use Rattle.selections.proofs.taking.chosen_blocks.Given as goal

@@ -1,8 +1,8 @@
 use Rattle.{
-  std.proofs.Common.{arith},
-  cell_core.specs.declared.cell.Kind.TheVariants.{Int64, Boolean, Text},
+  form_parts.proofs.Common.{arith, Int64, Boolean},
+  cell_core.specs.declared.cell.Kind.TheVariants.{Text},
   column_core.{specs.{Columns.{number_cell, truth_cell, text_cell}, Lanes.{lane_row}}, proofs.ColumnLaws.{length-column}},
-  selections.proofs.TakeLaws.{chosen_seen},
+  selections.proofs.CutLaws.{chosen_seen},
 }
 use Rattle.selections.proofs.taking.chosen_column.Goals as goal
 

@@ -1,6 +1,5 @@
 use Rattle.{
-  std.proofs.Common.{arith, length, refl, All},
-  column_core.specs.{Columns.{CellColumn}, Moves.{IsPlaceOf}},
+  form_parts.proofs.Common.{arith, length, refl, All, CellColumn, IsPlaceOf},
   settings.proofs.{AlignLaws.{taken_given}, PutCases.{column_is_given, has_column, taken_column}},
 }
 use Rattle.settings.proofs.aligning.aligned_cells.Goals as goal

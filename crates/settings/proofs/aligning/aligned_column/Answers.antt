@@ -1,11 +1,7 @@
 use Rattle.{
+  form_parts.proofs.Common.{arith, ◌≡◌, ◌∙◌, length, true, ap, Ok, All, length-map, IsPlaceOf, same_tuples, table_value, labels_value},
   selections.proofs.AnswerLaws.{column_seen as first_column},
   settings.proofs.{PutCases.{column_is_given, has_column, own_cells, series_column, taken_column}, AlignLaws.{own_column, taken_given}},
-  std.proofs.{Common.{arith, ◌≡◌, ◌∙◌, length, true, ap, Ok, All}, lemmas.List.{length-map}},
-  column_core.specs.Moves.{IsPlaceOf},
-  form_meaning.specs.Infix.{same_tuples},
-  table_meaning.specs.Table.{table_value},
-  frame_store.specs.Shown.{labels_value},
 }
 use Rattle.settings.proofs.aligning.aligned_column.Goals as goal
 

@@ -1,5 +1,5 @@
 use Rattle.{
-  std.proofs.Common.{◌<◌, length, arith},
+  form_parts.proofs.Common.{◌<◌, length, arith},
   settings.proofs.AlignLaws.{gap_more},
 }
 use Rattle.settings.proofs.aligning.cells_at.Goals as goal

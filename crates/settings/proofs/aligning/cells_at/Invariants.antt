@@ -1,8 +1,4 @@
-use Rattle.{
-  std.proofs.Common.{◌≡◌, take},
-  cell_core.specs.declared.cell.Cell.TheVariants.{Na},
-  meaning.specs.Column.{taken},
-}
+use Rattle.form_parts.proofs.Common.{◌≡◌, take, Na, taken}
 use Rattle.settings.proofs.aligning.cells_at.Given as goal
 
 -- the cells so far

@@ -1,7 +1,6 @@
 use Rattle.{
-  std.proofs.{Common.{arith}, lemmas.Result.{err_from_is_err_and}},
+  form_parts.proofs.Common.{arith, err_from_is_err_and, tables, entry_of, subscript_of, world, object_settled},
   select_meaning.specs.Set.{assign_result},
-  frame_store.{specs.{Objects.{tables}, Arguments.{entry_of, subscript_of}, World.{world}}, proofs.Settling.{object_settled}},
   selections.specs.Selected.{way_of},
   settings.{specs.Assigned.{new_value, second_in}, proofs.SetLaws.{assign_set, set_left}},
 }

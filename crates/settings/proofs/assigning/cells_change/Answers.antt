@@ -1,7 +1,5 @@
 use Rattle.{
-  std.proofs.{Common.{refl}, lemmas.Result.{err_from_is_err_and}},
-  table_meaning.specs.Table.{table_value},
-  frame_store.specs.{Objects.{tables}, Shown.{cells_value}},
+  form_parts.proofs.Common.{refl, err_from_is_err_and, table_value, tables, cells_value},
   selections.specs.Reaches.{accessor_of},
   settings.{specs.{Grown.{grown_table}, Values.{value_in}}, proofs.{CellLaws.{fit_held, grown_settled, has_kinds, not_lacking, set_beyond, set_given, set_misfits, set_within}, SetLaws.{part_refused, refused_by}}},
 }

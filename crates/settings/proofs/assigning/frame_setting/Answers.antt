@@ -1,8 +1,6 @@
 use Rattle.{
-  std.proofs.Common.{arith, ◌≡◌, Ok},
-  table_meaning.specs.Value.{one, table},
+  form_parts.proofs.Common.{arith, ◌≡◌, Ok, one, table, tables, object_value},
   select_meaning.specs.Set.{set_value},
-  frame_store.specs.{Objects.{tables}, Arguments.{object_value}},
   settings.{specs.Values.{value_in}, proofs.{MoveLaws.{series_shape}, SetLaws.{key_label_settled}}},
 }
 use Rattle.settings.proofs.assigning.frame_setting.Goals as goal

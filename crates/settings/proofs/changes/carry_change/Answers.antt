@@ -1,6 +1,6 @@
 use Rattle.{
-  std.{proofs.Common.{arith, ◌∙◌, ap}, specs.Prelude.{is_some}},
-  frame_store.specs.Objects.{tables},
+  form_parts.proofs.Common.{arith, ◌∙◌, ap, tables},
+  meaning.proofs.Common.{is_some},
   settings.proofs.PutLaws.{another, kept_there, table_there, replaced},
 }
 use Rattle.settings.proofs.changes.carry_change.Goals as goal

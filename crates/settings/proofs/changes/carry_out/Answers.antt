@@ -1,6 +1,5 @@
 use Rattle.{
-  std.proofs.Common.{arith},
-  frame_store.specs.Objects.{tables, table_at},
+  form_parts.proofs.Common.{arith, tables, table_at},
   settings.{specs.Changes.{changed}, proofs.MoveLaws.{ended_beside, others_kept}},
 }
 use Rattle.settings.proofs.changes.carry_out.Goals as goal

@@ -1,6 +1,5 @@
 use Rattle.{
-  std.proofs.Common.{◌∙◌, ◌<◌, length, ap, arith},
-  meaning.specs.Cell.{datum, holds},
+  form_parts.proofs.Common.{◌∙◌, ◌<◌, length, ap, arith, datum, holds},
   settings.proofs.ColumnLaws.{cell_passes, one_pushed},
 }
 use Rattle.settings.proofs.columns.column_of.Goals as goal

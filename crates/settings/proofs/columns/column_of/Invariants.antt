@@ -1,4 +1,4 @@
-use Rattle.std.proofs.Common.{◌≡◌, take}
+use Rattle.form_parts.proofs.Common.{◌≡◌, take}
 use Rattle.settings.proofs.columns.column_of.Given as goal
 
 -- the cells so far

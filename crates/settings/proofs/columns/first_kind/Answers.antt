@@ -1,5 +1,5 @@
 use Rattle.{
-  std.proofs.Common.{◌<◌, length, arith},
+  form_parts.proofs.Common.{◌<◌, length, arith},
   settings.proofs.ColumnLaws.{kind_met, kind_passed, no_kind},
 }
 use Rattle.settings.proofs.columns.first_kind.Goals as goal

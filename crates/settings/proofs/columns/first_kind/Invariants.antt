@@ -1,6 +1,5 @@
 use Rattle.{
-  std.proofs.Common.{◌≡◌, List},
-  meaning.specs.Text.{Text},
+  form_parts.proofs.Common.{◌≡◌, List, Text},
   settings.proofs.ColumnLaws.{kind_from},
 }
 use Rattle.settings.proofs.columns.first_kind.Given as goal

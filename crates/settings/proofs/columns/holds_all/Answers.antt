@@ -1,6 +1,5 @@
 use Rattle.{
-  std.proofs.Common.{◌≡◌, ◌<◌, length, true, false, arith, rules},
-  meaning.specs.Cell.{holds},
+  form_parts.proofs.Common.{◌≡◌, ◌<◌, length, true, false, arith, rules, holds},
   selections.proofs.SubscriptLaws.{test_passed, test_failed, tests_done},
 }
 use Rattle.settings.proofs.columns.holds_all.Goals as goal

@@ -1,6 +1,5 @@
 use Rattle.{
-  std.proofs.Common.{◌≡◌, List},
-  meaning.specs.{Text.{Text}, Cell.{holds}},
+  form_parts.proofs.Common.{◌≡◌, List, Text, holds},
   selections.proofs.SubscriptLaws.{all_from},
 }
 use Rattle.settings.proofs.columns.holds_all.Given as goal

@@ -1,4 +1,4 @@
-use Rattle.std.proofs.Common.{arith}
+use Rattle.form_parts.proofs.Common.{arith}
 use Rattle.settings.proofs.columns.list_column.Goals as goal
 
 pub returns-clause-answer : goal.returns-clause-answer

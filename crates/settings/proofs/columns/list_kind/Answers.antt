@@ -1,4 +1,4 @@
-use Rattle.std.proofs.Common.{arith, ◌≡◌, ◌∙◌, sym, true, rules}
+use Rattle.form_parts.proofs.Common.{arith, ◌≡◌, ◌∙◌, sym, true, rules}
 use Rattle.settings.proofs.columns.list_kind.Goals as goal
 
 pub returns-then-not-holds_all-clause-answer : goal.returns-then-not-holds_all-clause-answer

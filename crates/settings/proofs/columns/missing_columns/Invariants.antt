@@ -1,6 +1,5 @@
 use Rattle.{
-  std.proofs.Common.{◌≡◌, map, take, All},
-  frame_store.specs.Parts.{block_column, IsSingle},
+  form_parts.proofs.Common.{◌≡◌, map, take, All, block_column, IsSingle},
   settings.specs.Assigned.{missing_cells},
 }
 use Rattle.settings.proofs.columns.missing_columns.Given as goal

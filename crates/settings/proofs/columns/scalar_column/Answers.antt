@@ -1,5 +1,6 @@
 use Rattle.{
-  std.proofs.{Common.{◌∙◌, sym}, lemmas.Result.{IfOk-weaker}},
+  form_parts.proofs.Common.{◌∙◌, sym},
+  meaning.proofs.Common.{IfOk-weaker},
   settings.proofs.ColumnLaws.{scalar_is},
 }
 use Rattle.settings.proofs.columns.scalar_column.Goals as goal

@@ -1,5 +1,5 @@
 use Rattle.{
-  std.proofs.Common.{◌<◌, length, arith},
+  form_parts.proofs.Common.{◌<◌, length, arith},
   settings.proofs.FillLaws.{cell_more},
 }
 use Rattle.settings.proofs.filling.cells_of.Goals as goal

@@ -1,5 +1,5 @@
 use Rattle.{
-  std.proofs.Common.{◌≡◌, ◌<◌, length, arith, true, false, rules},
+  form_parts.proofs.Common.{◌≡◌, ◌<◌, length, arith, true, false, rules},
   settings.proofs.FillLaws.{fit_done, fit_fails, fit_more, kind_is},
 }
 use Rattle.settings.proofs.filling.expect_fit.Goals as goal

@@ -1,9 +1,6 @@
 use Rattle.{
-  std.proofs.Common.{◌≡◌, List, drop},
-  meaning.specs.Text.{Text},
-  table_meaning.specs.Table.{Table},
+  form_parts.proofs.Common.{◌≡◌, List, drop, Text, Table, cells_value},
   select_meaning.specs.Set.{fit_from},
-  frame_store.specs.Shown.{cells_value},
   settings.specs.Values.{HasKinds},
 }
 use Rattle.settings.proofs.filling.expect_fit.Given as goal

@@ -1,8 +1,6 @@
 use Rattle.{
-  std.proofs.Common.{sym, subst},
+  form_parts.proofs.Common.{sym, subst, MakesBy, tables},
   select_meaning.specs.Set.{kind_of_value},
-  form_parts.specs.Makes.{MakesBy},
-  frame_store.specs.Objects.{tables},
   selections.specs.Selected.{as_it_is},
   settings.{specs.Values.{value_in}, proofs.FillLaws.{kind_listed}},
 }

@@ -1,4 +1,4 @@
-use Rattle.std.proofs.Common.{◌≡◌, replicate}
+use Rattle.form_parts.proofs.Common.{◌≡◌, replicate}
 use Rattle.settings.proofs.filling.repeated.Given as goal
 
 -- the cells so far

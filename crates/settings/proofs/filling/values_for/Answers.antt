@@ -1,6 +1,5 @@
 use Rattle.{
-  std.proofs.{lemmas.{Bool.Decides.{nat_tests}, List.{length-map}}, Common.{◌≡◌, ap, arith, length}},
-  frame_store.{specs.Shown.{cells_value}, proofs.Settling.{object_settled}},
+  form_parts.proofs.Common.{nat_tests, length-map, ◌≡◌, ap, arith, length, cells_value, object_settled},
   settings.proofs.PutCases.{filled_given, listed_given, same_settled},
 }
 use Rattle.settings.proofs.filling.values_for.Goals as goal

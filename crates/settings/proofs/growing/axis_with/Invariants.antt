@@ -1,4 +1,4 @@
-use Rattle.std.proofs.Common.{◌≡◌, take}
+use Rattle.form_parts.proofs.Common.{◌≡◌, take}
 use Rattle.settings.proofs.growing.axis_with.Given as goal
 
 -- the labels so far

@@ -1,6 +1,5 @@
 use Rattle.{
-  std.proofs.Common.{◌≡◌, map, take, All},
-  frame_store.specs.Parts.{block_column, IsSingle},
+  form_parts.proofs.Common.{◌≡◌, map, take, All, block_column, IsSingle},
   settings.specs.Grown.{with_gap},
 }
 use Rattle.settings.proofs.growing.columns_with_gap.Given as goal

@@ -1,5 +1,5 @@
 use Rattle.{
-  std.proofs.{lemmas.List.{length-set}, Common.{◌<◌, length, arith}},
+  form_parts.proofs.Common.{length-set, ◌<◌, length, arith},
   settings.proofs.GrowLaws.{put_keeps, put_kind, put_more},
 }
 use Rattle.settings.proofs.growing.new_column.Goals as goal

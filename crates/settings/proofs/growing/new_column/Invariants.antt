@@ -1,7 +1,5 @@
 use Rattle.{
-  std.proofs.Common.{◌≡◌, [], ◌∷◌, length, drop},
-  table_meaning.specs.Change.{with_values_from},
-  frame_store.specs.Parts.{block_column, IsSingle},
+  form_parts.proofs.Common.{◌≡◌, [], ◌∷◌, length, drop, with_values_from, block_column, IsSingle},
   settings.specs.Grown.{missing_column},
 }
 use Rattle.settings.proofs.growing.new_column.Given as goal

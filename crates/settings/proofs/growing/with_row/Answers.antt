@@ -1,6 +1,5 @@
 use Rattle.{
-  std.proofs.Common.{arith, subst},
-  table_meaning.specs.Valid.{IsWhole},
+  form_parts.proofs.Common.{arith, subst, IsWhole},
   settings.proofs.GrowLaws.{row_is_whole},
 }
 use Rattle.settings.proofs.growing.with_row.Goals as goal

@@ -1,7 +1,5 @@
 use Rattle.{
-  std.proofs.{Common.{sym, subst}, lemmas.Result.{err_from_is_err_and}},
-  meaning.specs.Cell.{AreGiven},
-  frame_store.proofs.Settling.{object_settled},
+  form_parts.proofs.Common.{sym, subst, err_from_is_err_and, AreGiven, object_settled},
   settings.{specs.Assigned.{column_seen}, proofs.{PutCases.{filled_given, listed_given, same_settled}, SetLaws.{part_refused}}},
 }
 use Rattle.settings.proofs.putting.column_change.Goals as goal

@@ -1,7 +1,5 @@
 use Rattle.{
-  std.proofs.Common.{arith, ◌≡◌, ap, Some},
-  table_meaning.specs.Change.{with_column},
-  frame_store.specs.Parts.{block_column},
+  form_parts.proofs.Common.{arith, ◌≡◌, ap, Some, with_column, block_column},
   settings.{specs.Assigned.{table_column}, proofs.PutLaws.{put_meant, put_settled}},
 }
 use Rattle.settings.proofs.putting.put_change.Goals as goal

@@ -1,7 +1,5 @@
 use Rattle.{
-  std.proofs.Common.{◌≡◌, ◌<◌, arith, length},
-  meaning.specs.Cell.{label_datum},
-  frame_store.{specs.Parts.{axis_of}, proofs.Settling.{labels_part, level_names_part}},
+  form_parts.proofs.Common.{◌≡◌, ◌<◌, arith, length, label_datum, axis_of, labels_part, level_names_part},
   settings.proofs.PutCases.{column_is_given, has_column, rows_given, rows_meant, series_column, series_rows},
 }
 use Rattle.settings.proofs.putting.series_change.Goals as goal

@@ -1,9 +1,6 @@
 use Rattle.{
+  form_parts.proofs.Common.{err_from_is_err_and, arith, ◌≡◌, sym, subst, true, rules, IsSettled, same_tuples, tables, table_at, labels_value, IsKnownTable, labels_part, object_settled},
   settings.proofs.{PutCases.{series_fits, own_cells}, PutLaws.{put_seen, put_there}, MoveLaws.{move_meant, move_settled}, SetLaws.{part_refused}},
-  std.proofs.{lemmas.Result.{err_from_is_err_and}, Common.{arith, ◌≡◌, sym, subst, true, rules}},
-  table_meaning.specs.Settled.{IsSettled},
-  form_meaning.specs.Infix.{same_tuples},
-  frame_store.{specs.{Objects.{tables, table_at}, Shown.{labels_value}, World.{IsKnownTable}}, proofs.Settling.{labels_part, object_settled}},
 }
 use Rattle.settings.proofs.putting.series_setting.Goals as goal
 

@@ -1,8 +1,6 @@
 use Rattle.{
-  std.proofs.{Common.{◌≡◌, rules}, lemmas.Result.{err_from_is_err_and}},
-  cell_core.specs.declared.grid.Shape.TheVariants.{Frame},
+  form_parts.proofs.Common.{◌≡◌, rules, err_from_is_err_and, Frame, entry_of, tables, headings_part, object_settled},
   select_meaning.specs.Set.{removal_result},
-  frame_store.{specs.{Arguments.{entry_of}, Objects.{tables}}, proofs.Settling.{headings_part, object_settled}},
   settings.proofs.SetLaws.{entry_label_settled, removal_set, set_left},
 }
 use Rattle.settings.proofs.removing.remove.Goals as goal

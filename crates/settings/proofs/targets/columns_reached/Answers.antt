@@ -1,10 +1,6 @@
 use Rattle.{
-  std.proofs.{lemmas.List.{length-map}, Common.{arith, ◌≡◌, subst, length}},
-  table_meaning.specs.Table.{table_value, heading_value},
-  form_meaning.specs.Finish.{column_labels},
+  form_parts.proofs.Common.{length-map, arith, ◌≡◌, subst, length, table_value, heading_value, column_labels, MakesBy, subscript_of, settled_by},
   select_meaning.specs.{Keys.{columns_by}, Set.{or_added, added_label}},
-  form_parts.specs.Makes.{MakesBy},
-  frame_store.{specs.Arguments.{subscript_of}, proofs.Settling.{settled_by}},
   selections.specs.Reaches.{accessor_of},
   settings.{specs.Values.{reached_value}, proofs.TargetLaws.{columns_tell, fresh_reached}},
 }

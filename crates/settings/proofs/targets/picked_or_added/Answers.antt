@@ -1,5 +1,5 @@
 use Rattle.{
-  std.proofs.Common.{arith},
+  form_parts.proofs.Common.{arith},
   settings.proofs.TargetLaws.{as_nothing, added_settled},
 }
 use Rattle.settings.proofs.targets.picked_or_added.Goals as goal

@@ -1,6 +1,5 @@
 use Rattle.{
-  std.proofs.Common.{arith},
-  frame_store.specs.Objects.{tables},
+  form_parts.proofs.Common.{arith, tables},
   selections.proofs.ReachLaws.{joined_settled},
 }
 use Rattle.settings.proofs.targets.rows_of_pair.Goals as goal

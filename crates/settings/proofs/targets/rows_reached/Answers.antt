@@ -1,5 +1,5 @@
 use Rattle.{
-  std.proofs.{Common.{arith}, lemmas.List.{length-map}},
+  form_parts.proofs.Common.{arith, length-map},
   settings.proofs.TargetLaws.{row_settled, rows_tell},
 }
 use Rattle.settings.proofs.targets.rows_reached.Goals as goal

@@ -1,6 +1,5 @@
 use Rattle.{
-  std.proofs.Common.{rules},
-  frame_store.specs.{Objects.{tables}, World.{world, IsKnownSubscript}},
+  form_parts.proofs.Common.{rules, tables, world, IsKnownSubscript},
   settings.proofs.TargetLaws.{picked_settled, target_settled},
 }
 use Rattle.settings.proofs.targets.target_of.Goals as goal

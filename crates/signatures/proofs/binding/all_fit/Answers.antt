@@ -1,5 +1,5 @@
 use Rattle.{
-  std.proofs.{Common.{◌≡◌, ◌∙◌, true, false, sym, arith}, lemmas.Grind.{common_steps}},
+  meaning.proofs.Common.{◌≡◌, ◌∙◌, true, false, sym, arith, common_steps},
   frame_store.specs.Objects.{tables},
   signatures.proofs.{LiveLaws.{live_after}, BindLaws.{after, fit_refused, fit_taken}},
 }

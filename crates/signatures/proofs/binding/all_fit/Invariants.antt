@@ -1,8 +1,8 @@
 use Rattle.{
-  std.proofs.Common.{◌≡◌, ◌+◌, ◌<◌, ◌^◌, length},
+  meaning.proofs.Common.{◌≡◌, ◌+◌, ◌<◌, ◌^◌, length},
   frame_store.specs.{Objects.{tables}, Arguments.{arguments_of, AreLive}},
 }
-use Rattle.form_meaning.specs.Binding as plain
+use Rattle.call_meaning.specs.Binding as plain
 use Rattle.signatures.proofs.binding.all_fit.Given as goal
 
 abbrev pub invariant-loop-rest : goal.invariant-loop-rest

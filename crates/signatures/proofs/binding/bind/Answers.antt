@@ -1,9 +1,9 @@
 use Rattle.{
-  std.proofs.Common.{◌≡◌, true, arith},
+  meaning.proofs.Common.{◌≡◌, true, arith},
   frame_store.specs.{Objects.{tables}, Arguments.{arguments_of}},
   signatures.proofs.RuleLaws.{filled},
 }
-use Rattle.form_meaning.specs.Binding as plain
+use Rattle.call_meaning.specs.Binding as plain
 use Rattle.signatures.proofs.binding.bind.Goals as goal
 
 pub invariant_of-result : goal.invariant_of-result

@@ -1,13 +1,12 @@
 use Rattle.{
-  std.proofs.{Common.{arith, sym, subst}, lemmas.Grind.{common_steps}},
-  frame_store.specs.Arguments.{IsLiveArgument},
+  meaning.proofs.Common.{arith, common_steps},
   signatures.proofs.LiveLaws.{live_first, live_after},
 }
 use Rattle.signatures.proofs.binding.given_after.Goals as goal
 
 pub returns-then-goes_to-place-clause-live : goal.returns-then-goes_to-place-clause-live
 returns-then-goes_to-place-clause-live c = λ live h.
-    subst (λ g. IsLiveArgument live g.value) (sym c.first-item.is) (live_first live c.loop-rest.rest.now c.first-item.result c.in-len1-up.len_at_least (c.loop-rest.invariant.1 live h))
+    rw c.first-item.is (live_first live c.loop-rest.rest.now c.first-item.result c.in-len1-up.len_at_least (c.loop-rest.invariant.1 live h))
 
 pub loop-rest-preserved : goal.loop-rest-preserved
 loop-rest-preserved c =

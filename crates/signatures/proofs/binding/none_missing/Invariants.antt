@@ -1,9 +1,8 @@
 use Rattle.{
-  std.proofs.Common.{◌≡◌, ◌+◌, length, List},
-  meaning.specs.Text.{Text},
+  meaning.proofs.Common.{◌≡◌, ◌+◌, length, List, Text},
   frame_store.specs.{Objects.{Tables}, Arguments.{arguments_of}},
 }
-use Rattle.form_meaning.specs.Binding as plain
+use Rattle.call_meaning.specs.Binding as plain
 use Rattle.signatures.proofs.binding.none_missing.Given as goal
 
 abbrev pub invariant-loop-rest : goal.invariant-loop-rest

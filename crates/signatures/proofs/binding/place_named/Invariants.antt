@@ -1,8 +1,5 @@
-use Rattle.{
-  std.{proofs.Common.{◌≡◌, ◌+◌, length}, specs.List.{position_or_len}},
-  meaning.specs.Text.{same_text},
-}
-use Rattle.form_meaning.specs.Signature as signature
+use Rattle.meaning.proofs.Common.{◌≡◌, ◌+◌, length, position_or_len, same_text}
+use Rattle.call_meaning.specs.Signature as signature
 use Rattle.signatures.proofs.binding.place_named.Given as goal
 
 abbrev pub invariant-loop-rest : goal.invariant-loop-rest

@@ -1,5 +1,5 @@
 use Rattle.{
-  std.proofs.Common.{arith},
+  meaning.proofs.Common.{arith},
   frame_store.proofs.RowLaws.{item_of-Row},
 }
 use Rattle.signatures.proofs.forms.are_alike.Goals as goal

@@ -1,6 +1,6 @@
 use Rattle.{
-  std.proofs.Common.{rules},
-  form_meaning.specs.Binding.{is_key},
+  meaning.proofs.Common.{rules},
+  call_meaning.specs.Binding.{is_key},
   signatures.proofs.FormLaws.{each_told},
 }
 use Rattle.signatures.proofs.forms.are_keys.Goals as goal

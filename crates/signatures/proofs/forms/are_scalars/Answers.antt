@@ -1,6 +1,6 @@
 use Rattle.{
-  std.proofs.Common.{rules},
-  form_meaning.specs.Binding.{is_scalar},
+  meaning.proofs.Common.{rules},
+  call_meaning.specs.Binding.{is_scalar},
   signatures.proofs.FormLaws.{each_told},
 }
 use Rattle.signatures.proofs.forms.are_scalars.Goals as goal

@@ -1,8 +1,8 @@
 use Rattle.{
-  std.proofs.Common.{◌≡◌, length},
+  meaning.proofs.Common.{◌≡◌, length},
   frame_store.specs.{Objects.{Tables}, Arguments.{entries_of}},
 }
-use Rattle.form_meaning.specs.Binding as plain
+use Rattle.call_meaning.specs.Binding as plain
 use Rattle.signatures.proofs.forms.are_texts.Given as goal
 
 abbrev pub invariant-loop-rest : goal.invariant-loop-rest

@@ -1,6 +1,6 @@
 use Rattle.{
-  std.proofs.Common.{rules},
-  form_meaning.specs.Binding.{is_tuple_of},
+  meaning.proofs.Common.{rules},
+  call_meaning.specs.Binding.{is_tuple_of},
   signatures.proofs.FormLaws.{each_told},
 }
 use Rattle.signatures.proofs.forms.are_tuples_of.Goals as goal

@@ -1,9 +1,8 @@
 use Rattle.{
-  std.proofs.Common.{◌≡◌, length},
-  meaning.specs.Cell.{label_datum},
+  meaning.proofs.Common.{◌≡◌, length, label_datum},
   frame_store.specs.{Objects.{Tables}, Arguments.{entries_of}},
 }
-use Rattle.form_meaning.specs.Binding as plain
+use Rattle.call_meaning.specs.Binding as plain
 use Rattle.signatures.proofs.forms.has_key.Given as goal
 
 abbrev pub invariant-loop-rest : goal.invariant-loop-rest

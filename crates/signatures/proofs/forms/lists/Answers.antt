@@ -1,5 +1,5 @@
 use Rattle.{
-  std.proofs.Common.{arith},
+  meaning.proofs.Common.{arith},
   frame_store.proofs.RowLaws.{argument_of-Table},
 }
 use Rattle.signatures.proofs.forms.lists.Goals as goal

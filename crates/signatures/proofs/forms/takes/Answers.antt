@@ -1,5 +1,5 @@
 use Rattle.{
-  std.proofs.Common.{arith},
+  meaning.proofs.Common.{arith},
   frame_store.{specs.Objects.{tables}, proofs.RowLaws.{argument_of-Table}},
 }
 use Rattle.signatures.proofs.forms.takes.Goals as goal

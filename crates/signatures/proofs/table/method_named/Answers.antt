@@ -1,5 +1,7 @@
-use Rattle.std.proofs.Common.{refl}
-use Rattle.signatures.proofs.NameLaws.{method_of_row}
+use Rattle.{
+  meaning.proofs.Common.{refl},
+  signatures.proofs.NameLaws.{method_of_row},
+}
 use Rattle.signatures.proofs.table.method_named.Goals as goal
 
 pub returns-in_err-row : goal.returns-in_err-row

@@ -1,6 +1,6 @@
 use Rattle.{
-  std.proofs.Common.{refl},
-  form_meaning.specs.Signature.{method_names},
+  meaning.proofs.Common.{refl},
+  call_meaning.specs.Signature.{method_names},
 }
 use Rattle.signatures.proofs.table.method_names.Goals as goal
 

@@ -1,5 +1,5 @@
 use Rattle.{
-  std.{proofs.Common.{◌∙◌, length, refl, ap, sym}, specs.Prelude.{is_some}},
+  meaning.proofs.Common.{◌∙◌, length, refl, ap, sym, is_some},
   frame_store.specs.Objects.{tables, table_or},
   table_tests.proofs.StoreLaws.{apart, first_there, second_there, moved_there, same_headings},
 }

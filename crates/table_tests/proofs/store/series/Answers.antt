@@ -1,6 +1,5 @@
 use Rattle.{
-  std.{proofs.Common.{◌≡◌, ◌∙◌, ◌++◌, [], ◌∷◌, None, Some, map, ap, subst}, specs.Prelude.{IfOk}},
-  cell_core.specs.declared.grid.Shape.TheVariants.{Series},
+  meaning.proofs.Common.{◌≡◌, ◌∙◌, ◌++◌, [], ◌∷◌, None, Some, map, ap, subst, IfOk, Series},
   table_meaning.specs.Table.{NumberedTable},
   frame_store.{proofs.ObjectLaws.{added_is_live}, specs.{Parts.{HeadingList, table_with, block_column}, Objects.{tables, with_object}}},
 }

@@ -1,7 +1,5 @@
 use Rattle.{
-  std.proofs.Common.{[], ◌∷◌, ◌++◌, ap, sym, ◌∙◌, List},
-  cell_core.specs.declared.cell.Cell.{Cell},
-  meaning.specs.Column.{tabulate},
+  meaning.proofs.Common.{[], ◌∷◌, ◌++◌, ap, sym, ◌∙◌, List, Cell, tabulate},
   column_core.specs.Columns.{CellColumn},
   column_bench.{specs.Data.{data_kind, data_cell}, proofs.DataLaws.{tabulate_more}},
 }

@@ -1,5 +1,5 @@
 use Rattle.{
-  std.proofs.Common.{arith},
+  meaning.proofs.Common.{arith},
   column_core.proofs.{CellRows.{range-same}, MoveLaws.{get_or-tabulate}, ColumnLaws.{length-tabulate}},
 }
 use Rattle.column_core.proofs.columns.ColRef.strided.Goals as goal

@@ -1,5 +1,6 @@
 use Rattle.{
-  std.proofs.{Common.{rules, ◌<◌, ◌*◌, ◌^◌, length, ap, arith, FitsSigned, w64}, Math.Facts.{to_z-of_z}},
+  meaning.proofs.Common.{rules, ◌<◌, ◌*◌, ◌^◌, length, ap, arith, FitsSigned, w64},
+  std.proofs.Math.Facts.{to_z-of_z},
   column_core.{specs.Lanes.{option_at}, proofs.StrideLaws.{first_below, only_row, place_composed, fits_composed, stride_small}},
 }
 use Rattle.column_core.proofs.lanes.Lane.strided.Goals as goal

@@ -1,5 +1,5 @@
 use Rattle.{
-  std.proofs.Common.{◌∙◌, ap, sym, Some},
+  form_parts.proofs.Common.{◌∙◌, ap, sym, Some},
   concat_forms.proofs.PartLaws.{column_told},
 }
 use Rattle.concat_forms.proofs.parts.Part.column.Goals as goal

@@ -1,5 +1,5 @@
 use Rattle.{
-  std.proofs.Common.{arith, ◌≡◌, false, rules},
+  meaning.proofs.Common.{arith, ◌≡◌, false, rules},
   csv_meaning.specs.CsvRead.{is_missing},
   csv_frames.proofs.GrowingLaws.{missing_grown, kept_grown},
 }

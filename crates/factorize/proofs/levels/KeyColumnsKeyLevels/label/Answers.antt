@@ -1,5 +1,5 @@
 use Rattle.{
-  std.proofs.Common.{arith},
+  meaning.proofs.Common.{arith},
   factorize.proofs.LabelLaws.{columns_counted, column_label, no_column, no_row},
 }
 use Rattle.factorize.proofs.levels.KeyColumnsKeyLevels.label.Goals as goal

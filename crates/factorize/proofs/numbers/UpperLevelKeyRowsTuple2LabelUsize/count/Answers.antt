@@ -1,5 +1,5 @@
 use Rattle.{
-  std.proofs.{Common.{arith}, lemmas.List.{length-map}},
+  meaning.proofs.Common.{arith, length-map},
   row_keys.proofs.ZipLaws.{length_zip},
 }
 use Rattle.factorize.proofs.numbers.UpperLevelKeyRowsTuple2LabelUsize.count.Goals as goal

@@ -1,6 +1,5 @@
 use Rattle.{
-  std.proofs.Common.{◌≡◌, true, rules, arith},
-  meaning.specs.Cell.{holds, datum},
+  form_parts.proofs.Common.{◌≡◌, true, rules, arith, holds, datum},
   column_operators.specs.Marks.{filled_cell},
   method_meaning.specs.Methods.{filled},
   frame_methods.proofs.OpLaws.{mapped_given, marked_answer},

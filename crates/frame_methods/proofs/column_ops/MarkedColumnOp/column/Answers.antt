@@ -1,5 +1,5 @@
 use Rattle.{
-  std.proofs.Common.{arith},
+  form_parts.proofs.Common.{arith},
   column_operators.specs.Marks.{missing_mark},
   frame_methods.{specs.Marks.{mark_of}, proofs.OpLaws.{marked_answer, mapped_given}},
 }

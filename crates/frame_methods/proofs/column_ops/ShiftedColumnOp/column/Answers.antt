@@ -1,5 +1,6 @@
 use Rattle.{
-  std.proofs.Common.{◌≡◌, rules, to_z, of_z, w64},
+  form_parts.proofs.Common.{◌≡◌, rules, to_z, of_z},
+  meaning.proofs.Common.{w64},
   frame_methods.proofs.OpLaws.{shifted_given, shifted_rows, shifted_answer},
 }
 use Rattle.frame_methods.proofs.column_ops.ShiftedColumnOp.column.Goals as goal

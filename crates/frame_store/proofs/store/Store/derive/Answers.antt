@@ -1,5 +1,5 @@
 use Rattle.{
-  std.proofs.Common.{map},
+  meaning.proofs.Common.{map},
   frame_store.{specs.Parts.{block_column}, proofs.ColumnLaws.{cut_is_whole}},
 }
 use Rattle.frame_store.proofs.store.Store.derive.Goals as goal

@@ -1,5 +1,5 @@
 use Rattle.{
-  std.proofs.Common.{arith},
+  meaning.proofs.Common.{arith},
   table_meaning.specs.{Table.{column_at}, Change.{with_column}},
   frame_store.proofs.ObjectLaws.{table_taken, left_as_it_was},
 }

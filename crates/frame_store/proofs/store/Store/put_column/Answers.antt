@@ -1,5 +1,5 @@
 use Rattle.{
-  std.proofs.lemmas.Result.{on_ok_weaker},
+  meaning.proofs.Common.{on_ok_weaker},
   table_meaning.specs.Change.{with_column},
   frame_store.{specs.Parts.{block_column}, proofs.ObjectLaws.{table_changed}},
 }

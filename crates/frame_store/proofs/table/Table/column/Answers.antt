@@ -1,5 +1,5 @@
 use Rattle.{
-  std.proofs.{lemmas.List.{length-map}, Common.{◌<◌, length, arith}},
+  meaning.proofs.Common.{length-map, ◌<◌, length, arith},
   frame_store.proofs.PartLaws.{first_rows},
 }
 use Rattle.frame_store.proofs.table.Table.column.Goals as goal

@@ -1,5 +1,5 @@
 use Rattle.{
-  std.proofs.Common.{arith, ◌∙◌, refl, ap},
+  meaning.proofs.Common.{arith, ◌∙◌, refl, ap},
   table_meaning.specs.Change.{put_at, with_column},
   frame_store.{specs.{Parts.{IsSingle}, Views.{kept_table}}, proofs.ColumnLaws.{All-put_at, put_is_whole, put_is_column}},
 }

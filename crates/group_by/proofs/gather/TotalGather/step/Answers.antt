@@ -1,8 +1,6 @@
 use Rattle.{
-  std.proofs.Common.{arith, ◌∙◌, [], ◌∷◌, ◌++◌, ap, sym, subst},
-  cell_core.specs.declared.cell.Kind.{Kind as CellKind},
-  meaning.specs.Cell.{int_cell, datum},
-  group_by.{specs.{Cells.{IsCellOf}, Gathered.{plus, total_of}}, proofs.GatherLaws.{total_more}},
+  meaning.proofs.Common.{arith, ◌∙◌, [], ◌∷◌, ◌++◌, ap, sym, int_cell, datum},
+  group_by.{specs.Gathered.{plus, total_of}, proofs.GatherLaws.{total_more}},
 }
 use Rattle.group_by.proofs.gather.TotalGather.step.Goals as goal
 
@@ -18,4 +16,4 @@ returns-clause-value g c = λ cells was.
 
 pub returns-clause-held : goal.returns-clause-held
 returns-clause-held g c = λ kind far here.
-    subst (λ (k : CellKind). IsCellOf c.args._dict.now k c.added.result) (sym (g.met.N.Amount.numbers kind)) (c.added.ensures.held _ (grind arith))
+    rw (g.met.N.Amount.numbers kind) (c.added.ensures.held _ (grind arith))

@@ -1,5 +1,5 @@
 use Rattle.{
-  std.proofs.Common.{Some, arith},
+  meaning.proofs.Common.{Some, arith},
   index_core.proofs.LinkLaws.{label_there, only_found, none_found},
 }
 use Rattle.index_core.proofs.found.Links.only_row.Goals as goal

@@ -1,7 +1,7 @@
 use Rattle.{
-  std.{proofs.Common.{arith, ◌∙◌, ap, subst, Some}, specs.List.{position_from}},
+  meaning.proofs.Common.{arith, ◌∙◌, ap, Some, position_from},
   pick_meaning.specs.Rows.{are_some},
-  index_core.{specs.{Found.{HaveNextRows}, Labels.{same_number}}, proofs.LinkLaws.{rest_from, HasLabel, rows_left, label_there, rows_from_first, read_next, fewer_left, pushed_row, are_some_from}},
+  index_core.{specs.Labels.{same_number}, proofs.LinkLaws.{rest_from, HasLabel, rows_left, label_there, rows_from_first, read_next, fewer_left, pushed_row, are_some_from}},
 }
 use Rattle.index_core.proofs.found.Links.push_rows.Goals as goal
 
@@ -16,7 +16,7 @@ loop-rest-init c =
 pub loop-rest-smaller : goal.loop-rest-smaller
 loop-rest-smaller c =
     let labels = c.args.self.now in
-    let links = subst (λ l. HaveNextRows c.self.inside.next.items l 0) c.self.view_is c.self.invariant.next in
+    let links = rw c.self.view_is at c.self.invariant.next in
     let has : HasLabel labels c.args.label (Some c.in-Some.row) = grind arith in
     let next = read_next _ _ _ _ _ links has c.index-rest.ensures in
     grind (arith, rows_left, fewer_left)
@@ -24,7 +24,7 @@ loop-rest-smaller c =
 pub loop-rest-preserved : goal.loop-rest-preserved
 loop-rest-preserved c =
     let labels = c.args.self.now in
-    let links = subst (λ l. HaveNextRows c.self.inside.next.items l 0) c.self.view_is c.self.invariant.next in
+    let links = rw c.self.view_is at c.self.invariant.next in
     let has : HasLabel labels c.args.label (Some c.in-Some.row) = grind arith in
     let next = read_next _ _ _ _ _ links has c.index-rest.ensures in
     record {

@@ -1,5 +1,5 @@
 use Rattle.{
-  std.proofs.Common.{◌≡◌, ◌++◌},
+  meaning.proofs.Common.{◌≡◌, ◌++◌},
   pick_meaning.specs.Rows.{rows_where},
   index_core.{specs.Labels.{same_number}, proofs.LinkLaws.{rest_from, HasLabel, rows_left}},
 }

@@ -1,5 +1,5 @@
 use Rattle.{
-  std.proofs.Common.{arith},
+  meaning.proofs.Common.{arith},
   index_core.proofs.NumberLaws.{range_in_order},
 }
 use Rattle.index_core.proofs.index.Index.is_sorted.Goals as goal

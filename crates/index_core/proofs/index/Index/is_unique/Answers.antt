@@ -1,5 +1,5 @@
 use Rattle.{
-  std.proofs.Common.{arith},
+  meaning.proofs.Common.{arith},
   index_core.proofs.DifferLaws.{range_differs},
 }
 use Rattle.index_core.proofs.index.Index.is_unique.Goals as goal

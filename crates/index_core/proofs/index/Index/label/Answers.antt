@@ -1,6 +1,7 @@
 use Rattle.{
+  meaning.proofs.Common.{arith, ◌^◌, ◌<◌, ◌∙◌, ap, sym, w64},
   index_core.{proofs.RangeLaws.{length-range_labels, label_of_range}, specs.Views.{kept_labels}},
-  std.proofs.{lemmas.Int.{to_z_pos}, Common.{arith, ◌^◌, ◌<◌, ◌∙◌, ap, sym, w64}},
+  std.proofs.lemmas.Int.{to_z_pos},
 }
 use Rattle.index_core.proofs.index.Index.label.Goals as goal
 

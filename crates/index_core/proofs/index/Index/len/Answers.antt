@@ -1,5 +1,5 @@
 use Rattle.{
-  std.proofs.Common.{arith},
+  meaning.proofs.Common.{arith},
   index_core.proofs.RangeLaws.{length-range_labels},
 }
 use Rattle.index_core.proofs.index.Index.len.Goals as goal

@@ -1,5 +1,5 @@
 use Rattle.{
-  std.proofs.Common.{arith},
+  meaning.proofs.Common.{arith},
   index_core.proofs.SameLaws.{ranges_same},
 }
 use Rattle.index_core.proofs.index.Index.same_labels.Goals as goal

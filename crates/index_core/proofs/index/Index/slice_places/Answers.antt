@@ -1,6 +1,6 @@
 use Rattle.{
+  meaning.proofs.Common.{arith},
   index_core.proofs.{RangeLaws.{length-range_labels}, SplitLaws.{slice_of_range}},
-  std.proofs.Common.{arith},
 }
 use Rattle.index_core.proofs.index.Index.slice_places.Goals as goal
 

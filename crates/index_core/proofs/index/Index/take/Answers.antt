@@ -1,5 +1,5 @@
 use Rattle.{
-  std.proofs.Common.{◌<◌, arith, length},
+  meaning.proofs.Common.{◌<◌, arith, length},
   index_core.proofs.SameLaws.{one_more_label},
 }
 use Rattle.index_core.proofs.index.Index.take.Goals as goal

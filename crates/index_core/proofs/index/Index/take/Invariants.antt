@@ -1,5 +1,5 @@
 use Rattle.{
-  std.proofs.Common.{◌≡◌, take},
+  meaning.proofs.Common.{◌≡◌, take},
   index_core.specs.Labels.{labels_at},
 }
 use Rattle.index_core.proofs.index.Index.take.Given as goal

@@ -1,5 +1,5 @@
 use Rattle.{
-  std.proofs.Common.{arith},
+  meaning.proofs.Common.{arith},
   multi_index.proofs.AddedLaws.{levels_with},
 }
 use Rattle.multi_index.proofs.axis.Axis.add_level.Goals as goal

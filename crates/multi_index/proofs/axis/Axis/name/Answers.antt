@@ -1,6 +1,6 @@
 use Rattle.{
+  meaning.proofs.Common.{slice_get-get_or, get_or-take, arith},
   multi_index.proofs.NameLaws.{count_of_names},
-  std.proofs.{lemmas.{Option.{slice_get-get_or}, List.{get_or-take}}, Common.{arith}},
 }
 use Rattle.multi_index.proofs.axis.Axis.name.Goals as goal
 

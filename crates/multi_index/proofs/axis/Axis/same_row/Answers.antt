@@ -1,5 +1,5 @@
 use Rattle.{
-  std.proofs.Common.{arith},
+  meaning.proofs.Common.{arith},
   multi_index.{specs.Axes.{HaveLevels}, proofs.SameTuples.{same_at_row}},
   index_core.proofs.SameLaws.{holds},
 }

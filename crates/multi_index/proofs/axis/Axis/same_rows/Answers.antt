@@ -1,5 +1,5 @@
 use Rattle.{
-  std.proofs.Common.{arith},
+  meaning.proofs.Common.{arith},
   index_core.proofs.SameLaws.{holds, all_same},
 }
 use Rattle.multi_index.proofs.axis.Axis.same_rows.Goals as goal

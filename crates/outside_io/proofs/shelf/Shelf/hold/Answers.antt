@@ -1,6 +1,6 @@
 use Rattle.{
+  meaning.proofs.Common.{length-append, arith, ◌≡◌, None, rules, on_ok_weaker, position},
   outside_io.{proofs.{Held.{reading_bytes-push}, Shelving.{replaced_kept, replaced_shelved, pushed_shelved}}, specs.Shelf.{is_under}},
-  std.{proofs.{Common.{length-append, arith, ◌≡◌, None, rules}, lemmas.Result.{on_ok_weaker}}, specs.Prelude.{position}},
 }
 use Rattle.outside_io.proofs.shelf.Shelf.hold.Goals as goal
 

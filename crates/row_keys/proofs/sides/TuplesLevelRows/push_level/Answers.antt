@@ -1,5 +1,5 @@
 use Rattle.{
-  std.proofs.{Common.{◌<◌, [], length, arith, ap, sym, ◌∙◌}, lemmas.Option.{get_or_from_slice_get}},
+  meaning.proofs.Common.{◌<◌, [], length, arith, ap, sym, ◌∙◌, get_or_from_slice_get},
   row_keys.specs.Keys.{label_in},
   multi_index.proofs.SideLaws.{one_row_more},
 }

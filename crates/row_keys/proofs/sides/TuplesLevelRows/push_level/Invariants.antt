@@ -1,5 +1,5 @@
 use Rattle.{
-  std.proofs.Common.{◌≡◌, ◌++◌, map, take},
+  meaning.proofs.Common.{◌≡◌, ◌++◌, map, take},
   row_keys.specs.Keys.{label_in},
 }
 use Rattle.row_keys.proofs.sides.TuplesLevelRows.push_level.Given as goal

@@ -1,6 +1,6 @@
 use Rattle.{
-  script_tree.specs.View.{form_of},
-  std.proofs.Common.{arith, sym},
+  meaning.proofs.Common.{arith, sym},
+  script_tree.specs.View.{action_of},
   script_work.{specs.Work.{tables_in, world_of, state_in}, proofs.States.{state_swept, live_are_named, named_live}},
   script_session.proofs.{Answering.{performs_after, refused_kept, live_refused}, Settings.{apart_after}},
 }
@@ -13,7 +13,7 @@ returns-clause-answers g c =
 
 pub returns-clause-apart : goal.returns-clause-apart
 returns-clause-apart g c =
-    apart_after c.perform-result.result (form_of c.args.form.now) (state_in c.args.self.now.work) (state_in c.perform-result.new.work) (state_in c.sweep.new.self) c.perform-result.ensures.apart
+    apart_after c.perform-result.result (action_of c.args.action.now) (state_in c.args.self.now.work) (state_in c.perform-result.new.work) (state_in c.sweep.new.self) c.perform-result.ensures.apart
     (grind (arith, state_swept))
 
 pub returns-clause-same : goal.returns-clause-same

@@ -1,33 +1,29 @@
 use Rattle.{
-  std.proofs.Common.{refl, sym, ◌∙◌, arith},
-  script_tree.specs.View.{named_of, named_parts_of},
+  meaning.proofs.Common.{arith},
+  script_syntax.{specs.{Found.{after_args}, Reading.{and_then, or_else, all_arguments}}, proofs.Loops.{turns}},
 }
-use Rattle.script_syntax.proofs.Loops as loops
 use Rattle.script_syntax.proofs.grammar.Grammar.arguments.Goals as goal
 
 pub loop-init : goal.loop-init
-loop-init = grind (arith, loops.arguments_begin)
+unfolding all_arguments after_args
+loop-init = grind (arith)
 
 pub returns-in-Some : goal.returns-in-Some
-returns-in-Some g c = (loops.arguments_close _ _ _ _ _ _ _ c.loop.invariant.same _ c.loop-test.true c.in-Some.ensures, search, search)
+unfolding and_then or_else
+returns-in-Some = grind (arith, turns)
 
 pub returns-in_err-name : goal.returns-in_err-name
-returns-in_err-name g c = rw (loops.err_is _ _ c.from_residual.ensures, loops.arguments_turn _ _ _ _ _ _ _ c.loop.invariant.same c.loop-test.true c.in_default.ensures) (loops.fails_first _ _ _ c.in_err-name.ensures)
+unfolding and_then or_else
+returns-in_err-name = grind (arith, turns)
 
 pub returns-in_err-after : goal.returns-in_err-after
-returns-in_err-after g c =
-    rw (loops.err_is _ _ c.from_residual-in_err-after.ensures, loops.arguments_turn _ _ _ _ _ _ _ c.loop.invariant.same c.loop-test.true c.in_default.ensures)
-    (loops.fails_later _ _ (c.in_ok-name.ensures).0 (loops.fails_first _ _ _ c.in_err-after.ensures))
+unfolding and_then or_else
+returns-in_err-after = grind (arith, turns)
 
 pub loop-preserved : goal.loop-preserved
-loop-preserved g c =
-    let pushed = c.in_ok-push.ensures.ok in
-    let deep = loops.args_depth_push (named_parts_of c.loop.args) (named_of (c.in_ok-name.name, c.in_ok-name.arg)) in
-    record {
-      same = rw (c.onwards-rest.ensures, pushed, c.is_some-after_name.ensures) (sym (loops.arguments_turn _ _ _ _ _ _ _ c.loop.invariant.same c.loop-test.true c.in_default.ensures ∙ loops.goes _ (c.in_ok-name.ensures).0 (loops.goes _ c.in_ok-after.ensures refl)));
-      deep = rw pushed (grind (arith, deep));
-      fits = grind arith;
-    }
+unfolding and_then or_else
+loop-preserved = grind (arith, turns)
 
 pub returns : goal.returns
-returns g c = search loops.arguments_end
+unfolding and_then or_else
+returns = grind (arith, turns)

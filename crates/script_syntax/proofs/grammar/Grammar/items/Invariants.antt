@@ -1,5 +1,5 @@
 use Rattle.{
-  std.proofs.Common.{◌≡◌, ◌≤◌, ◌-◌, length},
+  meaning.proofs.Common.{◌≡◌, ◌≤◌, ◌-◌, length},
   language_meaning.specs.Depth.{list_depth},
   script_tree.specs.View.{parts_of},
   script_tokens.specs.View.{mark_of, tokens_of},

@@ -1,5 +1,5 @@
 use Rattle.{
-  std.proofs.Common.{◌≡◌, ◌+◌, ◌≤◌, ◌-◌, length},
+  meaning.proofs.Common.{◌≡◌, ◌+◌, ◌≤◌, ◌-◌, length},
   language_meaning.specs.Depth.{depth},
   script_tree.specs.View.{expr_of},
   script_tokens.specs.View.{tokens_of},

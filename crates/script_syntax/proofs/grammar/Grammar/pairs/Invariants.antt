@@ -1,5 +1,5 @@
 use Rattle.{
-  std.proofs.Common.{◌≡◌, ◌≤◌, ◌-◌, length},
+  meaning.proofs.Common.{◌≡◌, ◌≤◌, ◌-◌, length},
   language_meaning.specs.Depth.{pairs_depth},
   script_tree.specs.View.{pair_parts_of},
   script_tokens.specs.View.{tokens_of},

@@ -1,5 +1,5 @@
 use Rattle.{
-  std.proofs.Common.{arith, sym, ◌∙◌, ap},
+  form_parts.proofs.Common.{arith, sym, ◌∙◌, ap},
   script_work.{specs.{Bindings.{uses_of}, Uses.{count_at}}, proofs.UseLaws.{takes_bound, counted_bound}},
 }
 use Rattle.script_work.proofs.names.Names.bind.Goals as goal

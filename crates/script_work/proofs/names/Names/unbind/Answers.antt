@@ -1,5 +1,5 @@
 use Rattle.{
-  std.proofs.Common.{sym, ◌∙◌, ap},
+  form_parts.proofs.Common.{sym, ◌∙◌, ap},
   script_work.{specs.{Bindings.{uses_of}, Uses.{count_at}}, proofs.UseLaws.{counted_unbound}},
 }
 use Rattle.script_work.proofs.names.Names.unbind.Goals as goal

@@ -1,5 +1,5 @@
 use Rattle.{
-  std.proofs.Common.{arith, ◌∙◌, ap, nat_eq},
+  form_parts.proofs.Common.{arith, ◌∙◌, ap, nat_eq},
   script_work.{specs.Uses.{or_none}, proofs.{Bindings.{nat_same}, UseLaws.{same_after}}},
 }
 use Rattle.script_work.proofs.uses.Uses.make_room_for.Goals as goal

@@ -1,7 +1,6 @@
 use Rattle.{
-  std.{proofs.Common.{sym, subst}, specs.Prelude.{IfSome}},
+  form_parts.proofs.Common.{sym, subst, IfSome, tables, World},
   table_laws.{specs.Validity.{IsHeldCell, IsValidGiven}, proofs.SetLaws.{assign_result_keeps}},
-  frame_store.specs.{Objects.{tables}, World.{World}},
   settings.specs.Assigned.{moved_object, without},
   script_work.{specs.Work.{names_in, world_of}, proofs.{Worlds.{live_set, noted_set, given_after}, Bindings.{swept_live}, Validity.{object_valid, argument_valid, set_valid, unnamed_spare, spent_valid, spent_keeps, spent_noted, spent_on}}},
 }

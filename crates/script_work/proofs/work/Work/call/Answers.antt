@@ -1,7 +1,6 @@
 use Rattle.{
-  std.{proofs.{Common.{rules, refl, ◌≡◌, ◌∙◌, true, false, ap, sym}, lemmas.Result.{err_from_is_err_and}}, specs.Prelude.{Some}},
-  form_meaning.specs.Signature.{function_named},
-  frame_store.specs.Arguments.{arguments_of},
+  form_parts.proofs.Common.{rules, refl, ◌≡◌, ◌∙◌, true, false, ap, sym, err_from_is_err_and, Some, arguments_of},
+  call_meaning.specs.Signature.{function_named},
   method_meaning.specs.Readers.{reads_file, read_result},
   script_meaning.specs.Reading.{at_once},
   script_work.{specs.Work.{world_of}, proofs.{Worlds.{form_keeps, form_known}, States.{form_unnamed}, Rides.{goes_same, goes_to, form_reads, evaluated_if}}},

@@ -1,6 +1,5 @@
 use Rattle.{
-  std.{proofs.Common.{ap, sym, ◌∙◌}, specs.Prelude.{Err}},
-  frame_store.specs.Arguments.{arguments_of},
+  form_parts.proofs.Common.{ap, sym, ◌∙◌, Err, arguments_of},
   method_meaning.specs.Readers.{read_result},
   script_meaning.specs.Reading.{at_once, then_read, of_file},
   script_work.{specs.{Reads.{files_in}, Work.{world_of}}, proofs.{Fetching.{refuses_long}, Rides.{bytes_by, then_gives}}},

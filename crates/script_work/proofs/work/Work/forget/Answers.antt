@@ -1,7 +1,6 @@
 use Rattle.{
+  form_parts.proofs.Common.{arith, refl, sym, ◌∙◌, ap, subst, tables, World},
   script_work.{proofs.{Bindings.{named_object, names-unbound, value_at-unbound, unbound_has, released_keeps, released_noted, released_named, released_settled}, States.{state_swept}, Validity.{released_valid}}, specs.{Bindings.{bindings_of, unbound, released, value_at, AreLive, AreNamed}, Work.{names_in, tables_in, world_of}}},
-  std.proofs.Common.{arith, refl, sym, ◌∙◌, ap, subst},
-  frame_store.specs.{Objects.{tables}, World.{World}},
 }
 use Rattle.script_work.proofs.work.Work.forget.Goals as goal
 

@@ -1,5 +1,5 @@
 use Rattle.{
-  frame_store.proofs.Settling.{longer_self},
+  form_parts.proofs.Common.{longer_self},
   script_work.proofs.Printed.{length_answer},
 }
 use Rattle.script_work.proofs.work.Work.length.Goals as goal

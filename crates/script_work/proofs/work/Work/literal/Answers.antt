@@ -1,5 +1,5 @@
 use Rattle.{
-  frame_store.proofs.Settling.{settled_later},
+  form_parts.proofs.Common.{settled_later},
   script_work.proofs.{Worlds.{longer_keeps, given_after}, Validity.{longer_valid}},
 }
 use Rattle.script_work.proofs.work.Work.literal.Goals as goal

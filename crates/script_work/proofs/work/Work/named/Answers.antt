@@ -1,5 +1,5 @@
 use Rattle.{
-  std.proofs.Common.{rules},
+  form_parts.proofs.Common.{rules},
   script_work.proofs.States.{named_known},
 }
 use Rattle.script_work.proofs.work.Work.named.Goals as goal

@@ -1,7 +1,5 @@
 use Rattle.{
-  std.proofs.Common.{refl, sym, subst, IsSome},
-  table_meaning.specs.Settled.{IsSettled},
-  frame_store.specs.Shown.{shown},
+  form_parts.proofs.Common.{refl, sym, subst, IsSome, IsSettled, shown},
   table_laws.specs.Validity.{AreValid},
 }
 use Rattle.script_work.proofs.work.Work.new.Goals as goal

@@ -1,5 +1,5 @@
 use Rattle.{
-  frame_store.specs.{Objects.{tables}, World.{World}},
+  form_parts.proofs.Common.{tables, World},
   script_work.{specs.Work.{names_in}, proofs.{Worlds.{live_set, noted_set}, Validity.{object_valid, set_valid}}},
   table_laws.proofs.SetLaws.{removal_result_keeps},
 }

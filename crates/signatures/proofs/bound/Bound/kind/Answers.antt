@@ -1,5 +1,5 @@
 use Rattle.{
-  std.proofs.Common.{arith, ◌∙◌},
+  meaning.proofs.Common.{arith, ◌∙◌},
   signatures.proofs.SureLaws.{text_sure, sure_told},
 }
 use Rattle.signatures.proofs.bound.Bound.kind.Goals as goal

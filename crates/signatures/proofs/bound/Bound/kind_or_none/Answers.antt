@@ -1,4 +1,4 @@
-use Rattle.std.proofs.Common.{arith}
+use Rattle.meaning.proofs.Common.{arith}
 use Rattle.signatures.proofs.bound.Bound.kind_or_none.Goals as goal
 
 pub returns-in-Some : goal.returns-in-Some

@@ -1,5 +1,5 @@
 use Rattle.{
-  std.proofs.Common.{◌∙◌},
+  meaning.proofs.Common.{◌∙◌},
   signatures.proofs.SureLaws.{text_sure, sure_told},
 }
 use Rattle.signatures.proofs.bound.Bound.text.Goals as goal

@@ -1,12 +1,11 @@
 -- A method that a name means is one of the shape.
 use denote.Enum.Bare.{true_same}
 use Rattle.{
-  std.{proofs.Common.{◌≡◌, refl, Bool, true, false, ◌||◌, List, [], ◌∷◌, Option, Some, find, cond}, specs.{Prelude.{option_and_then}, List.{list_any}, Option.{option_map_or}}},
-  cell_core.specs.declared.grid.Shape.{Shape, TheVariants.{Series, Frame}},
-  meaning.specs.Text.{Text, same_text},
-  form_meaning.specs.{declared.Method.{Method}, Signature.{MethodName, method_at, method_named, same_method, fits_shape}},
+  meaning.proofs.Common.{◌≡◌, refl, Bool, true, false, ◌||◌, List, [], ◌∷◌, Option, Some, find, cond, option_and_then, list_any, Shape, Series, Frame, Text, same_text},
+  std.specs.Option.{option_map_or},
+  call_meaning.specs.{declared.Method.{Method}, Signature.{MethodName, method_at, method_named, same_method, fits_shape}},
 }
-use Rattle.form_meaning.specs.declared.Method.TheVariants as method
+use Rattle.call_meaning.specs.declared.Method.TheVariants as method
 
 -- the method that the first of the names means, and the methods that they mean
 abbrev first_named : Shape → Text → List MethodName → Option Method

@@ -1,10 +1,9 @@
 use Rattle.{
+  form_parts.proofs.Common.{truth_cell, ap},
   column_operators.specs.Marks.{listed_mark},
-  meaning.specs.Cell.{truth_cell},
-  std.proofs.Common.{ap},
   frame_methods.proofs.{OpLaws.{marked_answer, mapped_given}, ListedLaws.{any_by_number}},
 }
-use Rattle.frame_methods.proofs.column_ops.ListedColumnOp.column.Goals as goal
+use Rattle.frame_methods.proofs.column_ops.ListedCellsColumnOp.column.Goals as goal
 
 pub returns-clause-given : goal.returns-clause-given
 returns-clause-given c = mapped_given _ _ _ c.args.a _ (λ v here. tt) c.requires.cells c.in_ok-isin.ensures

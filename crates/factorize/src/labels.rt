@@ -1,6 +1,6 @@
 // Cells as labels.
 ghost use Rattle.std.specs.Prelude.{◌≡◌};
-ghost use Rattle.row_groups.specs.Labels.{label_of_cell};
+ghost use Rattle.factorize.specs.Labels.{label_of_cell};
 
 use cell_core::{Cell, Label};
 

@@ -1,149 +1,57 @@
 -- How the arguments of a call are bound to a signature, and the refusals that all calls share.
 use Rattle.std.specs.Prelude.{ℕ, ◌+◌, ℤ, pos, Bool, true, false, not, ◌&&◌, ◌||◌, List, [], ◌∷◌, slice_get, nat_eq, nat_lt, codes, Option, Some, None, Result, Err, if◌then◌else◌}
 use Rattle.std.specs.List.{position_or_len, list_any}
-use Rattle.std.specs.Ordering.{is_eq, int_eq}
+use Rattle.std.specs.Ordering.{int_eq}
 use Rattle.cell_core.specs.declared.grid.Shape.{Shape}
-use Rattle.cell_core.specs.declared.grid.Shape.TheVariants.{Series, Frame}
 use Rattle.meaning.specs.Text.{Text, same_text}
-use Rattle.meaning.specs.Cell.{CellValue, na_cell, int_cell, truth_cell, text_cell, LabelValue, label_cmp}
+use Rattle.meaning.specs.Cell.{CellValue, na_cell, int_cell, truth_cell, text_cell}
 use Rattle.meaning.specs.Fault.{FaultValue, wrong_kind, bad_value, argument}
-use Rattle.table_meaning.specs.Value.{Entry, cell, table, Given, GivenList, GivenPairs, NamedGiven, nothing, one, row, many, entries, no_given, more_given, no_entries, more_entries, scalar_in}
-use Rattle.form_meaning.specs.declared.Form.{Form}
-use Rattle.form_meaning.specs.declared.Form.TheVariants as form
-use Rattle.form_meaning.specs.declared.Omitted.{Omitted}
-use Rattle.form_meaning.specs.declared.Omitted.TheVariants as omitted
-use Rattle.form_meaning.specs.declared.Listed.{Listed}
-use Rattle.form_meaning.specs.declared.Listed.TheVariants as listed
-use Rattle.form_meaning.specs.declared.Parameter.{Parameter}
-use Rattle.form_meaning.specs.Signature.{spelled, default_text}
-
--- what a part of a list is
-abbrev pub is_scalar : Given → Bool
-is_scalar (one (cell c)) = true
-is_scalar (one (table t)) = false
-is_scalar nothing = false
-is_scalar (row parts) = false
-is_scalar (many parts) = false
-is_scalar (entries pairs) = false
-
-abbrev pub is_object : Given → Bool
-is_object (one (cell c)) = false
-is_object (one (table t)) = true
-is_object nothing = false
-is_object (row parts) = false
-is_object (many parts) = false
-is_object (entries pairs) = false
-
-abbrev pub each : (Given → Bool) → GivenList → Bool
-each test no_given = true
-each test (more_given g rest) = test g && each test rest
-
-abbrev pub count_of : GivenList → ℕ
-count_of no_given = 0
-count_of (more_given g rest) = count_of rest + 1
-
--- a scalar, or a tuple of scalars alone
-abbrev pub is_key : Given → Bool
-is_key (row parts) = each is_scalar parts
-is_key (one (cell c)) = true
-is_key (one (table t)) = false
-is_key nothing = false
-is_key (many parts) = false
-is_key (entries pairs) = false
-
--- a tuple of so many scalars
-abbrev pub is_tuple_of : ℕ → Given → Bool
-is_tuple_of n (row parts) = nat_eq (count_of parts) n && each is_scalar parts
-is_tuple_of n (one v) = false
-is_tuple_of n nothing = false
-is_tuple_of n (many parts) = false
-is_tuple_of n (entries pairs) = false
-
--- scalars alone, or tuples of two scalars or more, all as long as the first
-abbrev pub are_alike : Given → GivenList → Bool
-are_alike (row parts) rest = nat_lt 1 (count_of parts) && each is_scalar parts && each (is_tuple_of (count_of parts)) rest
-are_alike (one (cell c)) rest = each is_scalar rest
-are_alike (one (table t)) rest = false
-are_alike nothing rest = false
-are_alike (many parts) rest = false
-are_alike (entries pairs) rest = false
-
-abbrev pub are_row_labels : GivenList → Bool
-are_row_labels no_given = true
-are_row_labels (more_given g rest) = are_alike g rest
-
-abbrev pub is_truth : CellValue → Bool
-is_truth (truth_cell b) = true
-is_truth c = false
-
-abbrev pub is_whole : CellValue → Bool
-is_whole (int_cell z) = true
-is_whole c = false
-
-abbrev pub is_text : CellValue → Bool
-is_text (text_cell t) = true
-is_text c = false
-
-abbrev pub same_label : LabelValue → LabelValue → Bool
-same_label a b = is_eq (label_cmp a b)
-
--- the key stands among the pairs
-abbrev pub has_key : LabelValue → GivenPairs → Bool
-has_key k no_entries = false
-has_key k (more_entries key v rest) = same_label k key || has_key k rest
-
--- each value that isn't replaced by a later one of the same key
-abbrev pub each_value : (Given → Bool) → GivenPairs → Bool
-each_value test no_entries = true
-each_value test (more_entries key v rest) = (has_key key rest || test v) && each_value test rest
+use Rattle.table_meaning.specs.Value.{Entry, cell, table, Given, GivenList, GivenPairs, NamedGiven, nothing, one, row, many, entries, scalar_in}
+use Rattle.call_meaning.specs.declared.Accepted.{Accepted}
+use Rattle.call_meaning.specs.declared.Accepted.TheVariants as accepted
+use Rattle.call_meaning.specs.declared.Omitted.{Omitted}
+use Rattle.call_meaning.specs.declared.Omitted.TheVariants as omitted
+use Rattle.call_meaning.specs.declared.Choices.{Choices}
+use Rattle.call_meaning.specs.declared.Choices.TheVariants as listed
+use Rattle.call_meaning.specs.declared.Parameter.{Parameter}
+use Rattle.call_meaning.specs.Signature.{spelled, default_text}
+pub use Rattle.form_meaning.specs.Given.{is_scalar, is_object, each, count_of, is_key, is_tuple_of, are_alike, are_row_labels, is_truth, is_whole, is_text, same_label, has_key, each_value, is_frame, is_given_text}
 
 -- whether None, a scalar, an object, a list or a dict has the form
-abbrev pub none_has : Form → Bool
-none_has form.ScalarOrNone = true
-none_has form.Names = true
+abbrev pub none_has : Accepted → Bool
+none_has accepted.ScalarOrNone = true
+none_has accepted.Names = true
 none_has f = false
 
-abbrev pub scalar_has : Form → CellValue → Bool
-scalar_has form.Truth c = is_truth c
-scalar_has form.Whole c = is_whole c
-scalar_has form.Text c = is_text c
-scalar_has form.Scalar c = true
-scalar_has form.ScalarOrNone c = true
-scalar_has form.Labels c = true
-scalar_has form.SomeLabels c = true
-scalar_has form.Names c = true
-scalar_has form.Level c = is_whole c || is_text c
+abbrev pub scalar_has : Accepted → CellValue → Bool
+scalar_has accepted.Truth c = is_truth c
+scalar_has accepted.Whole c = is_whole c
+scalar_has accepted.Text c = is_text c
+scalar_has accepted.Scalar c = true
+scalar_has accepted.ScalarOrNone c = true
+scalar_has accepted.Labels c = true
+scalar_has accepted.SomeLabels c = true
+scalar_has accepted.Names c = true
+scalar_has accepted.Level c = is_whole c || is_text c
 scalar_has f c = false
 
-abbrev pub is_frame : Shape → Bool
-is_frame Series = false
-is_frame Frame = true
-
-abbrev pub object_has : Form → Shape → Bool
-object_has form.Frame s = is_frame s
+abbrev pub object_has : Accepted → Shape → Bool
+object_has accepted.Frame s = is_frame s
 object_has f s = false
 
-abbrev pub list_has : Form → GivenList → Bool
-list_has form.Scalars parts = each is_scalar parts
-list_has form.Labels parts = each is_scalar parts
-list_has form.SomeLabels parts = nat_lt 0 (count_of parts) && each is_scalar parts
-list_has form.Keys parts = each is_key parts
-list_has form.RowLabels parts = are_row_labels parts
-list_has form.Names parts = each is_scalar parts
-list_has form.Objects parts = each is_object parts
+abbrev pub list_has : Accepted → GivenList → Bool
+list_has accepted.Scalars parts = each is_scalar parts
+list_has accepted.Labels parts = each is_scalar parts
+list_has accepted.SomeLabels parts = nat_lt 0 (count_of parts) && each is_scalar parts
+list_has accepted.Keys parts = each is_key parts
+list_has accepted.RowLabels parts = are_row_labels parts
+list_has accepted.Names parts = each is_scalar parts
+list_has accepted.Objects parts = each is_object parts
 list_has f parts = false
 
-abbrev pub is_given_text : Given → Bool
-is_given_text (one (cell c)) = is_text c
-is_given_text (one (table t)) = false
-is_given_text nothing = false
-is_given_text (row parts) = false
-is_given_text (many parts) = false
-is_given_text (entries pairs) = false
-
-abbrev pub dict_has : Form → GivenPairs → Bool
-dict_has form.Dict pairs = true
-dict_has form.TextDict pairs = each_value is_given_text pairs
+abbrev pub dict_has : Accepted → GivenPairs → Bool
+dict_has accepted.Dict pairs = true
+dict_has accepted.TextDict pairs = each_value is_given_text pairs
 dict_has f pairs = false
 
 -- None is taken where it is the default, and counts as not given
@@ -153,12 +61,12 @@ none_stands o = false
 
 -- whether a parameter takes an argument
 abbrev pub takes : Parameter → Given → Bool
-takes p nothing = none_stands p.omitted || none_has p.form
-takes p (one (cell c)) = scalar_has p.form c
-takes p (one (table t)) = object_has p.form t.shape
+takes p nothing = none_stands p.omitted || none_has p.accepted
+takes p (one (cell c)) = scalar_has p.accepted c
+takes p (one (table t)) = object_has p.accepted t.shape
 takes p (row parts) = false
-takes p (many parts) = list_has p.form parts
-takes p (entries pairs) = dict_has p.form pairs
+takes p (many parts) = list_has p.accepted parts
+takes p (entries pairs) = dict_has p.accepted pairs
 
 abbrev pub kind_names : List Text
 kind_names = codes "Int64" ∷ codes "boolean" ∷ codes "string" ∷ []
@@ -188,7 +96,7 @@ is_axis (int_cell z) = int_eq z (pos 0) || int_eq z (pos 1)
 is_axis c = false
 
 -- whether a scalar is among the listed values
-abbrev pub lists_scalar : Listed → CellValue → Bool
+abbrev pub lists_scalar : Choices → CellValue → Bool
 lists_scalar listed.Any c = true
 lists_scalar listed.KindNames c = is_among kind_names c
 lists_scalar listed.KindNameDict c = true
@@ -207,12 +115,12 @@ is_kind_name (row parts) = false
 is_kind_name (many parts) = false
 is_kind_name (entries pairs) = false
 
-abbrev pub lists_dict : Listed → GivenPairs → Bool
+abbrev pub lists_dict : Choices → GivenPairs → Bool
 lists_dict listed.KindNameDict pairs = each_value is_kind_name pairs
 lists_dict l pairs = true
 
 -- whether an argument is among the listed values
-abbrev pub lists : Listed → Given → Bool
+abbrev pub lists : Choices → Given → Bool
 lists l nothing = true
 lists l (one (cell c)) = lists_scalar l c
 lists l (one (table t)) = true

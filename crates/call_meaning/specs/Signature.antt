@@ -6,60 +6,60 @@ use denote.Enum.Bare.{sameb}
 use Rattle.cell_core.specs.declared.grid.Shape.{Shape}
 use Rattle.cell_core.specs.declared.grid.Shape.TheVariants.{Series, Frame}
 use Rattle.meaning.specs.Text.{Text, same_text}
-use Rattle.form_meaning.specs.contracts.ColumnMethod as column_method_type
-use Rattle.form_meaning.specs.contracts.SummaryMethod as summary_method_type
-use Rattle.form_meaning.specs.contracts.RowMethod as row_method_type
-use Rattle.form_meaning.specs.contracts.LevelMethod as level_method_type
-use Rattle.form_meaning.specs.contracts.LabelMethod as label_method_type
-use Rattle.form_meaning.specs.contracts.TableMethod as table_method_type
-use Rattle.form_meaning.specs.contracts.OtherMethod as other_method_type
-use Rattle.form_meaning.specs.declared.Method.{Method}
-use Rattle.form_meaning.specs.declared.Method.TheVariants as method
-use Rattle.form_meaning.specs.declared.ColumnMethod.TheVariants as column_method
-use Rattle.form_meaning.specs.declared.SummaryMethod.TheVariants as summary_method
-use Rattle.form_meaning.specs.declared.RowMethod.TheVariants as row_method
-use Rattle.form_meaning.specs.declared.LevelMethod.TheVariants as level_method
-use Rattle.form_meaning.specs.declared.LabelMethod.TheVariants as label_method
-use Rattle.form_meaning.specs.declared.TableMethod.TheVariants as table_method
-use Rattle.form_meaning.specs.declared.OtherMethod.TheVariants as other_method
-use Rattle.form_meaning.specs.declared.Function.{Function}
-use Rattle.form_meaning.specs.declared.Function.TheVariants as function
-use Rattle.form_meaning.specs.declared.ParameterName.{ParameterName}
-use Rattle.form_meaning.specs.declared.ParameterName.TheVariants as name
-use Rattle.form_meaning.specs.declared.Form.{Form}
-use Rattle.form_meaning.specs.declared.Form.TheVariants as form
-use Rattle.form_meaning.specs.declared.Omitted.{Omitted}
-use Rattle.form_meaning.specs.declared.Omitted.TheVariants as omitted
-use Rattle.form_meaning.specs.declared.DefaultText.{DefaultText}
-use Rattle.form_meaning.specs.declared.DefaultText.TheVariants as default
-use Rattle.form_meaning.specs.declared.Listed.{Listed}
-use Rattle.form_meaning.specs.declared.Listed.TheVariants as listed
-use Rattle.form_meaning.specs.declared.Parameter.{Parameter}
+use Rattle.call_meaning.specs.contracts.ColumnMethod as column_method_type
+use Rattle.call_meaning.specs.contracts.SummaryMethod as summary_method_type
+use Rattle.call_meaning.specs.contracts.RowMethod as row_method_type
+use Rattle.call_meaning.specs.contracts.LevelMethod as level_method_type
+use Rattle.call_meaning.specs.contracts.LabelMethod as label_method_type
+use Rattle.call_meaning.specs.contracts.TableMethod as table_method_type
+use Rattle.call_meaning.specs.contracts.OtherMethod as other_method_type
+use Rattle.call_meaning.specs.declared.Method.{Method}
+use Rattle.call_meaning.specs.declared.Method.TheVariants as method
+use Rattle.call_meaning.specs.declared.ColumnMethod.TheVariants as column_method
+use Rattle.call_meaning.specs.declared.SummaryMethod.TheVariants as summary_method
+use Rattle.call_meaning.specs.declared.RowMethod.TheVariants as row_method
+use Rattle.call_meaning.specs.declared.LevelMethod.TheVariants as level_method
+use Rattle.call_meaning.specs.declared.LabelMethod.TheVariants as label_method
+use Rattle.call_meaning.specs.declared.TableMethod.TheVariants as table_method
+use Rattle.call_meaning.specs.declared.OtherMethod.TheVariants as other_method
+use Rattle.call_meaning.specs.declared.Function.{Function}
+use Rattle.call_meaning.specs.declared.Function.TheVariants as function
+use Rattle.call_meaning.specs.declared.ParameterName.{ParameterName}
+use Rattle.call_meaning.specs.declared.ParameterName.TheVariants as name
+use Rattle.call_meaning.specs.declared.Accepted.{Accepted}
+use Rattle.call_meaning.specs.declared.Accepted.TheVariants as accepted
+use Rattle.call_meaning.specs.declared.Omitted.{Omitted}
+use Rattle.call_meaning.specs.declared.Omitted.TheVariants as omitted
+use Rattle.call_meaning.specs.declared.DefaultText.{DefaultText}
+use Rattle.call_meaning.specs.declared.DefaultText.TheVariants as default
+use Rattle.call_meaning.specs.declared.Choices.{Choices}
+use Rattle.call_meaning.specs.declared.Choices.TheVariants as listed
+use Rattle.call_meaning.specs.declared.Parameter.{Parameter}
 
 -- a parameter that must be given, and one that may be left out
-abbrev pub needed : ParameterName → Form → Parameter
-needed n f = record { name = n; form = f; omitted = omitted.Required; listed = listed.Any }
+abbrev pub needed : ParameterName → Accepted → Parameter
+needed n f = record { name = n; accepted = f; omitted = omitted.Required; listed = listed.Any }
 
-abbrev pub optional : ParameterName → Form → Omitted → Parameter
-optional n f o = record { name = n; form = f; omitted = o; listed = listed.Any }
+abbrev pub optional : ParameterName → Accepted → Omitted → Parameter
+optional n f o = record { name = n; accepted = f; omitted = o; listed = listed.Any }
 
 -- a parameter whose values are listed
-abbrev pub among : Listed → Parameter → Parameter
-among l p = record { name = p.name; form = p.form; omitted = p.omitted; listed = l }
+abbrev pub among : Choices → Parameter → Parameter
+among l p = record { name = p.name; accepted = p.accepted; omitted = p.omitted; listed = l }
 
 abbrev pub parameters_of : Method → List Parameter
-parameters_of (method.Table table_method.Copy) = optional name.Deep form.Truth (omitted.Truth true) ∷ []
-parameters_of (method.Table table_method.Head) = optional name.N form.Whole (omitted.Number (pos 5)) ∷ []
-parameters_of (method.Table table_method.Tail) = optional name.N form.Whole (omitted.Number (pos 5)) ∷ []
+parameters_of (method.Table table_method.Copy) = optional name.Deep accepted.Truth (omitted.Truth true) ∷ []
+parameters_of (method.Table table_method.Head) = optional name.N accepted.Whole (omitted.Number (pos 5)) ∷ []
+parameters_of (method.Table table_method.Tail) = optional name.N accepted.Whole (omitted.Number (pos 5)) ∷ []
 parameters_of (method.Columns column_method.Isna) = []
 parameters_of (method.Columns column_method.Notna) = []
-parameters_of (method.Columns column_method.Fillna) = needed name.Value form.Scalar ∷ []
+parameters_of (method.Columns column_method.Fillna) = needed name.Value accepted.Scalar ∷ []
 parameters_of (method.Rows row_method.Dropna) = []
-parameters_of (method.Columns column_method.Isin) = needed name.Values form.Scalars ∷ []
-parameters_of (method.Columns column_method.Astype) = among listed.KindNames (needed name.Dtype form.Text) ∷ []
+parameters_of (method.Columns column_method.Isin) = needed name.Values accepted.Scalars ∷ []
+parameters_of (method.Columns column_method.Astype) = among listed.KindNames (needed name.Dtype accepted.Text) ∷ []
 parameters_of (method.Rows row_method.DuplicatedSeries) = []
-parameters_of (method.Rows row_method.DuplicatedFrame) = optional name.Subset form.Labels omitted.None ∷ []
-parameters_of (method.Columns column_method.Shift) = optional name.Periods form.Whole (omitted.Number (pos 1)) ∷ []
+parameters_of (method.Rows row_method.DuplicatedFrame) = optional name.Subset accepted.Labels omitted.None ∷ []
+parameters_of (method.Columns column_method.Shift) = optional name.Periods accepted.Whole (omitted.Number (pos 1)) ∷ []
 parameters_of (method.Columns column_method.Cumsum) = []
 parameters_of (method.Columns column_method.Cummin) = []
 parameters_of (method.Columns column_method.Cummax) = []
@@ -70,50 +70,50 @@ parameters_of (method.Summary summary_method.Any) = []
 parameters_of (method.Summary summary_method.All) = []
 parameters_of (method.Summary summary_method.Count) = []
 parameters_of (method.Summary summary_method.Nunique) = []
-parameters_of (method.Rows row_method.SortValuesSeries) = optional name.Ascending form.Truth (omitted.Truth true) ∷ []
-parameters_of (method.Rows row_method.SortValuesFrame) = needed name.By form.Labels ∷ optional name.Ascending form.Truth (omitted.Truth true) ∷ []
-parameters_of (method.Rows row_method.SortIndex) = optional name.Ascending form.Truth (omitted.Truth true) ∷ []
-parameters_of (method.Labels label_method.ReindexSeries) = needed name.Index form.Keys ∷ []
-parameters_of (method.Labels label_method.ReindexFrame) = optional name.Index form.Keys omitted.None ∷ optional name.Columns form.Scalars omitted.None ∷ []
-parameters_of (method.Table table_method.RenameSeries) = needed name.Name form.ScalarOrNone ∷ []
-parameters_of (method.Table table_method.RenameFrame) = needed name.Columns form.Dict ∷ []
-parameters_of (method.Levels level_method.RenameAxis) = needed name.Names form.Names ∷ []
-parameters_of (method.Levels level_method.SetIndex) = needed name.Keys form.SomeLabels ∷ []
-parameters_of (method.Levels level_method.ResetIndex) = optional name.DropLabels form.Truth (omitted.Truth false) ∷ []
-parameters_of (method.Table table_method.DropColumns) = needed name.Columns form.Labels ∷ []
-parameters_of (method.Levels level_method.Droplevel) = needed name.Level form.Level ∷ []
-parameters_of (method.Levels level_method.Swaplevel) = optional name.I form.Level (omitted.Number (negsuc 1)) ∷ optional name.J form.Level (omitted.Number (negsuc 0)) ∷ []
-parameters_of (method.Labels label_method.Xs) = needed name.Key form.Scalar ∷ optional name.Level form.Level (omitted.Number (pos 0)) ∷ []
+parameters_of (method.Rows row_method.SortValuesSeries) = optional name.Ascending accepted.Truth (omitted.Truth true) ∷ []
+parameters_of (method.Rows row_method.SortValuesFrame) = needed name.By accepted.Labels ∷ optional name.Ascending accepted.Truth (omitted.Truth true) ∷ []
+parameters_of (method.Rows row_method.SortIndex) = optional name.Ascending accepted.Truth (omitted.Truth true) ∷ []
+parameters_of (method.Labels label_method.ReindexSeries) = needed name.Index accepted.Keys ∷ []
+parameters_of (method.Labels label_method.ReindexFrame) = optional name.Index accepted.Keys omitted.None ∷ optional name.Columns accepted.Scalars omitted.None ∷ []
+parameters_of (method.Table table_method.RenameSeries) = needed name.Name accepted.ScalarOrNone ∷ []
+parameters_of (method.Table table_method.RenameFrame) = needed name.Columns accepted.Dict ∷ []
+parameters_of (method.Levels level_method.RenameAxis) = needed name.Names accepted.Names ∷ []
+parameters_of (method.Levels level_method.SetIndex) = needed name.Keys accepted.SomeLabels ∷ []
+parameters_of (method.Levels level_method.ResetIndex) = optional name.DropLabels accepted.Truth (omitted.Truth false) ∷ []
+parameters_of (method.Table table_method.DropColumns) = needed name.Columns accepted.Labels ∷ []
+parameters_of (method.Levels level_method.Droplevel) = needed name.Level accepted.Level ∷ []
+parameters_of (method.Levels level_method.Swaplevel) = optional name.I accepted.Level (omitted.Number (negsuc 1)) ∷ optional name.J accepted.Level (omitted.Number (negsuc 0)) ∷ []
+parameters_of (method.Labels label_method.Xs) = needed name.Key accepted.Scalar ∷ optional name.Level accepted.Level (omitted.Number (pos 0)) ∷ []
 parameters_of (method.Table table_method.ToFrame) = []
-parameters_of (method.Table table_method.ToCsv) = optional name.Index form.Truth (omitted.Truth true) ∷ []
+parameters_of (method.Table table_method.ToCsv) = optional name.Index accepted.Truth (omitted.Truth true) ∷ []
 parameters_of (method.Other other_method.Groupby) =
-    needed name.By form.SomeLabels ∷ optional name.Sort form.Truth (omitted.Truth true) ∷ optional name.Dropna form.Truth (omitted.Truth true)
-    ∷ optional name.AsIndex form.Truth (omitted.Truth true) ∷ []
-parameters_of (method.Other other_method.Rolling) = needed name.Window form.Whole ∷ optional name.MinPeriods form.Whole omitted.None ∷ []
-parameters_of (method.Other other_method.Expanding) = optional name.MinPeriods form.Whole (omitted.Number (pos 1)) ∷ []
+    needed name.By accepted.SomeLabels ∷ optional name.Sort accepted.Truth (omitted.Truth true) ∷ optional name.Dropna accepted.Truth (omitted.Truth true)
+    ∷ optional name.AsIndex accepted.Truth (omitted.Truth true) ∷ []
+parameters_of (method.Other other_method.Rolling) = needed name.Window accepted.Whole ∷ optional name.MinPeriods accepted.Whole omitted.None ∷ []
+parameters_of (method.Other other_method.Expanding) = optional name.MinPeriods accepted.Whole (omitted.Number (pos 1)) ∷ []
 parameters_of (method.Other other_method.Merge) =
-    needed name.Right form.Frame ∷ among listed.Hows (optional name.How form.Text (omitted.Text default.Inner)) ∷ optional name.On form.SomeLabels omitted.None
-    ∷ among listed.Validations (optional name.Validate form.Text omitted.None) ∷ []
+    needed name.Right accepted.Frame ∷ among listed.Hows (optional name.How accepted.Text (omitted.Text default.Inner)) ∷ optional name.On accepted.SomeLabels omitted.None
+    ∷ among listed.Validations (optional name.Validate accepted.Text omitted.None) ∷ []
 parameters_of (method.Other other_method.Stack) = []
-parameters_of (method.Other other_method.Unstack) = optional name.Level form.Level (omitted.Number (negsuc 0)) ∷ []
-parameters_of (method.Other other_method.Pivot) = needed name.Columns form.Scalar ∷ needed name.Index form.SomeLabels ∷ needed name.Values form.Scalar ∷ []
+parameters_of (method.Other other_method.Unstack) = optional name.Level accepted.Level (omitted.Number (negsuc 0)) ∷ []
+parameters_of (method.Other other_method.Pivot) = needed name.Columns accepted.Scalar ∷ needed name.Index accepted.SomeLabels ∷ needed name.Values accepted.Scalar ∷ []
 parameters_of (method.Other other_method.PivotTable) =
-    needed name.Values form.Scalar ∷ needed name.Index form.SomeLabels ∷ needed name.Columns form.Scalar
-    ∷ among listed.Aggregations (needed name.Aggfunc form.Text) ∷ []
-parameters_of (method.Other other_method.Melt) = optional name.IdVars form.Labels omitted.None ∷ optional name.ValueVars form.Labels omitted.None ∷ []
+    needed name.Values accepted.Scalar ∷ needed name.Index accepted.SomeLabels ∷ needed name.Columns accepted.Scalar
+    ∷ among listed.Aggregations (needed name.Aggfunc accepted.Text) ∷ []
+parameters_of (method.Other other_method.Melt) = optional name.IdVars accepted.Labels omitted.None ∷ optional name.ValueVars accepted.Labels omitted.None ∷ []
 
 abbrev pub function_parameters : Function → List Parameter
 function_parameters function.Series =
-    needed name.Values form.Scalars ∷ optional name.Index form.RowLabels omitted.None ∷ optional name.Name form.Scalar omitted.None
-    ∷ among listed.KindNames (optional name.Dtype form.Text omitted.None) ∷ []
-function_parameters function.DataFrame = needed name.Columns form.Dict ∷ optional name.Index form.RowLabels omitted.None ∷ []
+    needed name.Values accepted.Scalars ∷ optional name.Index accepted.RowLabels omitted.None ∷ optional name.Name accepted.Scalar omitted.None
+    ∷ among listed.KindNames (optional name.Dtype accepted.Text omitted.None) ∷ []
+function_parameters function.DataFrame = needed name.Columns accepted.Dict ∷ optional name.Index accepted.RowLabels omitted.None ∷ []
 function_parameters function.ReadCsv =
-    needed name.Name form.Text ∷ among listed.Backends (optional name.DtypeBackend form.Text (omitted.Text default.NumpyNullable))
-    ∷ among listed.KindNameDict (optional name.Dtype form.TextDict omitted.None) ∷ []
+    needed name.Name accepted.Text ∷ among listed.Backends (optional name.DtypeBackend accepted.Text (omitted.Text default.NumpyNullable))
+    ∷ among listed.KindNameDict (optional name.Dtype accepted.TextDict omitted.None) ∷ []
 function_parameters function.Concat =
-    needed name.Objects form.Objects ∷ among listed.Axes (optional name.Axis form.Whole (omitted.Number (pos 0)))
-    ∷ among listed.Joins (optional name.Join form.Text (omitted.Text default.Outer)) ∷ optional name.IgnoreIndex form.Truth (omitted.Truth false)
-    ∷ optional name.Keys form.Scalars omitted.None ∷ []
+    needed name.Objects accepted.Objects ∷ among listed.Axes (optional name.Axis accepted.Whole (omitted.Number (pos 0)))
+    ∷ among listed.Joins (optional name.Join accepted.Text (omitted.Text default.Outer)) ∷ optional name.IgnoreIndex accepted.Truth (omitted.Truth false)
+    ∷ optional name.Keys accepted.Scalars omitted.None ∷ []
 
 -- how a parameter's name is written
 abbrev pub spelled : ParameterName → Text

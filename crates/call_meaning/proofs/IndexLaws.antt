@@ -1,11 +1,11 @@
 -- Labels of an index that has a right form.
 use Rattle.{
-  std.proofs.{Common.{◌≡◌, ◌<◌, ◌≤◌, refl, ℕ, nat_eq, nat_lt, ◌&&◌, Bool, true, false, List, length, slice_get, Option, Some, None, All, arith}, lemmas.{Bool.Decides.{nat_tests}, List.Elements.{All-nil}}},
-  meaning.specs.Cell.{LabelValue},
+  meaning.proofs.Common.{◌≡◌, ◌<◌, ◌≤◌, refl, ℕ, nat_eq, nat_lt, ◌&&◌, Bool, true, false, List, length, slice_get, Option, Some, None, All, arith, nat_tests, All-nil, LabelValue},
   table_meaning.specs.Value.{cell, Given, GivenList, NamedGiven, no_given, more_given, one, row, list_in},
-  form_meaning.{specs.{declared.Parameter.{Parameter}, Binding.{is_scalar, each, count_of, is_tuple_of, are_row_labels, argument_at, bound, bound_of}, Select.{labels_of}, Make.{row_labels, index_labels, AreAlike}}, proofs.BoundLaws.{list_taken}},
+  call_meaning.{specs.{declared.Parameter.{Parameter}, Binding.{is_scalar, each, count_of, is_tuple_of, are_row_labels, argument_at, bound, bound_of}}, proofs.BoundLaws.{list_taken}},
+  form_meaning.specs.{Select.{labels_of}, Make.{row_labels, index_labels, AreAlike}},
 }
-use Rattle.form_meaning.specs.declared.Form.TheVariants as form
+use Rattle.call_meaning.specs.declared.Accepted.TheVariants as accepted
 
 both : (a b : Bool) → (a && b) ≡ true → (a ≡ true) × (b ≡ true)
 both true b h = (refl, h)
@@ -59,11 +59,11 @@ abbrev pub GivesAlike : Option GivenList → Type 0
 GivesAlike None = Unit {0}
 GivesAlike (Some parts) = AreAlike (index_labels parts)
 
-index_of : (ps : List Parameter) (gs : List NamedGiven) (place : ℕ) (p : Parameter) (l : List Given) → bound_of ps gs ≡ bound l → slice_get ps place ≡ Some p → p.form ≡ form.RowLabels
+index_of : (ps : List Parameter) (gs : List NamedGiven) (place : ℕ) (p : Parameter) (l : List Given) → bound_of ps gs ≡ bound l → slice_get ps place ≡ Some p → p.accepted ≡ accepted.RowLabels
     → (o : Option GivenList) → list_in (argument_at ps gs place) ≡ o → GivesAlike o
-index_of _ _ _ p l _ _ form None _ = tt
-index_of ps gs place p l same there form (Some parts) is = index_alike parts (cc (list_taken ps gs place p l parts same there is))
+index_of _ _ _ p l _ _ accepted None _ = tt
+index_of ps gs place p l same there accepted (Some parts) is = index_alike parts (cc (list_taken ps gs place p l parts same there is))
 
 -- an index that is bound to a parameter for labels of rows gives labels that are alike
-pub index_taken : (ps : List Parameter) (gs : List NamedGiven) (place : ℕ) (p : Parameter) (l : List Given) → bound_of ps gs ≡ bound l → slice_get ps place ≡ Some p → p.form ≡ form.RowLabels → GivesAlike (list_in (argument_at ps gs place))
-index_taken _ _ _ p l same there form = search index_of
+pub index_taken : (ps : List Parameter) (gs : List NamedGiven) (place : ℕ) (p : Parameter) (l : List Given) → bound_of ps gs ≡ bound l → slice_get ps place ≡ Some p → p.accepted ≡ accepted.RowLabels → GivesAlike (list_in (argument_at ps gs place))
+index_taken _ _ _ p l same there accepted = search index_of

@@ -3,10 +3,10 @@ use Rattle.std.specs.Prelude.{Bool, true, false, List, Option, Some, None, Resul
 use Rattle.meaning.specs.Text.{Text}
 use Rattle.meaning.specs.Fault.{FaultValue, no_attribute, not_built}
 use Rattle.table_meaning.specs.Value.{Entry, Given, NamedGiven}
-use Rattle.form_meaning.specs.declared.Function.{Function}
-use Rattle.form_meaning.specs.declared.Function.TheVariants as function
-use Rattle.form_meaning.specs.Signature.{function_parameters, function_named}
-use Rattle.form_meaning.specs.Binding.{bound_of, on_bound}
+use Rattle.call_meaning.specs.declared.Function.{Function}
+use Rattle.call_meaning.specs.declared.Function.TheVariants as function
+use Rattle.call_meaning.specs.Signature.{function_parameters, function_named}
+use Rattle.call_meaning.specs.Binding.{bound_of, on_bound}
 use Rattle.form_meaning.specs.Make.{series_result, frame_result}
 
 abbrev pub constructed : Function → List Given → Result Entry FaultValue

@@ -1,10 +1,10 @@
 -- What stands at a place of bound arguments is taken by its parameter.
 use Rattle.{
-  std.{proofs.{Common.{arith, ◌≡◌, ◌∙◌, refl, ap, sym, ℕ, Bool, true, false, cond, List, [], ◌∷◌, Option, Some, None, if◌then◌else◌}, lemmas.Bool.{eqb-true}}, specs.Prelude.{slice_get, nat_eq}},
+  meaning.proofs.Common.{arith, ◌≡◌, ◌∙◌, refl, ap, sym, ℕ, Bool, true, false, cond, List, [], ◌∷◌, Option, Some, None, if◌then◌else◌, eqb-true, slice_get, nat_eq},
   table_meaning.specs.Value.{Given, GivenList, NamedGiven, many, list_in},
-  form_meaning.specs.{declared.{Omitted.{Omitted}, Parameter.{Parameter}}, Binding.{takes, list_has, stands_for, or_stand_in, goes_to, counted, given_at, taken_by, fit, argument_at, arguments_from, not_taken, not_listed, bound, bound_of}},
+  call_meaning.specs.{declared.{Omitted.{Omitted}, Parameter.{Parameter}}, Binding.{takes, list_has, stands_for, or_stand_in, goes_to, counted, given_at, taken_by, fit, argument_at, arguments_from, not_taken, not_listed, bound, bound_of}},
 }
-use Rattle.form_meaning.specs.declared.Omitted.TheVariants as omitted
+use Rattle.call_meaning.specs.declared.Omitted.TheVariants as omitted
 
 if_both : (a b : Bool) → (if a then b else false) ≡ true → (a ≡ true) × (b ≡ true)
 if_both true b h = (refl, h)
@@ -32,17 +32,17 @@ no_default (omitted.Number z) _ is = cc
 no_default (omitted.Truth b) _ is = cc
 no_default (omitted.Text t) _ is = cc
 
-taken_list : (p : Parameter) (a : Given) (parts : GivenList) → takes p a ≡ true → list_in a ≡ Some parts → list_has p.form parts ≡ true
+taken_list : (p : Parameter) (a : Given) (parts : GivenList) → takes p a ≡ true → list_in a ≡ Some parts → list_has p.accepted parts ≡ true
 taken_list p (many parts') _ taken is = search some_is
 taken_list p _ _ taken is = cc
 
-list_of : (p : Parameter) (o : Option Given) (parts : GivenList) → ((a : Given) → o ≡ Some a → takes p a ≡ true) → list_in (or_stand_in o (Some p)) ≡ Some parts → list_has p.form parts ≡ true
+list_of : (p : Parameter) (o : Option Given) (parts : GivenList) → ((a : Given) → o ≡ Some a → takes p a ≡ true) → list_in (or_stand_in o (Some p)) ≡ Some parts → list_has p.accepted parts ≡ true
 list_of p None _ taken is = search no_default
 list_of p (Some a) _ taken is = search taken_list
 
 -- a list at a place has the form of the parameter there
 pub list_taken : (ps : List Parameter) (gs : List NamedGiven) (place : ℕ) (p : Parameter) (l : List Given) (parts : GivenList) → bound_of ps gs ≡ bound l → slice_get ps place ≡ Some p → list_in (argument_at ps gs place) ≡ Some parts
-    → list_has p.form parts ≡ true
+    → list_has p.accepted parts ≡ true
 list_taken ps gs place p l parts same there is =
     list_of p (given_at ps 0 gs place) parts
     (λ a given. ap (λ o. taken_by o a) (sym there) ∙ given_taken ps 0 gs place a (search fitted) given)
