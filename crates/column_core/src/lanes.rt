@@ -1,5 +1,5 @@
 // Values of one type, each present or not: of its own, or borrowed with a stride.
-ghost use Rattle.std.specs.Prelude.{◌≡◌, ◌<◌, ℕ, Bool, false, length, replicate, slice_set, vec_len, unwrap_or, is_some, IfOk, OnOk, OnErr, Option, None, ⊤};
+ghost use Rattle.std.specs.Prelude.{◌≡◌, ◌<◌, ℕ, false, length, replicate, slice_set, vec_len, unwrap_or, is_some, IfOk, OnOk, OnErr, Option, None, ⊤};
 ghost use Rattle.column_core.specs.Lanes.{LaneFits, lane_place, lane_row, option_at, IsPushed};
 
 use cell_core::NoMemory;

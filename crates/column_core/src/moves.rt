@@ -1,5 +1,5 @@
 // Columns of rows that are taken from another column.
-ghost use Rattle.std.specs.Prelude.{◌≡◌, ◌<◌, ◌≤◌, ◌-◌, ◌++◌, ℕ, ℤ, List, All, length, take, drop, replicate, Option, Some, IfOk};
+ghost use Rattle.std.specs.Prelude.{◌≡◌, ◌<◌, ◌≤◌, ◌-◌, ◌++◌, ℕ, ℤ, All, length, take, drop, replicate, Option, Some, IfOk};
 ghost use Rattle.cell_core.specs.declared.cell.Cell.TheVariants.{Na};
 ghost use Rattle.meaning.specs.Column.{shifted, taken};
 ghost use Rattle.column_core.specs.Columns.{column_with};

@@ -1,6 +1,5 @@
 // The one loop that makes a column, over the operation of a row.
 ghost use Rattle.std.specs.Prelude.{◌≡◌, ◌<◌, ◌+◌, ◌≤◌, ◌^◌, ℕ, length, Option, Some, None, Ok, OnOk, IfOk, IfErr, MatchResult};
-ghost use Rattle.column_core.specs.Lanes.{option_at};
 ghost use Rattle.column_core.specs.Rows.{try_rows, made_rows, AreWritten, IsFirstRefused, Refuses};
 ghost use Rattle.column_core.specs.declared.rows.RowFault.TheVariants.{Memory};
 

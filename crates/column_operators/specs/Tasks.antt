@@ -3,6 +3,10 @@ use Rattle.std.specs.Prelude.{Bool, true, false, Option, Some, ◌-ℤ◌, ◌*�
 use Rattle.std.specs.declared.cmp.Ordering.{Ordering}
 use Rattle.std.specs.declared.cmp.Ordering.TheVariants.{Less, Equal, Greater}
 use Rattle.cell_core.specs.declared.cell.Kind.{Kind}
+use Rattle.cell_core.specs.declared.cell.Cell.{Cell}
+use Rattle.column_core.specs.declared.lanes.Lane.{Lane}
+use Rattle.column_core.specs.Columns.{CellColumn, column_with}
+use Rattle.column_core.specs.Lanes.{lane_row}
 use Rattle.meaning.specs.Cell.{CellValue}
 use Rattle.meaning.specs.Column.{ColumnValue, ColumnFault, zero_division, column_if, try_pairs}
 use Rattle.meaning.specs.Operator.{floor_quotient, floor_rest, add_cells, number_cells, division_cells, compare_cells, and_cells, or_cells, xor_cells, number_kind, sum_kind, comparison_kind, truth_kind, scalar_column}
@@ -65,3 +69,7 @@ task_column task a b = column_if (task_kind task a.kind b.kind) zero_division (t
 abbrev pub scalar_task : Task → ColumnValue → CellValue → Bool → Result ColumnValue ColumnFault
 scalar_task task a c true = task_column task (scalar_column a c) a
 scalar_task task a c false = task_column task a (scalar_column a c)
+
+-- the cells of a lane
+abbrev pub lane_column : {T : Type 0} → Kind → (Option T → Cell) → Lane T → CellColumn
+lane_column kind cell a = column_with kind cell a.count (lane_row a.values.now a.present.now a.start a.stride a.back)

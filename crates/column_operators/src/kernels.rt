@@ -1,17 +1,17 @@
 // Operators on columns.
-ghost use Rattle.std.specs.Prelude.{◌≡◌, ◌≢◌, ◌<◌, ◌^◌, ℕ, pos, List, length, Option, Some, IfOk, IfErr, OnErr};
+ghost use Rattle.std.specs.Prelude.{◌≡◌, ◌≢◌, ◌<◌, ◌^◌, ℕ, pos, List, length, Option, Some, None, IfOk};
+ghost use Rattle.std.proofs.Common.{refl};
 ghost use Rattle.cell_core.specs.declared.cell.Kind.TheVariants.{Int64, Boolean, Text as string};
 ghost use Rattle.meaning.specs.Cell.{datum, AreGiven, IsGiven, IsLonger};
 ghost use Rattle.meaning.specs.Column.{column_of, zero_division};
-ghost use Rattle.meaning.specs.Operator.{binary_column, scalar_binary, invert_column};
+ghost use Rattle.meaning.specs.Operator.{binary_column, scalar_binary, scalar_kind, invert_column};
 ghost use Rattle.meaning.specs.Symbol.{add};
-ghost use Rattle.column_core.specs.Lanes.{option_at};
 ghost use Rattle.column_core.specs.Columns.{column_value, column_with, number_cell, truth_cell, text_cell};
 ghost use Rattle.column_core.specs.Views.{borrowed_column};
 ghost use Rattle.column_core.specs.Rows.{try_rows, map_rows};
 ghost use Rattle.nullable_array.specs.Answers.{Answers};
 ghost use Rattle.column_operators.specs.Operations.{compared};
-ghost use Rattle.column_operators.specs.Tasks.{operator_of, task_column, scalar_task};
+ghost use Rattle.column_operators.specs.Tasks.{operator_of, task_column, scalar_task, lane_column};
 
 use crate::divisors::{Divisor, QuotientBy};
 use crate::joins::Join;
@@ -92,8 +92,8 @@ fn pure_on_columns(
         (task_column task (column_value dict.now a.entry) (column_value dict.now b.entry)) }
 {
     match (&a.lanes, &b.lanes) {
-        (Borrowed::Ints(x), Borrowed::Ints(y)) => numbers(alloc, task, x, y),
-        (Borrowed::Truths(x), Borrowed::Truths(y)) => truths(alloc, task, x, y),
+        (Borrowed::Ints(x), Borrowed::Ints(y)) => on_lanes(alloc, task, x, y),
+        (Borrowed::Truths(x), Borrowed::Truths(y)) => on_lanes(alloc, task, x, y),
         (Borrowed::Texts(x), Borrowed::Texts(y)) => on_texts(alloc, dict, task, x, y),
         _ => Err(ArrayFault::KindMismatch),
     }
@@ -115,43 +115,28 @@ fn sums(
         (binary_column add (column_value dict.old a.entry) (column_value dict.old b.entry)) }
 {
     match (&a.lanes, &b.lanes) {
-        (Borrowed::Ints(x), Borrowed::Ints(y)) => numbers(alloc, Task::Sum, x, y),
+        (Borrowed::Ints(x), Borrowed::Ints(y)) => on_lanes(alloc, Task::Sum, x, y),
         (Borrowed::Texts(x), Borrowed::Texts(y)) => joined(alloc, dict, x, y),
         _ => Err(ArrayFault::KindMismatch),
     }
 }
 
-fn numbers(
+// What an operator does to two lanes.
+fn on_lanes<T: Operand>(
     alloc: Global,
     task: Task,
-    a: &Lane<'_, i64>,
-    b: &Lane<'_, i64>,
+    a: &Lane<'_, T>,
+    b: &Lane<'_, T>,
 ) -> Result<Column, ArrayFault>
     requires { a.now.count ≡ b.now.count }
     ensures given { IfOk result (λ c. (texts : List (List ℕ)) → AreGiven texts c.cells) }
     ensures answer { (texts : List (List ℕ)) → Answers texts result (task_column task
-        (column_value texts (borrowed_column (Borrowed.Ints a.now))) (column_value texts (borrowed_column (Borrowed.Ints b.now)))) }
+        (column_value texts (lane_column T.kind T.cell a.now))
+        (column_value texts (lane_column T.kind T.cell b.now))) }
 {
     match (a.dense(), b.dense()) {
-        (Some(x), Some(y)) => on_number_sides(alloc, task, x, y),
-        _ => on_numbers(alloc, task, a, b),
-    }
-}
-
-fn truths(
-    alloc: Global,
-    task: Task,
-    a: &Lane<'_, bool>,
-    b: &Lane<'_, bool>,
-) -> Result<Column, ArrayFault>
-    requires { a.now.count ≡ b.now.count }
-    ensures given { IfOk result (λ c. (texts : List (List ℕ)) → AreGiven texts c.cells) }
-    ensures answer { (texts : List (List ℕ)) → Answers texts result (task_column task
-        (column_value texts (borrowed_column (Borrowed.Truths a.now))) (column_value texts (borrowed_column (Borrowed.Truths b.now)))) }
-{
-    match (a.dense(), b.dense()) {
-        (Some(x), Some(y)) => on_truth_sides(alloc, task, x, y),
-        _ => on_truths(alloc, task, a, b),
+        (Some(x), Some(y)) => T::on_sides(alloc, task, x, y),
+        _ => T::on_rows(alloc, task, a, b),
     }
 }
 
@@ -215,10 +200,10 @@ fn pure_beside(
         (scalar_task task (column_value dict.now a.entry) (datum dict.now scalar) left) }
 {
     match (&a.lanes, scalar) {
-        (Borrowed::Ints(x), Cell::Int(y)) => numbers_beside(alloc, task, x, Some(y), left),
-        (Borrowed::Ints(x), Cell::Na) => numbers_beside(alloc, task, x, None, left),
-        (Borrowed::Truths(x), Cell::Bool(y)) => truths_beside(alloc, task, x, Some(y), left),
-        (Borrowed::Truths(x), Cell::Na) => truths_beside(alloc, task, x, None, left),
+        (Borrowed::Ints(x), Cell::Int(y)) => beside_lane(alloc, task, x, Some(y), left),
+        (Borrowed::Ints(x), Cell::Na) => beside_lane(alloc, task, x, None, left),
+        (Borrowed::Truths(x), Cell::Bool(y)) => beside_lane(alloc, task, x, Some(y), left),
+        (Borrowed::Truths(x), Cell::Na) => beside_lane(alloc, task, x, None, left),
         (Borrowed::Texts(x), Cell::Text(y)) => texts_beside(alloc, dict, task, x, Some(y), left),
         (Borrowed::Texts(x), Cell::Na) => texts_beside(alloc, dict, task, x, None, left),
         _ => Err(ArrayFault::KindMismatch),
@@ -241,72 +226,54 @@ fn sums_beside(
         (scalar_binary add (column_value dict.old a.entry) (datum dict.old scalar) left) }
 {
     match (&a.lanes, scalar) {
-        (Borrowed::Ints(x), Cell::Int(y)) => numbers_beside(alloc, Task::Sum, x, Some(y), left),
-        (Borrowed::Ints(x), Cell::Na) => numbers_beside(alloc, Task::Sum, x, None, left),
+        (Borrowed::Ints(x), Cell::Int(y)) => beside_lane(alloc, Task::Sum, x, Some(y), left),
+        (Borrowed::Ints(x), Cell::Na) => beside_lane(alloc, Task::Sum, x, None, left),
         (Borrowed::Texts(x), Cell::Text(y)) => joined_beside(alloc, dict, x, Some(y), left),
         (Borrowed::Texts(x), Cell::Na) => joined_beside(alloc, dict, x, None, left),
         _ => Err(ArrayFault::KindMismatch),
     }
 }
 
-fn numbers_beside(
+// What an operator does to a lane and a scalar.
+fn beside_lane<T: Operand>(
     alloc: Global,
     task: Task,
-    a: &Lane<'_, i64>,
-    scalar: Option<i64>,
+    a: &Lane<'_, T>,
+    scalar: Option<T>,
     left: bool,
 ) -> Result<Column, ArrayFault>
     ensures given { IfOk result (λ c. (texts : List (List ℕ)) → AreGiven texts c.cells) }
-    ensures answer { (texts : List (List ℕ)) →
-        Answers texts result
-        (scalar_task task (column_value texts (borrowed_column (Borrowed.Ints a.now)))
-        (datum texts (number_cell scalar)) left) }
+    ensures answer { (texts : List (List ℕ)) → Answers texts result
+        (scalar_task task (column_value texts (lane_column T.kind T.cell a.now))
+        (datum texts (T.cell scalar)) left) }
 {
     match a.dense() {
-        Some(side) => beside_number_side(alloc, task, side, scalar, left),
-        None => beside_numbers(alloc, task, a, scalar, left),
+        Some(side) => beside_side(alloc, task, side, scalar, left),
+        None => beside_rows(alloc, task, a, scalar, left),
     }
 }
 
-fn beside_number_side<A: Side<i64>>(
+fn beside_side<T: Operand, A: Side<T>>(
     alloc: Global,
     task: Task,
     a: A,
-    scalar: Option<i64>,
+    scalar: Option<T>,
     left: bool,
 ) -> Result<Column, ArrayFault>
     ensures given { IfOk result (λ c. (texts : List (List ℕ)) → AreGiven texts c.cells) }
     ensures answer { (texts : List (List ℕ)) → Answers texts result (scalar_task task
-        (column_value texts (column_with Int64 number_cell (A.count_of a) (A.row_of a))) (datum texts (number_cell scalar)) left) }
+        (column_value texts (column_with T.kind T.cell (A.count_of a) (A.row_of a)))
+        (datum texts (T.cell scalar)) left) }
 {
-    let same = Constant {
-        value: scalar,
-        blank: 0,
-        count: a.count(),
-    };
     if left {
-        on_number_sides(alloc, task, same, a)
+        let same = Constant {
+            value: scalar,
+            blank: T::blank(),
+            count: a.count(),
+        };
+        T::on_sides(alloc, task, same, a)
     } else {
-        on_number_before(alloc, task, a, same)
-    }
-}
-
-// What an operator does to a side of whole numbers before one that is the same in each row.
-fn on_number_before<A: Side<i64>>(
-    alloc: Global,
-    task: Task,
-    a: A,
-    b: Constant<i64>,
-) -> Result<Column, ArrayFault>
-    requires { A.count_of a ≡ b.count }
-    ensures given { IfOk result (λ c. (texts : List (List ℕ)) → AreGiven texts c.cells) }
-    ensures answer { (texts : List (List ℕ)) → Answers texts result (task_column task
-        (column_value texts (column_with Int64 number_cell (A.count_of a) (A.row_of a)))
-        (column_value texts (column_with Int64 number_cell b.count (λ _. b.value)))) }
-{
-    match (task, b.value) {
-        (Task::Quotient, Some(divisor)) if 0 < divisor => quotients_by(alloc, a, divisor as u64),
-        _ => on_number_sides(alloc, task, a, b),
+        T::on_side_before(alloc, task, a, scalar)
     }
 }
 
@@ -327,89 +294,26 @@ fn quotients_by<A: Side<i64>>(alloc: Global, a: A, divisor: u64) -> Result<Colum
     operate_sides(alloc, &by, a, nothing)
 }
 
-fn beside_numbers<A: Source<i64>>(
+fn beside_rows<T: Operand, A: Source<T>>(
     alloc: Global,
     task: Task,
     a: &A,
-    scalar: Option<i64>,
+    scalar: Option<T>,
     left: bool,
 ) -> Result<Column, ArrayFault>
     ensures given { IfOk result (λ c. (texts : List (List ℕ)) → AreGiven texts c.cells) }
     ensures answer { (texts : List (List ℕ)) → Answers texts result (scalar_task task
-        (column_value texts (column_with Int64 number_cell (A.count_of a.now) (A.row_of a.now))) (datum texts (number_cell scalar)) left) }
+        (column_value texts (column_with T.kind T.cell (A.count_of a.now) (A.row_of a.now)))
+        (datum texts (T.cell scalar)) left) }
 {
     let same = Same {
         value: scalar,
         count: a.count(),
     };
     if left {
-        on_numbers(alloc, task, &same, a)
+        T::on_rows(alloc, task, &same, a)
     } else {
-        on_numbers(alloc, task, a, &same)
-    }
-}
-
-fn truths_beside(
-    alloc: Global,
-    task: Task,
-    a: &Lane<'_, bool>,
-    scalar: Option<bool>,
-    left: bool,
-) -> Result<Column, ArrayFault>
-    ensures given { IfOk result (λ c. (texts : List (List ℕ)) → AreGiven texts c.cells) }
-    ensures answer { (texts : List (List ℕ)) →
-        Answers texts result
-        (scalar_task task (column_value texts (borrowed_column (Borrowed.Truths a.now)))
-        (datum texts (truth_cell scalar)) left) }
-{
-    match a.dense() {
-        Some(side) => beside_truth_side(alloc, task, side, scalar, left),
-        None => beside_truths(alloc, task, a, scalar, left),
-    }
-}
-
-fn beside_truth_side<A: Side<bool>>(
-    alloc: Global,
-    task: Task,
-    a: A,
-    scalar: Option<bool>,
-    left: bool,
-) -> Result<Column, ArrayFault>
-    ensures given { IfOk result (λ c. (texts : List (List ℕ)) → AreGiven texts c.cells) }
-    ensures answer { (texts : List (List ℕ)) → Answers texts result (scalar_task task
-        (column_value texts (column_with Boolean truth_cell (A.count_of a) (A.row_of a))) (datum texts (truth_cell scalar)) left) }
-{
-    let same = Constant {
-        value: scalar,
-        blank: false,
-        count: a.count(),
-    };
-    if left {
-        on_truth_sides(alloc, task, same, a)
-    } else {
-        on_truth_sides(alloc, task, a, same)
-    }
-}
-
-fn beside_truths<A: Source<bool>>(
-    alloc: Global,
-    task: Task,
-    a: &A,
-    scalar: Option<bool>,
-    left: bool,
-) -> Result<Column, ArrayFault>
-    ensures given { IfOk result (λ c. (texts : List (List ℕ)) → AreGiven texts c.cells) }
-    ensures answer { (texts : List (List ℕ)) → Answers texts result (scalar_task task
-        (column_value texts (column_with Boolean truth_cell (A.count_of a.now) (A.row_of a.now))) (datum texts (truth_cell scalar)) left) }
-{
-    let same = Same {
-        value: scalar,
-        count: a.count(),
-    };
-    if left {
-        on_truths(alloc, task, &same, a)
-    } else {
-        on_truths(alloc, task, a, &same)
+        T::on_rows(alloc, task, a, &same)
     }
 }
 
@@ -550,106 +454,178 @@ fn compare_by<T: Copy + Drop, K: Order<T> + Drop, A: Side<T>, B: Side<T>>(
     operate_sides(alloc, &Compare { order, relation }, a, b)
 }
 
-// What an operator does to two sides of whole numbers.
-fn on_number_sides<A: Side<i64>, B: Side<i64>>(
-    alloc: Global,
-    task: Task,
-    a: A,
-    b: B,
-) -> Result<Column, ArrayFault>
-    requires { A.count_of a ≡ B.count_of b }
-    ensures given { IfOk result (λ c. (texts : List (List ℕ)) → AreGiven texts c.cells) }
-    ensures answer { (texts : List (List ℕ)) → Answers texts result (task_column task
-        (column_value texts (column_with Int64 number_cell (A.count_of a) (A.row_of a)))
-        (column_value texts (column_with Int64 number_cell (B.count_of b) (B.row_of b)))) }
-{
-    match task {
-        Task::Sum => operate_sides(alloc, &Sum, a, b),
-        Task::Difference => operate_sides(alloc, &Difference, a, b),
-        Task::Product => operate_sides(alloc, &Product, a, b),
-        Task::Compare(relation) => compare_sides(alloc, ByNumber, relation, a, b),
-        _ => on_numbers(alloc, task, &a, &b),
-    }
+/// A value on which operators work without a dictionary.
+pub(crate) trait Operand: Plain {
+    /// What an operator does to two sides.
+    fn on_sides<A: Side<Self>, B: Side<Self>>(
+        alloc: Global,
+        task: Task,
+        a: A,
+        b: B,
+    ) -> Result<Column, ArrayFault>
+        requires { A.count_of a ≡ B.count_of b }
+        ensures given { IfOk result (λ c. (texts : List (List ℕ)) → AreGiven texts c.cells) }
+        ensures answer { (texts : List (List ℕ)) → Answers texts result (task_column task
+            (column_value texts (column_with Self.kind Self.cell (A.count_of a) (A.row_of a)))
+            (column_value texts (column_with Self.kind Self.cell (B.count_of b) (B.row_of b)))) };
+
+    /// What it does to a side before a value that is the same in each row.
+    fn on_side_before<A: Side<Self>>(
+        alloc: Global,
+        task: Task,
+        a: A,
+        value: Option<Self>,
+    ) -> Result<Column, ArrayFault>
+        ensures given { IfOk result (λ c. (texts : List (List ℕ)) → AreGiven texts c.cells) }
+        ensures answer { (texts : List (List ℕ)) → Answers texts result (task_column task
+            (column_value texts (column_with Self.kind Self.cell (A.count_of a) (A.row_of a)))
+            (column_value texts (column_with Self.kind Self.cell (A.count_of a) (λ _. value)))) };
+
+    /// What it does to rows of two columns.
+    fn on_rows<A: Source<Self>, B: Source<Self>>(
+        alloc: Global,
+        task: Task,
+        a: &A,
+        b: &B,
+    ) -> Result<Column, ArrayFault>
+        requires { A.count_of a.now ≡ B.count_of b.now }
+        ensures given { IfOk result (λ c. (texts : List (List ℕ)) → AreGiven texts c.cells) }
+        ensures answer { (texts : List (List ℕ)) → Answers texts result (task_column task
+            (column_value texts
+            (column_with Self.kind Self.cell (A.count_of a.now) (A.row_of a.now)))
+            (column_value texts
+            (column_with Self.kind Self.cell (B.count_of b.now) (B.row_of b.now)))) };
+
+    ghost kept: { (texts : List (List ℕ)) (x : Option Self) → scalar_kind Self.kind (datum texts (Self.cell x)) ≡ Self.kind };
 }
 
-// What an operator does to two sides of truth values.
-fn on_truth_sides<A: Side<bool>, B: Side<bool>>(
-    alloc: Global,
-    task: Task,
-    a: A,
-    b: B,
-) -> Result<Column, ArrayFault>
-    requires { A.count_of a ≡ B.count_of b }
-    ensures given { IfOk result (λ c. (texts : List (List ℕ)) → AreGiven texts c.cells) }
-    ensures answer { (texts : List (List ℕ)) → Answers texts result (task_column task
-        (column_value texts (column_with Boolean truth_cell (A.count_of a) (A.row_of a)))
-        (column_value texts (column_with Boolean truth_cell (B.count_of b) (B.row_of b)))) }
-{
-    match task {
-        Task::Both => operate_sides(alloc, &Both, a, b),
-        Task::Either => operate_sides(alloc, &Either, a, b),
-        Task::OneOf => operate_sides(alloc, &OneOf, a, b),
-        Task::Compare(relation) => compare_sides(alloc, ByTruth, relation, a, b),
-        _ => on_truths(alloc, task, &a, &b),
-    }
-}
-
-// What an operator does to two columns of whole numbers.
-fn on_numbers<A: Source<i64>, B: Source<i64>>(
-    alloc: Global,
-    task: Task,
-    a: &A,
-    b: &B,
-) -> Result<Column, ArrayFault>
-    requires { A.count_of a.now ≡ B.count_of b.now }
-    ensures given { IfOk result (λ c. (texts : List (List ℕ)) → AreGiven texts c.cells) }
-    ensures answer { (texts : List (List ℕ)) → Answers texts result (task_column task
-        (column_value texts (column_with Int64 number_cell (A.count_of a.now) (A.row_of a.now)))
-        (column_value texts (column_with Int64 number_cell (B.count_of b.now) (B.row_of b.now)))) }
-{
-    match task {
-        Task::Sum => operate(alloc, &Sum, a, b),
-        Task::Difference => operate(alloc, &Difference, a, b),
-        Task::Product => operate(alloc, &Product, a, b),
-        Task::Quotient => operate(alloc, &Quotient, a, b),
-        Task::Rest => operate(alloc, &Rest, a, b),
-        Task::Compare(relation) => {
-            let compare = Compare {
-                order: ByNumber,
-                relation,
-            };
-            operate(alloc, &compare, a, b)
+impl Operand for i64 {
+    fn on_sides<A: Side<i64>, B: Side<i64>>(
+        alloc: Global,
+        task: Task,
+        a: A,
+        b: B,
+    ) -> Result<Column, ArrayFault> {
+        match task {
+            Task::Sum => operate_sides(alloc, &Sum, a, b),
+            Task::Difference => operate_sides(alloc, &Difference, a, b),
+            Task::Product => operate_sides(alloc, &Product, a, b),
+            Task::Compare(relation) => compare_sides(alloc, ByNumber, relation, a, b),
+            _ => Self::on_rows(alloc, task, &a, &b),
         }
-        Task::Both | Task::Either | Task::OneOf => Err(ArrayFault::KindMismatch),
     }
+
+    fn on_side_before<A: Side<i64>>(
+        alloc: Global,
+        task: Task,
+        a: A,
+        value: Option<i64>,
+    ) -> Result<Column, ArrayFault>
+        ensures given { IfOk result (λ c. (texts : List (List ℕ)) → AreGiven texts c.cells) }
+        ensures answer { (texts : List (List ℕ)) → Answers texts result (task_column task
+            (column_value texts (column_with Int64 number_cell (A.count_of a) (A.row_of a)))
+            (column_value texts (column_with Int64 number_cell (A.count_of a) (λ _. value)))) }
+    {
+        match (task, value) {
+            (Task::Quotient, Some(divisor)) if 0 < divisor => quotients_by(
+                alloc,
+                a,
+                divisor as u64,
+            ),
+            _ => {
+                let same = Constant {
+                    value,
+                    blank: 0,
+                    count: a.count(),
+                };
+                Self::on_sides(alloc, task, a, same)
+            }
+        }
+    }
+
+    fn on_rows<A: Source<i64>, B: Source<i64>>(
+        alloc: Global,
+        task: Task,
+        a: &A,
+        b: &B,
+    ) -> Result<Column, ArrayFault> {
+        match task {
+            Task::Sum => operate(alloc, &Sum, a, b),
+            Task::Difference => operate(alloc, &Difference, a, b),
+            Task::Product => operate(alloc, &Product, a, b),
+            Task::Quotient => operate(alloc, &Quotient, a, b),
+            Task::Rest => operate(alloc, &Rest, a, b),
+            Task::Compare(relation) => {
+                let compare = Compare {
+                    order: ByNumber,
+                    relation,
+                };
+                operate(alloc, &compare, a, b)
+            }
+            Task::Both | Task::Either | Task::OneOf => Err(ArrayFault::KindMismatch),
+        }
+    }
+
+    ghost kept = { λ _. elim [ None ↦ refl | Some z ↦ refl ] };
 }
 
-// What an operator does to two columns of truth values.
-fn on_truths<A: Source<bool>, B: Source<bool>>(
-    alloc: Global,
-    task: Task,
-    a: &A,
-    b: &B,
-) -> Result<Column, ArrayFault>
-    requires { A.count_of a.now ≡ B.count_of b.now }
-    ensures given { IfOk result (λ c. (texts : List (List ℕ)) → AreGiven texts c.cells) }
-    ensures answer { (texts : List (List ℕ)) → Answers texts result (task_column task
-        (column_value texts (column_with Boolean truth_cell (A.count_of a.now) (A.row_of a.now)))
-        (column_value texts (column_with Boolean truth_cell (B.count_of b.now) (B.row_of b.now)))) }
-{
-    match task {
-        Task::Both => operate(alloc, &Both, a, b),
-        Task::Either => operate(alloc, &Either, a, b),
-        Task::OneOf => operate(alloc, &OneOf, a, b),
-        Task::Compare(relation) => {
-            let compare = Compare {
-                order: ByTruth,
-                relation,
-            };
-            operate(alloc, &compare, a, b)
+impl Operand for bool {
+    fn on_sides<A: Side<bool>, B: Side<bool>>(
+        alloc: Global,
+        task: Task,
+        a: A,
+        b: B,
+    ) -> Result<Column, ArrayFault> {
+        match task {
+            Task::Both => operate_sides(alloc, &Both, a, b),
+            Task::Either => operate_sides(alloc, &Either, a, b),
+            Task::OneOf => operate_sides(alloc, &OneOf, a, b),
+            Task::Compare(relation) => compare_sides(alloc, ByTruth, relation, a, b),
+            _ => Self::on_rows(alloc, task, &a, &b),
         }
-        _ => Err(ArrayFault::KindMismatch),
     }
+
+    fn on_side_before<A: Side<bool>>(
+        alloc: Global,
+        task: Task,
+        a: A,
+        value: Option<bool>,
+    ) -> Result<Column, ArrayFault>
+        ensures given { IfOk result (λ c. (texts : List (List ℕ)) → AreGiven texts c.cells) }
+        ensures answer { (texts : List (List ℕ)) → Answers texts result (task_column task
+            (column_value texts (column_with Boolean truth_cell (A.count_of a) (A.row_of a)))
+            (column_value texts (column_with Boolean truth_cell (A.count_of a) (λ _. value)))) }
+    {
+        let same = Constant {
+            value,
+            blank: false,
+            count: a.count(),
+        };
+        Self::on_sides(alloc, task, a, same)
+    }
+
+    fn on_rows<A: Source<bool>, B: Source<bool>>(
+        alloc: Global,
+        task: Task,
+        a: &A,
+        b: &B,
+    ) -> Result<Column, ArrayFault> {
+        match task {
+            Task::Both => operate(alloc, &Both, a, b),
+            Task::Either => operate(alloc, &Either, a, b),
+            Task::OneOf => operate(alloc, &OneOf, a, b),
+            Task::Compare(relation) => {
+                let compare = Compare {
+                    order: ByTruth,
+                    relation,
+                };
+                operate(alloc, &compare, a, b)
+            }
+            _ => Err(ArrayFault::KindMismatch),
+        }
+    }
+
+    ghost kept = { λ _. elim [ None ↦ refl | Some b ↦ refl ] };
 }
 
 /// The opposite of each truth value; NA stays. `KindMismatch` exactly where the kind isn't boolean;

@@ -1,5 +1,5 @@
 // The loop over an operation on one value that refuses no row.
-ghost use Rattle.std.specs.Prelude.{◌≡◌, ℕ, Option, Some, None, IfOk};
+ghost use Rattle.std.specs.Prelude.{◌≡◌, Option, Some, None, IfOk};
 ghost use Rattle.column_core.specs.Columns.{column_with};
 ghost use Rattle.column_core.specs.Lanes.{lane_row};
 

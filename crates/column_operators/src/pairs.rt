@@ -1,5 +1,5 @@
 // The operations told by flags, and a value that stands in each row.
-ghost use Rattle.std.specs.Prelude.{◌≡◌, ◌<◌, ◌&&◌, ◌||◌, ◌+ℤ◌, ◌-ℤ◌, ◌*ℤ◌, ℕ, Bool, true, false, unwrap_or, is_some, Option, Some};
+ghost use Rattle.std.specs.Prelude.{◌≡◌, ◌<◌, ◌&&◌, ◌||◌, ◌+ℤ◌, ◌-ℤ◌, ◌*ℤ◌, unwrap_or, is_some, Option, Some};
 ghost use Rattle.std.specs.Int.{int_wrap, w64};
 ghost use Rattle.column_operators.specs.Tasks.{passes};
 ghost use Rattle.column_operators.specs.Pairs.{and_flag, or_flag, xor_value, flagged_value, number_pair, compare_pair, and_pair, or_pair, xor_pair};

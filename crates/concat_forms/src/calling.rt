@@ -8,11 +8,10 @@ ghost use Rattle.call_meaning.specs.declared.Accepted.TheVariants as accepted;
 ghost use Rattle.call_meaning.specs.Binding.{truth_in};
 ghost use Rattle.form_meaning.specs.Select.{labels_of};
 ghost use Rattle.method_meaning.specs.Concat as meant;
-ghost use Rattle.method_meaning.specs.Functions.{function_result};
 ghost use Rattle.frame_store.specs.Arguments.{items_of};
-ghost use Rattle.frame_store.specs.Objects.{Tables, tables};
+ghost use Rattle.frame_store.specs.Objects.{Tables};
 ghost use Rattle.frame_store.specs.Shown.{Makes};
-ghost use Rattle.frame_store.specs.World.{world, arguments_in, IsSettledWorld, AreKnownArguments, Forms};
+ghost use Rattle.frame_store.specs.World.{world, arguments_in, IsSettledWorld, AreKnownArguments};
 ghost use Rattle.signatures.specs.Bound.{stands_at, accepted_at};
 ghost use Rattle.concat_forms.specs.Parts.{parts_value, AreKnownParts};
 ghost use Rattle.concat_forms.specs.Asked.{asked_value, keys_value};
@@ -24,9 +23,8 @@ use crate::gathering::{labels_of, parts_of};
 use crate::parts::Part;
 use call_meaning::Function;
 use cell_core::{Code, Label, NoMemory, Reason, TextDict};
-use form_parts::placed;
-use frame_store::{Item, Named, NamedList, OpFault, Store, Table, Value};
-use signatures::{Bound, bind, function_named, function_parameters};
+use frame_store::{Item, Named, OpFault, Store, Table};
+use signatures::{Bound, bind, function_parameters};
 use std::alloc::Global;
 
 // The labels of parts, if there are such.
@@ -92,61 +90,19 @@ fn concatenated(
 }
 
 // What `pd.concat` makes of these arguments.
-fn concat(alloc: Global, store: &Store, dict: &TextDict, args: &[Named]) -> Result<Table, OpFault>
+pub(crate) fn concat(
+    alloc: Global,
+    store: &Store,
+    dict: &TextDict,
+    args: &[Named],
+) -> Result<Table, OpFault>
     requires settled { IsSettledWorld (world store.now dict.now) }
     requires known { AreKnownArguments (world store.now dict.now) args.now }
     ensures { Makes dict.now result
         (meant.concat_call (arguments_in (world store.now dict.now) args.now)) }
 {
     let bound = bind(store, dict, function_parameters(Function::Concat), args)?;
-    let Some(objects) = bound.list_or_none(0) else {
-        return Err(OpFault::Refused(Code::WrongKind));
-    };
-    let parts = parts_of(alloc, store, objects)?;
+    let parts = parts_of(alloc, store, bound.objects(0))?;
     let asked = asked_by(alloc, dict, &bound)?;
     concatenated(alloc, dict, is_across(&bound), &parts, &asked)
-}
-
-/// What a function of `pd` makes of its arguments, and of the bytes of a file where it reads one: a new object. Each
-/// function but `concat` is that of [`file_readers::make`], with its refusals.
-///
-/// `pd.concat(objects, axis=0, join="outer", ignore_index=False, keys=None)` puts a list of Series and frames together
-/// ("Merge, join, concatenate and compare" in the pandas user guide). On axis 0 the rows stand one part after the
-/// other: of Series a Series, of frames a frame of the columns that any part has, in the order of first sight, or with
-/// `join="inner"` of those that all have; cells that a part lacks are missing. `ignore_index=True` numbers the rows,
-/// and `keys` gives each part a label in one level more. On axis 1 the columns stand side by side. The rows keep their
-/// labels where all parts have the same; else they meet by their labels, which are all that any part has, or with
-/// `join="inner"` those that all have. Nameless Series are numbered from 0 on, and with `ignore_index=True` all
-/// columns. Names of levels and of the columns stay where all parts have them.
-///
-/// # Errors
-///
-/// In this order: `WrongKind` or `BadValue(Argument)` where the arguments aren't bound, the latter also for an empty
-/// list and for `keys` beside `ignore_index=True`; `WrongKind` for `keys` on axis 1; `BadValue(Length)` where there
-/// aren't as many keys as parts; on axis 0 `WrongKind` for Series beside frames; `BadValue(Levels)` for different
-/// numbers of levels, on axis 1 only where labels differ; on axis 1 `RepeatedLabel` for the first label that stands
-/// twice in a part where labels differ, and `BadValue(Repeated)` for two columns of one label; on axis 0 `WrongKind`
-/// for a column that has different kinds; `Limit` for more than four levels, and for a table beyond the limits.
-/// `NoMemory` may come in place of any answer. After a refusal all objects are as they were.
-pub fn make(
-    alloc: Global,
-    store: &mut Store,
-    dict: &mut TextDict,
-    name: &str,
-    args: &NamedList,
-    file: Option<&[u8]>,
-) -> Result<Value, OpFault>
-    requires settled { IsSettledWorld (world store.old dict.old) }
-    requires known { AreKnownArguments (world store.old dict.old) args.now.items.items }
-    ensures { Forms result (function_result (option_map (λ bytes. bytes.now) file.entry)
-        name.now (arguments_in (world store.old dict.old) args.now.items.items))
-        (world store.old dict.old) (world store.new dict.new) }
-{
-    match function_named(name) {
-        Some(Function::Concat) => {
-            let made = concat(alloc, store, dict, args.as_slice());
-            placed(store, dict, made)
-        }
-        _ => file_readers::make(alloc, store, dict, name, args, file),
-    }
 }

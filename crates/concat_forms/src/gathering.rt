@@ -10,7 +10,6 @@ ghost use Rattle.concat_forms.specs.Parts.{parts_value, AreSettledParts};
 
 use crate::parts::Part;
 use cell_core::{Label, NoMemory};
-use form_parts::label_of;
 use frame_store::{Item, Store};
 use std::alloc::Global;
 
@@ -42,7 +41,7 @@ pub(crate) fn labels_of(alloc: Global, items: &[Item]) -> Result<Vec<Label>, NoM
     let mut labels = Vec::new(alloc);
     for item in items {
         if let Some(cell) = item.scalar() {
-            labels.push(label_of(cell))?;
+            labels.push(Label::from(cell))?;
         }
     }
     Ok(labels)

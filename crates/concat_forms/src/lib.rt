@@ -1,8 +1,9 @@
-//! `pd.concat` on objects: Series and frames one below the other, or side by side.
+//! The functions of `pd`, and among them `pd.concat` of objects: Series and frames one below the other, or side by side.
 //!
-//! [`make`] answers any function of `pd`: `concat` here, and each other one by `file_readers::make`. The contract says
-//! that the answer is the one that is meant, or its first fault, and that no other object changes; the definition is
-//! `specs/Concat.antt` of the crate `method_meaning`.
+//! [`make`] calls a function by its name, and gives what it makes an object; [`function_exists`] says whether `pd` has a
+//! function of a name. The contract says that the answer is the one that is meant, or its first fault, and that no
+//! other object changes; the definitions are `specs/Functions.antt` and `specs/Concat.antt` of the crate
+//! `method_meaning`.
 //!
 //! The objects are read as parts whose headings are found by a hash (`parts`, `gathering`). One below the other
 //! (`below`) the columns of a heading must have one kind (`columns`), and the labels of the rows follow each other
@@ -21,9 +22,10 @@ mod below;
 mod beside;
 mod calling;
 mod columns;
+mod functions;
 mod gathering;
 mod headings;
 mod names;
 mod parts;
 
-pub use calling::make;
+pub use functions::{function_exists, make};

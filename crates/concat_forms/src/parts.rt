@@ -1,16 +1,14 @@
 // The tables that are put together.
-ghost use Rattle.std.specs.Prelude.{◌≡◌, ◌<◌, ◌≢◌, AllPairs, length, map, All, IfOk, IfSome};
+ghost use Rattle.std.specs.Prelude.{◌≡◌, ◌<◌, ◌≢◌, AllPairs, length, IfOk, IfSome};
 ghost use Rattle.std.specs.Option.{option_map};
 ghost use Rattle.std.specs.List.{list_any};
-ghost use Rattle.table_meaning.specs.Valid.{IsWhole};
-ghost use Rattle.frame_store.specs.Parts.{axis_of, table_column};
+ghost use Rattle.frame_store.specs.Parts.{table_column};
 ghost use Rattle.concat_forms.specs.Parts.{column_sought, name_at, same_heading};
 
-use cell_core::{Grid, Label, NoMemory, Shape};
+use cell_core::{Grid, Label, NoMemory};
 use column_core::ColRef;
 use frame_store::ObjRef;
 use indexmap::IndexSet;
-use multi_index::Axis;
 use std::alloc::Global;
 use std::marker::Model;
 

@@ -1,16 +1,16 @@
 -- Series of scalars.
 use mathlib.Core.Former.{Count}
 use Rattle.{
-  form_parts.proofs.Common.{◌≡◌, refl, ℕ, zero, suc, List, ◌++◌, length, replicate, Option, None, Result, Ok, Err, arith, ◌+◌, [], ◌∷◌, drop, slice_get, add-one, Some, All, ◌<◌, ap, Bool, get_or, append_assoc, ◌≤◌, ◌-◌, sym, subst, take, map, ◌∙◌, true, false, ◌≢◌, if◌then◌else◌, length-map, map-append, length-map-range_with_len, All-nil, All-cons, All-map, All-tail, All-push, All-head, nat_tests, slice_get_within, get_or_from_slice_get, slice_get-get_or, drop-cons, IfOk, unwrap_or, keys_of, option_map, list_all, IsDistinct, Kind, Label, Cell, Frame, AreDistinct, Text, CellValue, LabelValue, AreGiven, IsLonger, label_datum, datum, FaultValue, then_value, bad_value, limit, wrong_kind, cell_label, AxisValue, nameless_axis, range_axis, single_tuples, CellColumn, CellBlock, IsSettled, ColumnOf, NumberedTable, Table, table_value, heading_value, tuple_value, Entry, table, Given, scalar_in, GivenList, many, list_in, dict_in, AreHeadings, IsWhole, limited, try_all, within_limits, list_column, first_kind, with_pair, pairs_onto, pairs_in, cells_of, labels_of, MakesBy, block_value, blocks_value, refused_on, same_by_number, Item, Row' as RowItem', Row_of-Item, end_of-Item, more_of-Item, Argument, Many, Object, Scalar, Named, OpFault, headings_value, Makes, labels_value, columns_of, IsSingle, HaveRows, single_block, table_column, HeadingList, table_of, Tables, entries_of, item_of, items_of, items_row, argument_of, arguments_of, World, arguments_in, AreKnownArguments, seen_later, cells_settled, longer_twice},
-  meaning.{proofs.Common.{take_rest, get_or-map, OnOk}, specs.Fault.{length_of}},
+  form_parts.proofs.Common.{column_seen, ◌≡◌, refl, ℕ, zero, suc, List, ◌++◌, length, replicate, Option, None, Result, Ok, Err, arith, ◌+◌, [], ◌∷◌, drop, slice_get, add-one, Some, All, ◌<◌, ap, Bool, get_or, append_assoc, ◌≤◌, sym, map, ◌∙◌, true, false, ◌≢◌, if◌then◌else◌, length-map, map-append, length-map-range_with_len, All-nil, All-cons, All-map, All-tail, All-push, All-head, nat_tests, slice_get_within, get_or_from_slice_get, slice_get-get_or, drop-cons, IfOk, keys_of, option_map, list_all, IsDistinct, Kind, Label, Cell, Frame, AreDistinct, Text, CellValue, LabelValue, AreGiven, IsLonger, label_datum, datum, FaultValue, then_value, bad_value, limit, wrong_kind, cell_label, AxisValue, nameless_axis, range_axis, single_tuples, CellColumn, CellBlock, IsSettled, ColumnOf, NumberedTable, Table, table_value, heading_value, tuple_value, Entry, table, Given, scalar_in, GivenList, many, list_in, dict_in, AreHeadings, IsWhole, limited, try_all, within_limits, list_column, with_pair, pairs_onto, pairs_in, cells_of, labels_of, MakesBy, block_value, blocks_value, refused_on, same_by_number, Item, Row' as RowItem', Row_of-Item, end_of-Item, more_of-Item, Argument, Many, Object, Scalar, Named, OpFault, headings_value, Makes, labels_value, columns_of, IsSingle, HaveRows, single_block, table_column, HeadingList, table_of, Tables, entries_of, item_of, items_of, items_row, argument_of, arguments_of, World, arguments_in, AreKnownArguments, seen_later, cells_settled, longer_twice},
+  meaning.{proofs.Common.{get_or-map, OnOk}, specs.Fault.{length_of}},
   std.{proofs.{Common.{Bor}, lemmas.{List.Elements.{All-rest}, Option.{slice_get_cases}, Map.Made.{AllPairs-from_IsDistinct}}}, specs.{Map.{values_of}, List.{AllPairs}}},
   cell_core.specs.contracts.cell.LabelPartialEq.TheImpl.{eq-value},
   table_meaning.specs.Value.{tuple_in},
   form_meaning.specs.Make.{cast_to, nameless, series_table, row_labels, index_labels, AreAlike, level_count, few_levels, frame_table, is_scalar_list, cells_given, all_of_length, frame_of, kind_given},
-  call_meaning.{specs.{Binding.{each, is_scalar}, declared.Parameter.{Parameter}, Signature.{function_parameters}, Functions.{made_by}}, proofs.IndexLaws.{GivesAlike, index_taken}},
+  call_meaning.{specs.{Binding.{each, is_scalar}, declared.Parameter.{Parameter}, Signature.{function_parameters}, Functions.{series_call, frame_call}}, proofs.IndexLaws.{GivesAlike, index_taken}},
   frame_store.specs.{declared.arguments.Item.{One as OneItem}, Parts.{AreBelow}},
-  signatures.{specs.{Scalars.{scalars, with_cell}, Bound.{stands_at, Tells, IsBound}, declared.bound.Bound.{Bound}}, proofs.{ScalarLaws.{cells_of_more, scalars_are, items_settled}, ToldLaws.{some_same, told_settled, name_given}}},
-  constructors.specs.{Index.{index_given, IsUnnamed, rows_labels, GivesLevels}, Scalars.{column_seen, made_series, held_after, GetsCell, RefusesCell}, Made.{axis_labels, labels_within, indexed, series_with, same_rows, common_rows, labels_for, listed_labels, free_labels, frame_labels, frame_with, frame_from}, Pairs.{AreSettledKeys, AreSettledLabels, value_in, entries_seen, list_seen, lists_seen, listed_column, scalars_in, key_headings, AreSettledLists}},
+  signatures.{specs.{Scalars.{scalars}, Bound.{stands_at, Tells, IsBound}, declared.bound.Bound.{Bound}}, proofs.{ScalarLaws.{scalars_are, items_settled}, ToldLaws.{some_same, told_settled, name_given}}},
+  constructors.specs.{Index.{index_given, IsUnnamed, rows_labels, GivesLevels}, Scalars.{made_series}, Made.{axis_labels, labels_within, indexed, series_with, same_rows, common_rows, labels_for, listed_labels, free_labels, frame_labels, frame_with, frame_from}, Pairs.{AreSettledKeys, AreSettledLabels, value_in, entries_seen, list_seen, lists_seen, listed_column, scalars_in, key_headings, AreSettledLists}},
   index_core.proofs.NumberLaws.{label_decides},
   indexmap.specs.IndexMap.{insert_entry},
 }
@@ -177,34 +177,6 @@ module _ (count : ℕ) (places : List ℕ) (place : ℕ) (rest : List ℕ) where
 
   pub rest_below : places ≡ place ∷ rest → All (λ (place : ℕ). place < count) places → All (λ (place : ℕ). place < count) rest
   rest_below = All-rest (λ place. place < count) place rest places
-
--- The scalars of a list, part by part.
-
--- what stands after the first part
-abbrev pub after : {X : Type 0} → List X → List X
-after xs = take (length xs - 1) (drop 1 xs)
-
-pub first_of : {X : Type 0} (xs : List X) (x : X) → x ≡ get_or xs 0 x → 1 ≤ length xs → xs ≡ x ∷ after xs
-first_of [] x is some = grind arith
-first_of (y ∷ ys) x is _ = λ i. sym is i ∷ sym (take_rest (y ∷ ys) 1) i
-
-module _ (texts : List Text) (items : List Item) (item : Item) (o : Option Cell) (is : item ≡ get_or items 0 item) (some : 1 ≤ length items) (scalar : (live : Tables) (texts : List Text) → option_map (datum texts) o ≡ scalar_in (item_of live texts item)) where
-  -- the scalars from a part on
-  scalars_from : scalars texts items ≡ with_cell (option_map (datum texts) o) (scalars texts (after items))
-  scalars_from = cc (first_of _ _ is some, cells_of_more (item_of (λ id. None) texts item) (items_of (λ id. None) texts (after items)), scalar (λ id. None) texts)
-
-  -- the kind of the first that is present, where the first part is one or is none
-  pub kind_step : (r : Option Kind) (all : Kind) → ((texts : List Text) (rest : List CellValue) → first_kind (with_cell (option_map (datum texts) o) rest) ≡ unwrap_or r (first_kind rest)) → first_kind (scalars texts items) ≡ all → unwrap_or r (first_kind (scalars texts (after items))) ≡ all
-  kind_step _ _ present before = cc (scalars_from, present texts (scalars texts (after items)))
-
-  module _ (kind : Kind) (made : CellColumn) (whole : Result (ColumnOf CellValue) FaultValue) (same : made.kind ≡ kind) (before : held_after kind (map (datum texts) made.cells) (scalars texts items) ≡ whole) where
-    -- one scalar more in a column
-    pub held_step : (made' : CellColumn) → GetsCell made made' o → held_after kind (map (datum texts) made'.cells) (scalars texts (after items)) ≡ whole
-    held_step _ gets = cc (gets texts (scalars texts (after items)), scalars_from)
-
-    -- or one that the kind doesn't hold
-    pub held_refused : (fault : OpFault) → RefusesCell made o fault → MakesBy column_seen texts (Err fault) whole
-    held_refused fault refused = subst (λ m. MakesBy column_seen texts (Err fault) m) (cc (scalars_from)) (refused texts (scalars texts (after items)))
 
 -- The labels of an index, row by row.
 
@@ -470,7 +442,7 @@ module _ (w : World) (b : Bound) (ps : List Parameter) (args : List Named) (boun
           name = name_given b 2 _ _ _ _ scalar named (arguments_given known);
         }
 
-    pub series_given : (kind : Option Kind) → kind ≡ kind_given (scalar_in (stands_at w.tables w.texts b 3)) → series_with (scalars w.texts values) (index_given w.texts rows) (heading_value w.texts name) kind ≡ made_by function.Series (arguments_in w args)
+    pub series_given : (kind : Option Kind) → kind ≡ kind_given (scalar_in (stands_at w.tables w.texts b 3)) → series_with (scalars w.texts values) (index_given w.texts rows) (heading_value w.texts name) kind ≡ series_call (arguments_in w args)
     series_given _ is = grind (arith, scalars_are w.tables w.texts values, indexes_are w.tables w.texts rows, listed w.tables w.texts, indexed w.tables w.texts, scalar w.tables w.texts, named w.texts)
 
   module _ (of : ps ≡ function_parameters function.DataFrame) (pairs : Pairs) (listed : Tells b 0 dict_in (λ live texts. Some (entries_of live texts pairs))) where
@@ -484,5 +456,5 @@ module _ (w : World) (b : Bound) (ps : List Parameter) (args : List Named) (boun
           levels = index_levels _ (ap (λ ps. slice_get ps 1) of) refl;
         }
 
-    pub frame_given : frame_from (pairs_in (entries_of w.tables w.texts pairs)) (index_given w.texts rows) ≡ made_by function.DataFrame (arguments_in w args)
+    pub frame_given : frame_from (pairs_in (entries_of w.tables w.texts pairs)) (index_given w.texts rows) ≡ frame_call (arguments_in w args)
     frame_given = grind (arith, frame_same, indexes_are w.tables w.texts rows, listed w.tables w.texts, indexed w.tables w.texts)

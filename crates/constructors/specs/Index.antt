@@ -10,7 +10,7 @@ use Rattle.form_meaning.specs.Make.{index_labels, nameless, AreAlike}
 use Rattle.multi_index.specs.Axes.{AxisValue}
 use Rattle.frame_store.specs.Arguments.{items_of}
 use Rattle.frame_store.specs.declared.arguments.Item.{Item}
-use Rattle.form_parts.specs.Labels.{label_of}
+use Rattle.cell_core.specs.Values.{label_of}
 
 -- the label that a scalar is, where there is one
 abbrev pub label_in : Option Cell → List Label

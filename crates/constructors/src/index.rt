@@ -12,7 +12,6 @@ ghost use Rattle.signatures.specs.Scalars.{scalars};
 ghost use Rattle.constructors.specs.Index.{label_in, rows_labels};
 
 use cell_core::{Cell, Label, NoMemory, Tuple, Tuples};
-use form_parts::label_of;
 use frame_store::Item;
 use std::alloc::Global;
 
@@ -23,7 +22,7 @@ fn push_label(labels: &mut Vec<Label>, cell: Option<Cell>) -> Result<(), NoMemor
     match cell {
         None => Ok(()),
         Some(cell) => {
-            labels.push(label_of(cell))?;
+            labels.push(Label::from(cell))?;
             Ok(())
         }
     }

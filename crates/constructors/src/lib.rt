@@ -1,10 +1,8 @@
-//! What the functions of `pd` make of their arguments: so far `pd.Series` and `pd.DataFrame`.
+//! What the constructors `pd.Series` and `pd.DataFrame` make of their arguments.
 //!
-//! [`make`] calls a function by its name. The arguments are bound to the function's signature (the
-//! crate `signatures`), and what is made is given an object. Its contract says that the answer is the
-//! one that is meant, or its first fault, and that no other object changes; the definitions are
-//! `specs/Functions.antt` of the crate `call_meaning` and `specs/Make.antt` of `form_meaning`. [`function_exists`] says
-//! whether `pd` has a function of a name.
+//! [`made_series`] and [`made_frame`] bind the arguments to the function's signature (the crate `signatures`) and make
+//! a table. Their contracts say that the answer is the one that is meant, or its first fault; the definitions are
+//! `specs/Functions.antt` of the crate `call_meaning` and `specs/Make.antt` of `form_meaning`.
 //!
 //! A column is made of the scalars of a list (`scalars`). The labels of the rows are the scalars or the
 //! tuples of the index (`index`), or they are 0, 1 and so on (`axes`). A Series is one column, cast where a kind is given
@@ -13,19 +11,16 @@
 //!
 //! ```text
 //! // `pd.Series([7, None])`: `args` has one argument, a list of two scalars
-//! if function_exists("Series") {
-//!     let made = make(alloc, &mut store, &mut dict, "Series", &args)?;
-//! }
+//! let table = made_series(alloc, &store, &mut dict, &args)?;
 //! ```
 #![tactic(auto)]
 
 mod axes;
 mod frames;
-mod functions;
 mod given;
 mod index;
 mod pairs;
 mod scalars;
 mod series;
 
-pub use functions::{function_exists, make};
+pub use given::{made_frame, made_series};

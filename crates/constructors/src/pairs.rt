@@ -4,14 +4,14 @@ ghost use Rattle.indexmap.specs.IndexMap.{keys, values};
 ghost use Rattle.meaning.specs.Text.{Text as OneText};
 ghost use Rattle.form_meaning.specs.Finish.{try_all};
 ghost use Rattle.form_meaning.specs.Make as make;
-ghost use Rattle.form_parts.specs.Makes.{MakesBy, blocks_value};
+ghost use Rattle.form_parts.specs.Makes.{column_seen, MakesBy, blocks_value};
 ghost use Rattle.frame_store.specs.Objects.{Tables};
 ghost use Rattle.frame_store.specs.Arguments.{entries_of};
 ghost use Rattle.frame_store.specs.Parts.{AreBelow, IsSingle};
-ghost use Rattle.constructors.specs.Scalars.{column_seen, scalars_given};
+ghost use Rattle.constructors.specs.Scalars.{scalars_given};
 ghost use Rattle.constructors.specs.Pairs.{entries_seen, list_seen, lists_seen, listed_column, AreSettledKeys, AreSettledLabels};
 
-use crate::scalars::list_column;
+use crate::scalars::scalar_column;
 use cell_core::{Code, Label, NoMemory, TextDict};
 use column_core::Column;
 use frame_store::{Argument, Blocks, Item, OpFault};
@@ -63,7 +63,7 @@ fn listed_column(alloc: Global, argument: &Argument) -> Result<Column, OpFault>
         (listed_column (list_seen texts argument.now)) }
 {
     match scalar_list(argument) {
-        Some(items) => list_column(alloc, items),
+        Some(items) => scalar_column(alloc, items),
         None => Err(OpFault::Refused(Code::WrongKind)),
     }
 }

@@ -4,19 +4,18 @@ ghost use Rattle.meaning.specs.Cell.{AreGiven, IsLonger};
 ghost use Rattle.table_meaning.specs.Settled.{IsSettled};
 ghost use Rattle.table_meaning.specs.Table.{heading_value};
 ghost use Rattle.form_meaning.specs.Make as make;
-ghost use Rattle.form_parts.specs.Makes.{MakesBy};
+ghost use Rattle.form_parts.specs.Makes.{column_seen, MakesBy};
 ghost use Rattle.frame_store.specs.Shown.{Makes};
 ghost use Rattle.signatures.specs.Scalars.{scalars};
-ghost use Rattle.constructors.specs.Scalars.{column_seen};
 ghost use Rattle.constructors.specs.Index.{index_given, GivesLevels};
 ghost use Rattle.constructors.specs.Made as meant;
 
 use crate::axes::index_axis;
-use crate::scalars::list_column;
+use crate::scalars::scalar_column;
 use cell_core::{Kind, Label, TextDict};
 use column_core::Column;
-use form_parts::{column_of, series_table};
-use frame_store::{Item, OpFault, Table};
+use form_parts::column_of;
+use frame_store::{Item, OpFault, Table, series_table};
 use nullable_array::cast;
 use std::alloc::Global;
 
@@ -74,7 +73,7 @@ pub(crate) fn series_of(
         (index_given dict.old index.entry)
         (heading_value dict.old name) kind) }
 {
-    let listed = list_column(alloc, values)?;
+    let listed = scalar_column(alloc, values)?;
     let column = cast_to(alloc, dict, listed, kind)?;
     let axis = index_axis(alloc, dict, index, column.as_ref().len(), 1)?;
     Ok(series_table(alloc, axis, name, column)?)

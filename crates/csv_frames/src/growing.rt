@@ -1,6 +1,5 @@
 // Columns that grow field by field.
-ghost use Rattle.std.specs.Prelude.{◌≡◌, ◌++◌, ◌∷◌, [], List, ℕ, false, length, replicate, IfOk, OnOk};
-ghost use Rattle.cell_core.specs.declared.cell.Cell.TheVariants as cell;
+ghost use Rattle.std.specs.Prelude.{◌≡◌, ◌++◌, ◌∷◌, [], List, ℕ, false, length, IfOk, OnOk};
 ghost use Rattle.meaning.specs.Cell.{Int64, Boolean, string, datum, IsLonger};
 ghost use Rattle.table_meaning.specs.Settled.{IsSettled};
 ghost use Rattle.column_core.specs.Columns.{text_cell};
@@ -23,18 +22,6 @@ pub(crate) enum Growing {
     Cells(Column),
     /// The fields are texts, which wasn't seen before numbers or truth values were among the cells.
     Mixed,
-}
-
-// Missing cells, so many.
-fn missing_cells(alloc: Global, kind: Kind, rows: usize) -> Result<Column, NoMemory>
-    ensures { IfOk result (λ column. column
-        ≡ record { kind = kind; cells = replicate rows cell.Na }) }
-{
-    let mut column = Column::new(alloc, kind);
-    for _row in 0..rows {
-        column.push(Cell::Na)?;
-    }
-    Ok(column)
 }
 
 // Appends the number that a field is, missing where it is none, and says whether the field can be a cell of its kind.
@@ -124,7 +111,7 @@ fn first_value(
     ensures longer { IsLonger dict.old dict.new }
     ensures first { IfOk result (IsFirst dict.new rows field.now) }
 {
-    let mut column = missing_cells(alloc, kind_of_field(field), rows)?;
+    let mut column = Column::repeat(alloc, kind_of_field(field), Cell::Na, rows)?;
     push_field(dict, &mut column, field)?;
     Ok(column)
 }
@@ -203,7 +190,7 @@ impl Growing {
         ensures { IfOk result (λ column. column ≡ column_so_far rows self) }
     {
         match self {
-            Growing::Missing => missing_cells(alloc, Kind::Int64, rows),
+            Growing::Missing => Column::repeat(alloc, Kind::Int64, Cell::Na, rows),
             Growing::Cells(column) => Ok(column),
             Growing::Mixed => unreachable!(),
         }

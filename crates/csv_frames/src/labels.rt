@@ -1,5 +1,5 @@
 // The labels of columns.
-ghost use Rattle.std.specs.Prelude.{◌≡◌, ◌<◌, ◌≤◌, [], not, IfOk, OnOk, length, string_bytes};
+ghost use Rattle.std.specs.Prelude.{◌≡◌, ◌<◌, ◌≤◌, [], not, IfOk, OnOk, string_bytes};
 ghost use Rattle.std.specs.List.{list_any, IsDistinct};
 ghost use Rattle.csv.specs.Records.{fields_of};
 ghost use Rattle.cell_core.specs.Texts.{with_text};

@@ -3,7 +3,8 @@ use Rattle.{
   meaning.proofs.Common.{◌≡◌, ◌<◌, ◌≤◌, arith, ℕ, List, [], length, slice_get, slice_index_or, Some, length-map, same_lists, get_or_default, get_or_past, get_or-map as get_or-map-at, All-map, length-map-range_with_len, get_or-map-range_with_len, get_or_from_slice_get, range_with_len, Cell, Label, label_datum, Text},
   std.proofs.Math.ListN.{get_or-map},
   column_core.specs.Columns.{CellColumn},
-  factorize.specs.{Labels.{label_of_cell}, Keys.{row_key, column_keys}},
+  cell_core.specs.Values.{label_of},
+  factorize.specs.Keys.{row_key, column_keys},
   row_keys.specs.Keys.{label_in},
   multi_index.specs.Axes.{HaveLevels},
   label_align.{specs.Tuples.{tuple_seen, labels_of}, proofs.OrderLaws.{label_there, labels_counted}},
@@ -29,7 +30,7 @@ key_of_row : (columns : List CellColumn) (count row : ℕ) → row < count → s
 key_of_row = grind (arith, get_or-map-range_with_len)
 
 pub column_label : (columns : List CellColumn) (count row level : ℕ) (d : CellColumn) (c : Cell) → row < count → level < length columns → slice_get (slice_index_or columns level d).cells row ≡ Some c
-    → label_of_cell c ≡ label_in level (slice_index_or (column_keys columns count) row [])
+    → label_of c ≡ label_in level (slice_index_or (column_keys columns count) row [])
 column_label = grind (arith, get_or_from_slice_get, key_of_row, get_or-map-at)
 
 pub no_column : (columns : List CellColumn) (count row level : ℕ) → row < count → length columns ≤ level → label.Na ≡ label_in level (slice_index_or (column_keys columns count) row [])

@@ -6,7 +6,7 @@ use Rattle.cell_core.specs.declared.cell.Label.TheVariants.{Na}
 use Rattle.meaning.specs.Text.{Text}
 use Rattle.meaning.specs.Column.{tabulate}
 use Rattle.column_core.specs.Columns.{CellColumn}
-use Rattle.factorize.specs.Labels.{label_of_cell}
+use Rattle.cell_core.specs.Values.{label_of}
 use Rattle.row_keys.specs.Keys.{same_tuple}
 use Rattle.label_align.specs.Tuples.{tuple_seen, tuple_less}
 use Rattle.group_meaning.specs.Keys.{KeyRules, tuple_rules}
@@ -21,7 +21,7 @@ seen_rules texts = record {
 
 -- the key of a row: its cell in each column
 abbrev pub row_key : List CellColumn → ℕ → List Label
-row_key columns row = map (λ column. label_of_cell (slice_index_or column.cells row cell.Na)) columns
+row_key columns row = map (λ column. label_of (slice_index_or column.cells row cell.Na)) columns
 
 abbrev pub column_keys : List CellColumn → ℕ → List (List Label)
 column_keys columns count = tabulate count (row_key columns)

@@ -4,7 +4,6 @@ ghost use Rattle.multi_index.specs.Axes.{HaveLevels};
 ghost use Rattle.row_keys.specs.Keys.{label_in};
 ghost use Rattle.factorize.specs.Keys.{levels_of};
 
-use crate::labels::label_of;
 use cell_core::{Label, Tuples};
 use column_core::ColRef;
 
@@ -131,6 +130,6 @@ impl KeyLevels for KeyColumns<'_, '_> {
         if level >= self.columns.len() {
             return Label::Na;
         }
-        label_of(self.columns[level].cell(row))
+        Label::from(self.columns[level].cell(row))
     }
 }

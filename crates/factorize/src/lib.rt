@@ -2,8 +2,7 @@
 //!
 //! [`factorize`] numbers tuples of labels, and [`group_by_keys`] the rows of any [`KeyLevels`], as the cells of some
 //! columns ([`KeyColumns`]), without a tuple a row. [`number_keys`] does so where each row has a key. [`Groups`] has the
-//! group of each row, by number; whatever has groups of rows is a [`RowGroups`]. [`label_of`] is the label that a cell
-//! is in a key. What is answered is defined in `group_meaning`.
+//! group of each row, by number; whatever has groups of rows is a [`RowGroups`]. What is answered is defined in `group_meaning`.
 //!
 //! ```text
 //! let codes = factorize(alloc, &dict, &keys, true, true)?;
@@ -15,7 +14,6 @@
 mod codes;
 mod factor;
 mod groups;
-mod labels;
 mod levels;
 mod numbers;
 mod order;
@@ -24,6 +22,5 @@ mod places;
 pub use codes::{Codes, factorize};
 pub use factor::{KeyGroups, group_by_keys};
 pub use groups::{Groups, RowGroups};
-pub use labels::label_of;
 pub use levels::{KeyColumns, KeyLevels, KeyTuples};
 pub use numbers::{KeyNumbers, number_keys};

@@ -2,9 +2,9 @@
 use Rattle.{
   meaning.proofs.Common.{arith, List, [], ◌∷◌, Bool, Option, ℕ, false, Some, None, Result, ◌≡◌, true, LabelValue, CellValue, Text, FaultValue, Shape, Series, Frame},
   table_meaning.specs.{Table.{Table}, Value.{Given, object_in, NamedGiven, GivenList, Entry, cell, table}},
-  call_meaning.specs.{Binding.{text_in, bound_of, Bound}, Signature.{function_parameters, function_named}},
-  method_meaning.specs.{Merge.{keys_named, keys_under, keys_on, keys_of_merge, merge_result}, Concat.{Concatenation, frames_below, below, along, concat_result, concat_call}, Groups.{Grouping, Values, GroupCall, group_answer, of_bound, grouping_in, values_named, values_in, transform_in, without_arguments, group_call_of, grouped_of}, Calls.{ChainValue, plain_result, call_result}, Functions.{is_concat, function_result}, Readers.{reads_file, read_result, make_with}},
-  fault_laws.{specs.FormFault.{HasFormFault}, proofs.{FormFaults.{if_fault, then_value_fault, finished_fault, column_places_fault, on_fault, limited_fault, try_all_fault, of_length_fault, on_bound_fault, made_column_fault, column_place_fault, make_with_fault}, MethodFaults.{method_result_fault}}},
+  call_meaning.specs.{declared.Function.{Function}, Binding.{text_in, bound_of, Bound}, Signature.{function_parameters, function_named}},
+  method_meaning.specs.{Merge.{keys_named, keys_under, keys_on, keys_of_merge, merge_result}, Concat.{Concatenation, frames_below, below, along, concat_result, concat_call}, Groups.{Grouping, Values, GroupCall, group_answer, of_bound, grouping_in, values_named, values_in, transform_in, without_arguments, group_call_of, grouped_of}, Calls.{ChainValue, plain_result, call_result}, Functions.{made_named, function_result}, Readers.{reads_file, read_result}},
+  fault_laws.{specs.FormFault.{HasFormFault}, proofs.{FormFaults.{if_fault, then_value_fault, finished_fault, column_places_fault, on_fault, limited_fault, try_all_fault, of_length_fault, on_bound_fault, made_column_fault, column_place_fault, series_call_fault, frame_call_fault, read_result_fault}, MethodFaults.{method_result_fault}}},
   select_meaning.specs.Select.{shown_as},
 }
 use Rattle.call_meaning.specs.declared.Function.TheVariants as function
@@ -98,8 +98,16 @@ call_result_fault v (call.plain name) gs = plain_result_fault v name gs
 call_result_fault v (call.grouped by brackets name) _ = grind (arith, method_result_fault, grouped_of_fault)
 call_result_fault v (call.through name) _ = grind (arith, method_result_fault, grouped_of_fault)
 
+made_named_fault : (f : Option Function) (file : Option (List ℕ)) (name : Text) (gs : List NamedGiven) → HasFormFault (made_named f file name gs)
+made_named_fault None _ _ _ = tt
+made_named_fault (Some function.Series) _ _ gs = series_call_fault gs
+made_named_fault (Some function.DataFrame) _ _ gs = frame_call_fault gs
+made_named_fault (Some function.ReadCsv) None _ _ = tt
+made_named_fault (Some function.ReadCsv) (Some bytes) _ gs = read_result_fault bytes gs
+made_named_fault (Some function.Concat) _ _ gs = concat_call_fault gs
+
 pub function_result_fault : (file : Option (List ℕ)) (name : Text) (gs : List NamedGiven) → HasFormFault (function_result file name gs)
-function_result_fault file name gs = if_fault (is_concat (function_named name)) (concat_call gs) (make_with file name gs) (concat_call_fault gs) (make_with_fault file name gs)
+function_result_fault file name gs = made_named_fault _ file name gs
 
 -- what it makes of the bytes is what is read
 pub reads_made : (bytes : List ℕ) (name : Text) (gs : List NamedGiven) → reads_file (function_named name) ≡ true → function_result (Some bytes) name gs ≡ read_result bytes gs

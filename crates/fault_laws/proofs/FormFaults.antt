@@ -1,11 +1,11 @@
 -- No form on values has the fault that a file isn't there.
 use Rattle.{
-  meaning.proofs.Common.{arith, ℕ, Bool, true, false, List, [], ◌∷◌, Option, Some, None, Result, Err, if◌then◌else◌, Shape, Series, Frame, Text, CellValue, LabelValue, ColumnValue, ColumnFault, FaultValue, wrong_kind, bad_value, not_aligned, then_value, Binary},
+  meaning.proofs.Common.{arith, ℕ, Bool, true, false, List, [], ◌∷◌, Option, Result, Err, if◌then◌else◌, Shape, Series, Frame, CellValue, LabelValue, ColumnValue, ColumnFault, FaultValue, wrong_kind, bad_value, not_aligned, then_value, Binary},
   align_meaning.specs.Faults.{AlignRefusal, met_rows},
   table_meaning.specs.{Table.{ColumnOf, Table, column_at}, Value.{Entry, cell, table, Given, NamedGiven}},
-  call_meaning.specs.{declared.Function.{Function}, Binding.{Bound, on_bound}, Functions.{constructed, made_named, make_result}},
+  call_meaning.specs.{Binding.{Bound, on_bound}, Functions.{series_call, frame_call}},
   form_meaning.specs.{Finish.{column_labels, limited_table, limited, unless_repeated, finished, made_column, try_all}, Select.{found, column_place, column_places, length_result}, Infix.{Meeting, has_one, same_tuple, compares, infix_table, on_levels, rows_infix, joined_frames, frame_infix, takes_each, labels_fit, spread_frame, joined_turned, across_unequal, across_infix, table_infix, infix_result, sign_result}, Set.{of_length}, Make.{on, all_of_length}},
-  method_meaning.specs.Readers.{csv_result, read_result, make_with},
+  method_meaning.specs.Readers.{csv_result, read_result},
   fault_laws.specs.FormFault.{HasFormFault},
 }
 
@@ -112,21 +112,14 @@ all_of_length_fault _ [] _ next = next
 all_of_length_fault expected (c ∷ cs) rest next = of_length_fault _ _ _ (all_of_length_fault expected cs rest next)
 
 -- functions
-constructed_fault : (f : Function) (gs : List Given) → HasFormFault (constructed f gs)
-constructed_fault = grind (arith, on_fault, then_value_fault, made_column_fault, of_length_fault, if_fault, limited_fault, try_all_fault, all_of_length_fault)
+pub series_call_fault : (gs : List NamedGiven) → HasFormFault (series_call gs)
+series_call_fault = grind (arith, on_bound_fault, on_fault, then_value_fault, made_column_fault, of_length_fault, if_fault, limited_fault, try_all_fault, all_of_length_fault)
 
-made_named_fault : (f : Option Function) (name : Text) (gs : List NamedGiven) → HasFormFault (made_named f name gs)
-made_named_fault = grind (arith, if_fault, on_bound_fault, constructed_fault)
-
-pub make_result_fault : (name : Text) (gs : List NamedGiven) → HasFormFault (make_result name gs)
-make_result_fault name gs = made_named_fault _ name gs
+pub frame_call_fault : (gs : List NamedGiven) → HasFormFault (frame_call gs)
+frame_call_fault = grind (arith, on_bound_fault, on_fault, then_value_fault, made_column_fault, of_length_fault, if_fault, limited_fault, try_all_fault, all_of_length_fault)
 
 csv_result_fault : (bytes : List ℕ) (gs : List Given) → HasFormFault (csv_result bytes gs)
 csv_result_fault = grind arith
 
 pub read_result_fault : (bytes : List ℕ) (gs : List NamedGiven) → HasFormFault (read_result bytes gs)
 read_result_fault bytes _ = on_bound_fault _ _ (csv_result_fault bytes)
-
-pub make_with_fault : (file : Option (List ℕ)) (name : Text) (gs : List NamedGiven) → HasFormFault (make_with file name gs)
-make_with_fault None name gs = make_result_fault name gs
-make_with_fault (Some bytes) _ _ = search (if_fault, read_result_fault, make_result_fault)

@@ -1,10 +1,9 @@
 //! What the functions of `pd` make of files: so far `pd.read_csv`.
 //!
 //! [`reads_file`] says whether a function reads a file. [`file_name`] asks a call for the name of its
-//! file, before the file is read; it refuses what all calls refuse. [`make`] makes the table of the
-//! file's bytes and gives it an object; without bytes, or where the function reads no file, it is
-//! `constructors::make`. The contracts say that the answer is the one that is meant, or its first
-//! fault, and that no other object changes; the definitions are `specs/Readers.antt` of the crate
+//! file, before the file is read; it refuses what all calls refuse. [`read_frame`] makes the table of the
+//! file's bytes. The contracts say that the answer is the one that is meant, or its first
+//! fault; the definitions are `specs/Readers.antt` of the crate
 //! `method_meaning` and `specs/CsvRead.antt` of the crate `csv_meaning`.
 //!
 //! The dict of `dtype` is read as kinds that are named for labels (`kinds`), the file as columns (the
@@ -14,7 +13,7 @@
 //! // `pd.read_csv("sales")`: `args` has one argument, a text
 //! let name = file_name(&store, &dict, "read_csv", &args)?;
 //! let bytes = b"id,name\n1,ann\n2,\n";
-//! let made = make(alloc, &mut store, &mut dict, "read_csv", &args, Some(bytes))?;
+//! let table = read_frame(alloc, &store, &mut dict, args.as_slice(), bytes)?;
 //! ```
 #![tactic(auto)]
 
@@ -24,4 +23,4 @@ mod names;
 mod reading;
 
 pub use names::{file_name, reads_file};
-pub use reading::make;
+pub use reading::read_frame;

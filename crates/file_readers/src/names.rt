@@ -55,10 +55,10 @@ pub fn file_name(
     function: &str,
     args: &NamedList,
 ) -> Result<TextId, Code>
-    requires live { AreLive (tables store.now) args.now.items.items }
-    requires given { IsSettled (arguments_of (tables store.now)) dict.now args.now.items.items }
+    requires live { AreLive (tables store.now) args.now }
+    requires given { IsSettled (arguments_of (tables store.now)) dict.now args.now }
     ensures { Names dict.now result (name_for (signature.function_named function.now)
-        (arguments_in (world store.now dict.now) args.now.items.items)) }
+        (arguments_in (world store.now dict.now) args.now)) }
 {
     match function_named(function) {
         Some(function) => name_of(store, dict, function, args.as_slice()),

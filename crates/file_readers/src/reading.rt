@@ -1,6 +1,5 @@
-// What the functions of `pd` make, with the file of those that read one.
+// What `pd.read_csv` makes of a file.
 ghost use Rattle.std.specs.Prelude.{◌≡◌};
-ghost use Rattle.std.specs.Option.{option_map};
 ghost use Rattle.meaning.specs.Cell.{IsLonger};
 ghost use Rattle.csv_meaning.specs.CsvRead.{columns_of_file};
 ghost use Rattle.csv_frames.specs.Views.{entries_seen};
@@ -8,17 +7,15 @@ ghost use Rattle.method_meaning.specs.Readers as readers;
 ghost use Rattle.frame_store.specs.Objects.{tables};
 ghost use Rattle.frame_store.specs.Arguments.{AreLive};
 ghost use Rattle.frame_store.specs.Shown.{Makes};
-ghost use Rattle.frame_store.specs.World.{world, arguments_in, IsSettledWorld, AreKnownArguments, Forms};
+ghost use Rattle.frame_store.specs.World.{world, arguments_in};
 ghost use Rattle.file_readers.specs.Frames as meant;
 
 use crate::frames::frame_of;
 use crate::kinds::kinds_given;
-use crate::names::reads_file;
 use call_meaning::Function;
 use cell_core::{Code, Reason, TextDict};
 use csv_frames::{CsvFault, NamedKinds, read_csv};
-use form_parts::placed;
-use frame_store::{Named, NamedList, OpFault, Store, Table, Value};
+use frame_store::{Named, OpFault, Store, Table};
 use signatures::{bind, function_parameters};
 use std::alloc::Global;
 
@@ -55,8 +52,21 @@ pub(crate) fn frame_of_file(
     }
 }
 
-// What `pd.read_csv` makes of a file with these bytes.
-fn read_frame(
+/// What `pd.read_csv` makes of its arguments and of the bytes of the file. All that the arguments hold was given a
+/// number by `dict`; each text of the file gets one.
+///
+/// `pd.read_csv(name, dtype_backend="numpy_nullable", dtype=None)` is the frame of the file's columns,
+/// as [`csv_frames::read_csv`] reads them, and the labels of its rows are 0, 1 and so on. `dtype` is a
+/// dict from labels to names of kinds; a label that no column has is passed over, and of one that
+/// stands twice the last kind counts.
+///
+/// # Errors
+///
+/// In this order: `WrongKind` or `BadValue(Argument)` where the arguments aren't bound; `Limit` for more than 2^28
+/// bytes; `NotUtf8` for bytes that aren't UTF-8 text; `NoRecords` where there is no record; `LongRow` for the first
+/// record that is longer than the header; `BadValue(Cast)` where a field isn't of the kind that is named for its
+/// column; `Limit` for a table beyond the limits. `NoMemory` may come in place of any answer.
+pub fn read_frame(
     alloc: Global,
     store: &Store,
     dict: &mut TextDict,
@@ -71,43 +81,4 @@ fn read_frame(
     let bound = bind(store, dict, function_parameters(Function::ReadCsv), args)?;
     let kinds = kinds_given(alloc, dict, bound.dict_or_none(2))?;
     frame_of_file(alloc, dict, bytes, &kinds)
-}
-
-/// What a function of `pd` makes of its arguments: a new object. A function that reads a file, as
-/// `pd.read_csv` does, makes it of the file's bytes; without bytes, and for any other function, it is
-/// [`constructors::make`]. All that the arguments hold was given a number by `dict`; each text of the
-/// file gets one.
-///
-/// `pd.read_csv(name, dtype_backend="numpy_nullable", dtype=None)` is the frame of the file's columns,
-/// as [`csv_frames::read_csv`] reads them, and the labels of its rows are 0, 1 and so on. `dtype` is a
-/// dict from labels to names of kinds; a label that no column has is passed over, and of one that
-/// stands twice the last kind counts.
-///
-/// Where a file is read, in this order: `WrongKind` or `BadValue(Argument)` where the arguments aren't
-/// bound; `Limit` for more than 2^28 bytes; `NotUtf8` for bytes that aren't UTF-8 text; `NoRecords`
-/// where there is no record; `LongRow` for the first record that is longer than the header;
-/// `BadValue(Cast)` where a field isn't of the kind that is named for its column; `Limit` for a table
-/// beyond the limits. `NoMemory` may come in place of any answer. After a refusal all objects are as
-/// they were.
-pub fn make(
-    alloc: Global,
-    store: &mut Store,
-    dict: &mut TextDict,
-    function: &str,
-    args: &NamedList,
-    file: Option<&[u8]>,
-) -> Result<Value, OpFault>
-    requires settled { IsSettledWorld (world store.old dict.old) }
-    requires known { AreKnownArguments (world store.old dict.old) args.now.items.items }
-    ensures { Forms result (readers.make_with (option_map (λ bytes. bytes.now) file.entry)
-        function.now (arguments_in (world store.old dict.old) args.now.items.items))
-        (world store.old dict.old) (world store.new dict.new) }
-{
-    match file {
-        Some(bytes) if reads_file(function) => {
-            let made = read_frame(alloc, store, dict, args.as_slice(), bytes);
-            placed(store, dict, made)
-        }
-        _ => constructors::make(alloc, store, dict, function, args),
-    }
 }

@@ -1,6 +1,6 @@
 pub mod LabelLaws
-pub mod ObjectMade
 pub mod TableMade
 pub mod RowLaws
 pub mod GapLaws
+pub mod CellLaws
 pub mod Common

@@ -1,3 +1,2 @@
 pub mod Makes
 pub mod Faults
-pub mod Labels

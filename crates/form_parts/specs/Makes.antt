@@ -1,12 +1,16 @@
 -- What a part of a form makes.
-use Rattle.std.specs.Prelude.{◌≡◌, ℕ, List, length, map, All, ⊤, Result, Ok, Err}
+use Rattle.std.specs.Prelude.{◌≡◌, ℕ, true, List, length, map, All, ⊤, Result, Ok, Err, if◌then◌else◌}
+use Rattle.std.specs.List.{list_all}
+use Rattle.cell_core.specs.declared.cell.Cell.{Cell}
+use Rattle.cell_core.specs.declared.cell.Kind.{Kind}
 use Rattle.meaning.specs.Text.{Text}
-use Rattle.meaning.specs.Cell.{CellValue, AreGiven}
-use Rattle.meaning.specs.Fault.{FaultValue}
+use Rattle.meaning.specs.Cell.{CellValue, AreGiven, datum, holds}
+use Rattle.meaning.specs.Fault.{FaultValue, wrong_kind}
 use Rattle.column_core.specs.Blocks.{CellBlock}
+use Rattle.column_core.specs.Columns.{CellColumn}
 use Rattle.table_meaning.specs.Table.{ColumnOf, column_value}
 use Rattle.table_meaning.specs.Value.{Entry}
-use Rattle.frame_store.specs.Shown.{columns_value, Refuses}
+use Rattle.frame_store.specs.Shown.{cells_value, columns_value, Refuses}
 use Rattle.frame_store.specs.Parts.{block_column, IsSingle, HaveRows}
 use Rattle.frame_store.specs.declared.fault.OpFault.{OpFault}
 use Rattle.frame_store.specs.declared.fault.OpFault.TheVariants.{Refused, NoMemory}
@@ -37,3 +41,19 @@ pub record AreColumns (texts : List Text) (rows columns : ℕ) (blocks : List Ce
   pub count : length blocks ≡ columns
   pub filled : HaveRows rows (map block_column blocks)
   pub given : All (λ c. AreGiven texts c.cells) (map block_column blocks)
+
+-- a column of a kernel with texts
+abbrev pub column_seen : List Text → CellColumn → ColumnOf CellValue
+column_seen texts c = record { kind = c.kind; cells = map (datum texts) c.cells }
+
+-- the column of these cells, of a kind
+abbrev pub column_listed : List Cell → List Text → Kind → ColumnOf CellValue
+column_listed cells texts kind = record { kind = kind; cells = cells_value texts cells }
+
+-- the column of these cells, all of which the kind must hold
+abbrev pub held_column : Kind → List CellValue → Result (ColumnOf CellValue) FaultValue
+held_column kind cells = if list_all (holds kind) cells then Ok record { kind = kind; cells = cells } else Err wrong_kind
+
+-- a column of the kind may have these cells
+abbrev pub IsKindOf : List Cell → Kind → Type 0
+IsKindOf cells kind = (texts : List Text) → list_all (holds kind) (cells_value texts cells) ≡ true

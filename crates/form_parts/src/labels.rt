@@ -10,24 +10,9 @@ ghost use Rattle.frame_store.specs.Shown.{labels_value};
 ghost use Rattle.form_meaning.specs.Given as meant;
 ghost use Rattle.form_meaning.specs.Infix.{common_name, same_tuples};
 ghost use Rattle.form_meaning.specs.Finish as finish;
-ghost use Rattle.form_parts.specs.Labels.{label_of};
 
 use cell_core::{Cell, Label, TextDict};
 use multi_index::Axis;
-
-/// The label that a cell is. Takes no memory.
-pub fn label_of(cell: Cell) -> Label
-    ensures label { result ≡ label_of cell }
-    ensures seen { (texts : List OneText)
-        → label_datum texts result ≡ cell_label (datum texts cell) }
-{
-    match cell {
-        Cell::Na => Label::Na,
-        Cell::Int(number) => Label::Int(number),
-        Cell::Bool(truth) => Label::Bool(truth),
-        Cell::Text(id) => Label::Text(id),
-    }
-}
 
 /// The label that a scalar is, if there is one. Takes no memory.
 pub fn name_of(cell: Option<Cell>) -> Option<Label>
@@ -35,7 +20,7 @@ pub fn name_of(cell: Option<Cell>) -> Option<Label>
         → heading_value texts result ≡ option_map cell_label (option_map (datum texts) cell) }
 {
     match cell {
-        Some(cell) => Some(label_of(cell)),
+        Some(cell) => Some(Label::from(cell)),
         None => None,
     }
 }

@@ -4,7 +4,7 @@ use Rattle.cell_core.specs.Grids.{GridValue}
 use Rattle.meaning.specs.Text.{Text}
 use Rattle.meaning.specs.Cell.{CellValue, na_cell, LabelValue, na}
 use Rattle.meaning.specs.Column.{tabulate}
-use Rattle.table_meaning.specs.Table.{Table, TableOf, NumberedTable, column_at, table_value}
+use Rattle.table_meaning.specs.Table.{Table, NumberedTable, column_at, table_value}
 
 -- the whole table, in which a text is still its number
 abbrev pub numbered : GridValue → NumberedTable

@@ -21,9 +21,9 @@ pub ruleset levels = (levels_told, tuple_seen)
 
 pub ruleset same_above = (row_within, level_within, same_seen)
 
-pub ruleset show_cell = (row_within, column_within, cell_seen)
+pub ruleset write_cell = (row_within, column_within, cell_seen)
 
-pub ruleset show_label = (row_within, level_within, label_seen)
+pub ruleset write_label = (row_within, level_within, label_seen)
 
 pub ruleset put_character = (shown_text-encode)
 

@@ -1,3 +1,4 @@
+pub mod Styles
 pub mod Layouts
 pub mod Written
 pub mod ReadBack

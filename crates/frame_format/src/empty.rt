@@ -6,6 +6,7 @@ ghost use Rattle.format_meaning.specs.Print.{shown_name, shown_label, whole_labe
 
 use crate::fields::push_gap;
 use crate::source::Source;
+use crate::texts::Style;
 use cell_core::{Grid, NoMemory, Words};
 
 /// Appends the three lines.
@@ -35,7 +36,7 @@ fn push_all_headings<G: Grid>(
 {
     for column in 0..source.columns() {
         push_gap(out, ", ", column)?;
-        source.show_heading(text, column)?;
+        source.write_heading(text, Style::Printed, column)?;
         out.push_str(text.as_str())?;
     }
     Ok(())
@@ -69,7 +70,7 @@ fn push_whole_label<G: Grid>(
     ensures { OnOk result (out.new ≡ out.old ++ whole_label source.now row) }
 {
     if source.levels() == 1 {
-        source.show_label(text, row, 0)?;
+        source.write_label(text, Style::Printed, row, 0)?;
         return out.push_str(text.as_str());
     }
     out.push_str("(")?;
@@ -91,7 +92,7 @@ fn push_each_level<G: Grid>(
 {
     for level in 0..source.levels() {
         push_gap(out, ", ", level)?;
-        source.show_label(text, row, level)?;
+        source.write_label(text, Style::Printed, row, level)?;
         out.push_str(text.as_str())?;
     }
     Ok(())

@@ -3,7 +3,7 @@ ghost use Rattle.std.specs.Prelude.{◌≡◌, ◌<◌, ◌++◌, ◌+◌, ◌-�
 ghost use Rattle.std.specs.List.{flat_map};
 ghost use Rattle.cell_core.specs.declared.grid.Shape.TheVariants.{Frame};
 ghost use Rattle.format_meaning.specs.Told.{told, cell_at, heading_at};
-ghost use Rattle.format_meaning.specs.Print.{titled_width, header_line, names_below, names_line, frame_line, frame_levels, frame_columns, filled_text, frame_text_of, level_title, level_text, shown_name, shown_cell, spaces, right_set, places};
+ghost use Rattle.format_meaning.specs.Print.{titled_width, header_line, names_below, names_line, frame_line, filled_text, frame_text_of, shown_name, shown_cell, spaces, places};
 ghost use Rattle.frame_format.specs.Layouts.{IsFrameLayout, set_columns};
 
 use crate::empty::push_empty;
@@ -12,6 +12,7 @@ use crate::measuring::{
     has_level_names, push_labels, push_names, width_of_cells, widths_of_levels,
 };
 use crate::source::Source;
+use crate::texts::Style;
 use cell_core::{Grid, NoMemory, TextDict, Words};
 use std::alloc::Global;
 use unicode_width::UnicodeWidthStr;
@@ -82,7 +83,7 @@ fn width_of_column<G: Grid>(
     ensures { IfOk result (λ width. width ≡ titled_width source.now column) }
 {
     let cells = width_of_cells(text, source, column)?;
-    source.show_heading(text, column)?;
+    source.write_heading(text, Style::Printed, column)?;
     Ok(cells.max(text.as_str().width()))
 }
 
@@ -111,7 +112,7 @@ fn frame_layout<G: Grid>(
 {
     let levels = widths_of_levels(alloc, text, source)?;
     let side_by_side = width_side_by_side(levels.as_slice())?;
-    source.show_columns_name(text)?;
+    source.write_columns_name(text)?;
     let index = side_by_side.max(text.as_str().width());
     let columns = widths_of_columns(alloc, text, source)?;
     Ok(FrameLayout {
@@ -132,7 +133,7 @@ fn push_header<G: Grid>(
     requires { IsFrameLayout source.now layout.now }
     ensures { OnOk result (out.new ≡ out.old ++ header_line source.now) }
 {
-    source.show_columns_name(text)?;
+    source.write_columns_name(text)?;
     push_left(out, layout.index, text.as_str())?;
     push_headings(out, text, source, layout.columns.as_slice())
 }
@@ -149,7 +150,7 @@ fn push_headings<G: Grid>(
         (λ column. shown_name (heading_at source.now column))) }
 {
     for column in 0..widths.len() {
-        source.show_heading(text, column)?;
+        source.write_heading(text, Style::Printed, column)?;
         push_spaces(out, 2)?;
         push_right(out, widths[column], text.as_str())?;
     }
@@ -249,7 +250,7 @@ fn push_cells<G: Grid>(
         (λ column. shown_cell (cell_at source.now row column))) }
 {
     for column in 0..widths.len() {
-        source.show_cell(text, row, column)?;
+        source.write_cell(text, Style::Printed, row, column)?;
         push_spaces(out, 2)?;
         push_right(out, widths[column], text.as_str())?;
     }

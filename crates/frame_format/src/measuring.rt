@@ -1,9 +1,10 @@
 // The widths of levels and columns, and the levels side by side.
-ghost use Rattle.std.specs.Prelude.{◌≡◌, ◌<◌, ◌++◌, ◌+◌, ◌-◌, Bool, true, length, map, sum, slice_index, OnOk, IfOk, string_bytes};
+ghost use Rattle.std.specs.Prelude.{◌≡◌, ◌<◌, ◌++◌, ◌+◌, ◌-◌, true, length, map, slice_index, OnOk, IfOk, string_bytes};
 ghost use Rattle.format_meaning.specs.Print.{labels_width, column_width, level_width, level_title, level_text, side_by_side, places, repeats, has_names};
 
 use crate::fields::{push_gap, push_left};
 use crate::source::Source;
+use crate::texts::Style;
 use cell_core::{Grid, NoMemory, Words};
 use std::alloc::Global;
 use unicode_width::UnicodeWidthStr;
@@ -20,7 +21,7 @@ pub(crate) fn width_of_labels<G: Grid>(
 {
     let mut most = 0;
     for row in 0..source.rows() {
-        source.show_label(text, row, level)?;
+        source.write_label(text, Style::Printed, row, level)?;
         most = most.max(text.as_str().width());
     }
     Ok(most)
@@ -38,7 +39,7 @@ pub(crate) fn width_of_cells<G: Grid>(
 {
     let mut most = 0;
     for row in 0..source.rows() {
-        source.show_cell(text, row, column)?;
+        source.write_cell(text, Style::Printed, row, column)?;
         most = most.max(text.as_str().width());
     }
     Ok(most)
@@ -54,7 +55,7 @@ pub(crate) fn width_of_level<G: Grid>(
     ensures { IfOk result (λ width. width ≡ level_width source.now level) }
 {
     let labels = width_of_labels(text, source, level)?;
-    source.show_level_name(text, level)?;
+    source.write_level_name(text, Style::Printed, level)?;
     Ok(labels.max(text.as_str().width()))
 }
 
@@ -103,7 +104,7 @@ pub(crate) fn push_names<G: Grid>(
 {
     for level in 0..widths.len() {
         push_gap(out, gap, level)?;
-        source.show_level_name(text, level)?;
+        source.write_level_name(text, Style::Printed, level)?;
         push_left(out, widths[level], text.as_str())?;
     }
     Ok(())
@@ -152,5 +153,5 @@ fn show_unless_repeated<G: Grid>(
         text.clear();
         return Ok(());
     }
-    source.show_label(text, row, level)
+    source.write_label(text, Style::Printed, row, level)
 }

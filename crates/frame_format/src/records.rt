@@ -1,5 +1,5 @@
 // The CSV text of a table.
-ghost use Rattle.std.specs.Prelude.{◌≡◌, ◌<◌, ◌++◌, [], Bool, true, false, List, ℕ, length, map, slice_index_or, OnOk, IfOk, if◌then◌else◌};
+ghost use Rattle.std.specs.Prelude.{◌≡◌, ◌<◌, ◌++◌, [], false, List, ℕ, length, map, OnOk, IfOk, if◌then◌else◌};
 ghost use Rattle.cell_core.specs.Values.{na_cell};
 ghost use Rattle.csv.specs.Records.{fields_of};
 ghost use Rattle.table_meaning.specs.Table.{row_of};
@@ -8,6 +8,7 @@ ghost use Rattle.format_meaning.specs.CsvWrite.{cell_field, label_field, name_fi
 ghost use Rattle.frame_format.specs.Written.{HasWritten, IsFilled};
 
 use crate::source::Source;
+use crate::texts::Style;
 use cell_core::{Grid, NoMemory, TextDict, Words};
 use csv::{ByteRecord, Writer, WriterBuilder};
 use std::alloc::Global;
@@ -112,7 +113,7 @@ fn put_level_names<G: Grid>(
     ensures filled { OnOk result (IsFilled record.new) }
 {
     for level in 0..source.levels() {
-        source.write_level_name(text, level)?;
+        source.write_level_name(text, Style::Record, level)?;
         record.push_field(text.as_str().as_bytes())?;
     }
     Ok(())
@@ -129,7 +130,7 @@ fn put_headings<G: Grid>(
     ensures filled { OnOk result (IsFilled record.new) }
 {
     for column in 0..source.columns() {
-        source.write_heading(text, column)?;
+        source.write_heading(text, Style::Record, column)?;
         record.push_field(text.as_str().as_bytes())?;
     }
     Ok(())
@@ -187,7 +188,7 @@ fn put_labels<G: Grid>(
     ensures filled { OnOk result (IsFilled record.new) }
 {
     for level in 0..source.levels() {
-        source.write_label(text, row, level)?;
+        source.write_label(text, Style::Record, row, level)?;
         record.push_field(text.as_str().as_bytes())?;
     }
     Ok(())
@@ -206,7 +207,7 @@ fn put_cells<G: Grid>(
     ensures filled { OnOk result (IsFilled record.new) }
 {
     for column in 0..source.columns() {
-        source.write_cell(text, row, column)?;
+        source.write_cell(text, Style::Record, row, column)?;
         record.push_field(text.as_str().as_bytes())?;
     }
     Ok(())

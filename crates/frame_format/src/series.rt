@@ -3,7 +3,7 @@ ghost use Rattle.std.specs.Prelude.{◌≡◌, ◌<◌, ◌++◌, length, map, c
 ghost use Rattle.std.specs.List.{flat_map};
 ghost use Rattle.cell_core.specs.declared.grid.Shape.TheVariants.{Series};
 ghost use Rattle.format_meaning.specs.Told.{told, heading_at};
-ghost use Rattle.format_meaning.specs.Print.{series_width, column_width, series_levels, series_names, series_line, names_above, name_part, last_line, series_text_of, places};
+ghost use Rattle.format_meaning.specs.Print.{series_width, series_names, series_line, names_above, name_part, last_line, series_text_of, places};
 ghost use Rattle.frame_format.specs.Layouts.{IsSeriesLayout};
 
 use crate::fields::{push_right, push_spaces};
@@ -11,7 +11,7 @@ use crate::measuring::{
     has_level_names, push_labels, push_names, width_of_cells, width_of_labels, widths_of_levels,
 };
 use crate::source::Source;
-use crate::texts::word_of_kind;
+use crate::texts::{Style, word_of_kind};
 use cell_core::{Grid, NoMemory, TextDict, Words};
 use std::alloc::Global;
 
@@ -107,7 +107,7 @@ fn push_series_names<G: Grid>(
     ensures { OnOk result (out.new ≡ out.old ++ series_names source.now) }
 {
     if source.levels() == 1 {
-        source.show_level_name(text, 0)?;
+        source.write_level_name(text, Style::Printed, 0)?;
         return out.push_str(text.as_str());
     }
     push_names(out, text, source, "  ", layout.levels.as_slice())
@@ -147,7 +147,7 @@ fn push_series_line<G: Grid>(
 {
     push_labels(out, text, source, "  ", layout.levels.as_slice(), row)?;
     push_spaces(out, 4)?;
-    source.show_cell(text, row, 0)?;
+    source.write_cell(text, Style::Printed, row, 0)?;
     push_right(out, layout.values, text.as_str())
 }
 
@@ -176,7 +176,7 @@ fn push_name<G: Grid>(
     if !source.has_heading(0) {
         return Ok(());
     }
-    source.show_heading(text, 0)?;
+    source.write_heading(text, Style::Printed, 0)?;
     out.push_str("Name: ")?;
     out.push_str(text.as_str())?;
     out.push_str(", ")

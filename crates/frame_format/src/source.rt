@@ -2,17 +2,16 @@
 ghost use Rattle.std.specs.Prelude.{◌≡◌, ◌<◌, [], ℕ, length, slice_index_or, OnOk, string_bytes, is_some};
 ghost use Rattle.table_meaning.specs.Table.{column_at};
 ghost use Rattle.format_meaning.specs.Told.{told, label_at, level_name, cell_at, heading_at};
-ghost use Rattle.format_meaning.specs.Print.{shown_cell, shown_label, shown_name, same_above};
-ghost use Rattle.format_meaning.specs.CsvWrite.{cell_field, label_field, name_field, heading_field};
+ghost use Rattle.format_meaning.specs.Print.{shown_name, same_above};
+ghost use Rattle.frame_format.specs.Styles.{cell_text, label_text, name_text, heading_text};
 
-use crate::texts;
+use crate::texts::{self, Style};
 use cell_core::{Grid, Kind, NoMemory, TextDict};
 use std::marker::Model;
 
 /// A grid, and the texts of its labels and cells. A contract sees it as the whole table.
 ///
-/// Each `show` and each `write` puts the text of a part, as it is in a printed table or in a record,
-/// in the place of what stood in `text`.
+/// Each `write` puts the text of a part in the place of what stood in `text`.
 #[derive(Drop)]
 pub(crate) struct Source<'a, G: Grid> {
     dict: &'a TextDict,
@@ -98,97 +97,67 @@ impl<'a, G: Grid> Source<'a, G> {
         texts::same_label(self.dict, above, label)
     }
 
-    #[tactic(auto, using(crate::proofs::Hints::show_label))]
-    pub(crate) fn show_label(
-        &self,
-        text: &mut String,
-        row: usize,
-        level: usize,
-    ) -> Result<(), NoMemory>
-        requires row { row < length self.now.labels }
-        requires level { level < length self.now.level_names }
-        ensures { OnOk result (string_bytes text.new ≡ shown_label (label_at self.now row level)) }
-    {
-        texts::show_label(text, self.dict, self.grid.label(row, level))
-    }
-
-    #[tactic(auto, using(crate::proofs::Hints::show_cell))]
-    pub(crate) fn show_cell(
-        &self,
-        text: &mut String,
-        row: usize,
-        column: usize,
-    ) -> Result<(), NoMemory>
-        requires row { row < length self.now.labels }
-        requires column { column < length self.now.columns }
-        ensures { OnOk result (string_bytes text.new ≡ shown_cell (cell_at self.now row column)) }
-    {
-        texts::show_cell(text, self.dict, self.grid.cell(row, column))
-    }
-
-    #[tactic(auto, using(crate::proofs::ToldLaws::level_within))]
-    pub(crate) fn show_level_name(&self, text: &mut String, level: usize) -> Result<(), NoMemory>
-        requires { level < length self.now.level_names }
-        ensures { OnOk result (string_bytes text.new ≡ shown_name (level_name self.now level)) }
-    {
-        texts::show_name(text, self.dict, self.grid.level_name(level))
-    }
-
-    #[tactic(auto, using(crate::proofs::ToldLaws::column_within))]
-    pub(crate) fn show_heading(&self, text: &mut String, column: usize) -> Result<(), NoMemory>
-        requires { column < length self.now.columns }
-        ensures { OnOk result (string_bytes text.new ≡ shown_name (heading_at self.now column)) }
-    {
-        texts::show_name(text, self.dict, self.grid.heading(column))
-    }
-
-    pub(crate) fn show_columns_name(&self, text: &mut String) -> Result<(), NoMemory>
-        ensures { OnOk result (string_bytes text.new ≡ shown_name self.now.columns_name) }
-    {
-        texts::show_name(text, self.dict, self.grid.columns_name())
-    }
-
-    #[tactic(auto, using(crate::proofs::Hints::show_label))]
+    #[tactic(auto, using(crate::proofs::Hints::write_label))]
     pub(crate) fn write_label(
         &self,
         text: &mut String,
+        style: Style,
         row: usize,
         level: usize,
     ) -> Result<(), NoMemory>
         requires row { row < length self.now.labels }
         requires level { level < length self.now.level_names }
-        ensures { OnOk result (string_bytes text.new ≡ label_field (label_at self.now row level)) }
+        ensures { OnOk result (string_bytes text.new
+            ≡ label_text style (label_at self.now row level)) }
     {
-        texts::write_label(text, self.dict, self.grid.label(row, level))
+        texts::write_label(text, self.dict, style, self.grid.label(row, level))
     }
 
-    #[tactic(auto, using(crate::proofs::Hints::show_cell))]
+    #[tactic(auto, using(crate::proofs::Hints::write_cell))]
     pub(crate) fn write_cell(
         &self,
         text: &mut String,
+        style: Style,
         row: usize,
         column: usize,
     ) -> Result<(), NoMemory>
         requires row { row < length self.now.labels }
         requires column { column < length self.now.columns }
-        ensures { OnOk result (string_bytes text.new ≡ cell_field (cell_at self.now row column)) }
+        ensures { OnOk result (string_bytes text.new ≡ cell_text style (cell_at self.now row column)) }
     {
-        texts::write_cell(text, self.dict, self.grid.cell(row, column))
+        texts::write_cell(text, self.dict, style, self.grid.cell(row, column))
     }
 
     #[tactic(auto, using(crate::proofs::ToldLaws::level_within))]
-    pub(crate) fn write_level_name(&self, text: &mut String, level: usize) -> Result<(), NoMemory>
+    pub(crate) fn write_level_name(
+        &self,
+        text: &mut String,
+        style: Style,
+        level: usize,
+    ) -> Result<(), NoMemory>
         requires { level < length self.now.level_names }
-        ensures { OnOk result (string_bytes text.new ≡ name_field (level_name self.now level)) }
+        ensures { OnOk result (string_bytes text.new ≡ name_text style (level_name self.now level)) }
     {
-        texts::write_name(text, self.dict, self.grid.level_name(level))
+        texts::write_name(text, self.dict, style, self.grid.level_name(level))
     }
 
     #[tactic(auto, using(crate::proofs::ToldLaws::column_within))]
-    pub(crate) fn write_heading(&self, text: &mut String, column: usize) -> Result<(), NoMemory>
+    pub(crate) fn write_heading(
+        &self,
+        text: &mut String,
+        style: Style,
+        column: usize,
+    ) -> Result<(), NoMemory>
         requires { column < length self.now.columns }
-        ensures { OnOk result (string_bytes text.new ≡ heading_field (heading_at self.now column)) }
+        ensures { OnOk result (string_bytes text.new ≡ heading_text style (heading_at self.now column)) }
     {
-        texts::write_heading(text, self.dict, self.grid.heading(column))
+        texts::write_heading(text, self.dict, style, self.grid.heading(column))
+    }
+
+    /// The name of the columns, as in a printed table.
+    pub(crate) fn write_columns_name(&self, text: &mut String) -> Result<(), NoMemory>
+        ensures { OnOk result (string_bytes text.new ≡ shown_name self.now.columns_name) }
+    {
+        texts::write_name(text, self.dict, Style::Printed, self.grid.columns_name())
     }
 }

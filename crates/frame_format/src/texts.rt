@@ -4,91 +4,69 @@ ghost use Rattle.std.specs.Fmt.{signed_decimal};
 ghost use Rattle.std.specs.Ordering.{is_eq};
 ghost use Rattle.cell_core.specs.Values.{datum, label_datum, label_cmp};
 ghost use Rattle.table_meaning.specs.Table.{heading_value};
-ghost use Rattle.format_meaning.specs.Print.{shown_text, shown_truth, shown_cell, shown_label, shown_name, kind_word};
-ghost use Rattle.format_meaning.specs.CsvWrite.{cell_field, label_field, name_field, heading_field};
+ghost use Rattle.meaning.specs.Cell.{na_cell, text_cell};
+ghost use Rattle.format_meaning.specs.Print.{shown_text, shown_truth, kind_word};
+ghost use Rattle.frame_format.specs.Styles.{cell_text, label_text, name_text, heading_text};
 
 use cell_core::{Cell, Kind, Label, NoMemory, TextDict};
 use itoa::Buffer;
 
-/// The text of a cell in a printed table, in the place of what stood there.
-pub(crate) fn show_cell(text: &mut String, dict: &TextDict, cell: Cell) -> Result<(), NoMemory>
-    ensures { OnOk result (string_bytes text.new ≡ shown_cell (datum dict.now cell)) }
-{
-    text.clear();
-    match cell {
-        Cell::Na => put(text, "<NA>"),
-        Cell::Int(number) => put_number(text, number),
-        Cell::Bool(truth) => put(text, truth_word(truth)),
-        Cell::Text(id) => put_escaped(text, dict.text(id)),
-    }
+/// Where labels and cells are written.
+#[derive(Clone, Copy)]
+pub(crate) enum Style {
+    /// In a printed table.
+    Printed,
+    /// In a record, each as a field.
+    Record,
 }
 
-/// The text of a label in a printed table, in the place of what stood there.
-pub(crate) fn show_label(text: &mut String, dict: &TextDict, label: Label) -> Result<(), NoMemory>
-    ensures { OnOk result (string_bytes text.new ≡ shown_label (label_datum dict.now label)) }
-{
-    text.clear();
-    match label {
-        Label::Na => put(text, "<NA>"),
-        Label::Int(number) => put_number(text, number),
-        Label::Bool(truth) => put(text, truth_word(truth)),
-        Label::Text(id) => put_escaped(text, dict.text(id)),
-    }
-}
-
-/// The text of a name in a printed table, in the place of what stood there; nothing for a missing one.
-pub(crate) fn show_name(
+/// The text of a cell, in the place of what stood there.
+pub(crate) fn write_cell(
     text: &mut String,
     dict: &TextDict,
-    name: Option<Label>,
+    style: Style,
+    cell: Cell,
 ) -> Result<(), NoMemory>
-    ensures { OnOk result (string_bytes text.new ≡ shown_name (heading_value dict.now name)) }
-{
-    match name {
-        Some(label) => show_label(text, dict, label),
-        None => {
-            text.clear();
-            Ok(())
-        }
-    }
-}
-
-/// The field of a cell in a record, in the place of what stood there.
-pub(crate) fn write_cell(text: &mut String, dict: &TextDict, cell: Cell) -> Result<(), NoMemory>
-    ensures { OnOk result (string_bytes text.new ≡ cell_field (datum dict.now cell)) }
+    ensures { OnOk result (string_bytes text.new ≡ cell_text style (datum dict.now cell)) }
 {
     text.clear();
     match cell {
-        Cell::Na => Ok(()),
+        Cell::Na => put(text, missing_word(style)),
         Cell::Int(number) => put_number(text, number),
         Cell::Bool(truth) => put(text, truth_word(truth)),
-        Cell::Text(id) => put(text, dict.text(id)),
+        Cell::Text(id) => put_text(text, style, dict.text(id)),
     }
 }
 
-/// The field of a label in a record, in the place of what stood there.
-pub(crate) fn write_label(text: &mut String, dict: &TextDict, label: Label) -> Result<(), NoMemory>
-    ensures { OnOk result (string_bytes text.new ≡ label_field (label_datum dict.now label)) }
+/// The text of a label, in the place of what stood there.
+pub(crate) fn write_label(
+    text: &mut String,
+    dict: &TextDict,
+    style: Style,
+    label: Label,
+) -> Result<(), NoMemory>
+    ensures { OnOk result (string_bytes text.new ≡ label_text style (label_datum dict.now label)) }
 {
     text.clear();
     match label {
-        Label::Na => Ok(()),
+        Label::Na => put(text, missing_word(style)),
         Label::Int(number) => put_number(text, number),
         Label::Bool(truth) => put(text, truth_word(truth)),
-        Label::Text(id) => put(text, dict.text(id)),
+        Label::Text(id) => put_text(text, style, dict.text(id)),
     }
 }
 
-/// The field of the name of a level, in the place of what stood there.
+/// The text of a name, in the place of what stood there; nothing for a missing one.
 pub(crate) fn write_name(
     text: &mut String,
     dict: &TextDict,
+    style: Style,
     name: Option<Label>,
 ) -> Result<(), NoMemory>
-    ensures { OnOk result (string_bytes text.new ≡ name_field (heading_value dict.now name)) }
+    ensures { OnOk result (string_bytes text.new ≡ name_text style (heading_value dict.now name)) }
 {
     match name {
-        Some(label) => write_label(text, dict, label),
+        Some(label) => write_label(text, dict, style, label),
         None => {
             text.clear();
             Ok(())
@@ -96,20 +74,22 @@ pub(crate) fn write_name(
     }
 }
 
-/// The field of the heading of a column, in the place of what stood there.
+/// The text of the heading of a column, in the place of what stood there.
 pub(crate) fn write_heading(
     text: &mut String,
     dict: &TextDict,
+    style: Style,
     heading: Option<Label>,
 ) -> Result<(), NoMemory>
-    ensures { OnOk result (string_bytes text.new ≡ heading_field (heading_value dict.now heading)) }
+    ensures { OnOk result (string_bytes text.new
+        ≡ heading_text style (heading_value dict.now heading)) }
 {
-    match heading {
-        Some(label) => write_label(text, dict, label),
-        None => {
+    match (style, heading) {
+        (Style::Record, None) => {
             text.clear();
             put(text, "0")
         }
+        _ => write_name(text, dict, style, heading),
     }
 }
 
@@ -150,6 +130,26 @@ fn put_number(text: &mut String, number: i64) -> Result<(), NoMemory>
 {
     let mut digits = Buffer::new();
     put(text, digits.format(number))
+}
+
+fn missing_word(style: Style) -> &'static str
+    ensures { result.now ≡ cell_text style na_cell }
+{
+    match style {
+        Style::Printed => "<NA>",
+        Style::Record => "",
+    }
+}
+
+// Appends a text.
+fn put_text(text: &mut String, style: Style, piece: &str) -> Result<(), NoMemory>
+    ensures { OnOk result (string_bytes text.new
+        ≡ string_bytes text.old ++ cell_text style (text_cell piece.now)) }
+{
+    match style {
+        Style::Printed => put_escaped(text, piece),
+        Style::Record => put(text, piece),
+    }
 }
 
 // Appends a text with the escapes of printed tables.

@@ -7,7 +7,7 @@ use Rattle.table_meaning.specs.Table.{Table}
 use Rattle.table_meaning.specs.Value.{Entry}
 use Rattle.call_meaning.specs.declared.Method.{Method}
 use Rattle.call_meaning.specs.Signature.{parameters_of, fits_shape}
-use Rattle.method_meaning.specs.Methods.{answer_for, is_built}
+use Rattle.method_meaning.specs.Methods.{answer_for, takes_one_table}
 use Rattle.frame_store.specs.declared.fault.OpFault.{OpFault}
 use Rattle.frame_store.specs.declared.fault.OpFault.TheVariants.{Refused, NoMemory}
 use Rattle.frame_store.specs.Shown.{Refuses}
@@ -17,9 +17,9 @@ use Rattle.signatures.specs.Bound.{given_in}
 use Rattle.signatures.specs.declared.bound.Bound.{Bound}
 use Rattle.frame_methods.specs.declared.binding.BoundCall.{BoundCall}
 
--- the method is built, the arguments are its own, the shape has it, and their texts were given
+-- the method is answered by its table alone, the arguments are its own, the shape has it, and their texts were given
 pub record IsCall (w : World) (m : Method) (b : Bound) (shape : Shape) : Type 0 where
-  pub built : is_built m ≡ true
+  pub alone : takes_one_table m ≡ true
   pub parameters : b.parameters.now ≡ parameters_of m
   pub shaped : fits_shape m shape ≡ true
   pub given : IsSettled (arguments_of w.tables) w.texts b.args.now

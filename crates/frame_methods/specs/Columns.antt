@@ -5,14 +5,15 @@ use Rattle.meaning.specs.Text.{Text}
 use Rattle.meaning.specs.Cell.{CellValue, IsLonger, IsGiven, AreGiven}
 use Rattle.meaning.specs.Fault.{FaultValue, wrong_kind, zero_divide, bad_value, cast}
 use Rattle.column_core.specs.Columns.{CellColumn}
+use Rattle.column_core.specs.Blocks.{CellBlock}
 use Rattle.table_meaning.specs.Table.{ColumnOf}
 use Rattle.nullable_array.specs.declared.ops.ArrayFault.{ArrayFault}
 use Rattle.nullable_array.specs.declared.ops.ArrayFault.TheVariants.{KindMismatch, ZeroDivision, NotCast, NoMemory}
 use Rattle.frame_store.specs.Shown.{columns_value}
 use Rattle.frame_store.specs.Parts.{block_column, IsSingle, HaveRows}
 use Rattle.form_meaning.specs.Finish.{try_all}
-use Rattle.column_core.specs.Blocks.{CellBlock}
-use Rattle.label_methods.specs.Columns.{seen_column, with_front}
+use Rattle.label_methods.specs.Columns.{with_front}
+use Rattle.form_parts.specs.Makes.{column_seen}
 
 -- Each of these cells was given, one by one: `AreGiven` of the list, but it computes on a list that is written out, so
 -- that of no cell nothing is to be shown, and of one only that this one was given.
@@ -29,7 +30,7 @@ IsFault NoMemory meant = Unit {0}
 
 -- the column that is made is the one that is meant, or its fault is
 abbrev pub MakesColumn : List Text → Result CellColumn ArrayFault → Result (ColumnOf CellValue) FaultValue → Type 0
-MakesColumn texts (Ok c) meant = meant ≡ Ok (seen_column texts c)
+MakesColumn texts (Ok c) meant = meant ≡ Ok (column_seen texts c)
 MakesColumn texts (Err fault) meant = IsFault fault meant
 
 -- the list of columns that is made, each a block, is the one that is meant, or its fault is

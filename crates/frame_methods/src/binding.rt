@@ -1,29 +1,23 @@
 // The method that a call means, with its arguments bound.
-ghost use Rattle.std.specs.Prelude.{◌≡◌, List, Some, slice_get, IsSome};
+ghost use Rattle.std.specs.Prelude.{◌≡◌, List, IsSome};
 ghost use Rattle.meaning.specs.Text.{Text as OneText};
-ghost use Rattle.meaning.specs.Cell.{datum, IsGiven};
-ghost use Rattle.table_meaning.specs.Settled.{IsSettled};
 ghost use Rattle.table_meaning.specs.Table.{table_value};
-ghost use Rattle.table_meaning.specs.Value.{scalar_in};
-ghost use Rattle.call_meaning.specs.Binding.{HasNoText};
-ghost use Rattle.call_meaning.specs.declared.Accepted.TheVariants.{Scalar};
 ghost use Rattle.method_meaning.specs.Calls.{called, has_method};
 ghost use Rattle.method_meaning.specs.Methods as meant;
 ghost use Rattle.call_meaning.specs.Signature.{method_named as named_method};
-ghost use Rattle.frame_store.specs.Arguments.{arguments_of, entry_of, IsLive};
+ghost use Rattle.frame_store.specs.Arguments.{entry_of, IsLive};
 ghost use Rattle.frame_store.specs.Objects.{tables, table_at};
 ghost use Rattle.frame_store.specs.World.{world, arguments_in, AreKnownArguments};
-ghost use Rattle.signatures.specs.Bound.{Tells, accepted_at};
 ghost use Rattle.frame_methods.specs.Calls.{Binds};
 
 use call_meaning::Method;
-use cell_core::{Cell, Code, Grid, TextDict};
+use cell_core::{Code, Grid, TextDict};
 use frame_store::{Named, ObjId, OpFault, Store, Value};
 use label_methods::no_attribute;
 use signatures::{Bound, bind, method_named, parameters};
 use std::alloc::Global;
 
-// A call whose method is built and takes the arguments.
+// A call whose method is answered here and takes the arguments.
 #[derive(Clone, Copy)]
 pub(crate) struct BoundCall<'a> {
     pub(crate) method: Method,
@@ -43,26 +37,14 @@ pub fn exists(store: &Store, on: Value, name: &str) -> bool
     }
 }
 
-// Whether a method is built here: all are but those of `OtherMethod`.
-fn is_built(method: Method) -> bool
-    ensures { result ≡ meant.is_built method }
+// Whether a method is answered by its table alone: all are but those of `OtherMethod`.
+fn takes_one_table(method: Method) -> bool
+    ensures { result ≡ meant.takes_one_table method }
 {
     !matches!(method, Method::Other(_))
 }
 
-// The scalar that stands at a place, where the parameter always has one: its text was given, since those of all
-// arguments were. The store and the dictionary serve these clauses alone. Takes no memory.
-pub(crate) fn given_scalar(store: &Store, dict: &TextDict, bound: &Bound<'_>, place: usize) -> Cell
-    requires sure { accepted_at bound.now place ≡ Some Scalar }
-    requires no_text { HasNoText (slice_get bound.now.parameters.now place) }
-    requires given { IsSettled (arguments_of (tables store.now)) dict.now bound.now.args.now }
-    ensures told { Tells bound.now place scalar_in (λ _ texts. Some (datum texts result)) }
-    ensures given { IsGiven dict.now result }
-{
-    bound.scalar(place)
-}
-
-// The call of the method of the name that an object has, if it is built and takes the arguments.
+// The call of the method of the name that an object has, if it is answered here and takes the arguments.
 #[tactic(auto, using(call_meaning::proofs::ShapeLaws::named_fits))]
 pub(crate) fn bound_call<'a>(
     alloc: Global,
@@ -82,7 +64,7 @@ pub(crate) fn bound_call<'a>(
     let Some(method) = method_named(store.read(on).shape(), name) else {
         return Err(no_attribute(alloc, name));
     };
-    if !is_built(method) {
+    if !takes_one_table(method) {
         return Err(OpFault::Refused(Code::NotBuilt));
     }
     let bound = bind(store, dict, parameters(method), args)?;

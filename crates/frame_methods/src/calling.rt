@@ -17,7 +17,7 @@ ghost use Rattle.frame_methods.specs.Calls.{answer_in, IsCall};
 ghost use Rattle.frame_methods.specs.Made.{made_value};
 ghost use Rattle.frame_methods.specs.Faults.{IsChained};
 
-use crate::binding::{BoundCall, bound_call, exists, given_scalar};
+use crate::binding::{BoundCall, bound_call, exists};
 use crate::column_ops::columns_answer;
 use crate::csv::to_csv;
 use crate::duplicates::duplicated;
@@ -28,8 +28,8 @@ use crate::sorts::{sort_index, sort_values};
 use crate::summaries::{summarize, summary_of};
 use call_meaning::{LabelMethod, LevelMethod, Method, RowMethod, TableMethod};
 use cell_core::{Code, Grid, TextDict};
-use form_parts::{name_of, placed};
-use frame_store::{Chain, Named, NamedList, ObjId, OpFault, Store, Table, Value};
+use form_parts::name_of;
+use frame_store::{Chain, Named, NamedList, ObjId, OpFault, Store, Table, Value, placed};
 use label_methods::{
     drop_columns, drop_level, level_names, named_places, no_attribute, reindex, rename_axis,
     renumber, reset_levels, set_index, subset_places, swap_levels, xs,
@@ -178,7 +178,7 @@ fn labels_made(
             reindex(alloc, store, dict, rows, columns, on)
         }
         LabelMethod::Xs => {
-            let key = given_scalar(store, dict, bound, 0);
+            let key = bound.scalar(0);
             let level = bound.scalar_or_none(1);
             xs(alloc, dict, &store.read(on), key, level)
         }
@@ -311,10 +311,10 @@ pub fn method(
     requires chain { is_grouped chain.now ≡ false }
     requires live { IsLive (tables store.old) on }
     requires settled { IsSettledWorld (world store.old dict.old) }
-    requires arguments { AreKnownArguments (world store.old dict.old) args.now.items.items }
+    requires arguments { AreKnownArguments (world store.old dict.old) args.now }
     ensures { let w = world store.old dict.old in
         Forms result (chain_result (entry_in w on) (chain_in w chain.now)
-        (arguments_in w args.now.items.items)) w (world store.new dict.new) }
+        (arguments_in w args.now)) w (world store.new dict.new) }
 {
     match chain {
         Chain::Plain(name) => call(alloc, store, dict, on, name.as_str(), args.as_slice()),

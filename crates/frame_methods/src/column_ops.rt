@@ -13,7 +13,6 @@ ghost use Rattle.frame_methods.specs.Calls.{answer_in, IsCall};
 ghost use Rattle.frame_methods.specs.Marks.{marked_column};
 ghost use Rattle.frame_methods.specs.Listed.{listed_column};
 
-use crate::binding::given_scalar;
 use crate::columns::{ColumnOp, MadeColumn};
 use crate::listed::{ListedCells, listed_cells};
 use crate::tables::columns_placed;
@@ -148,7 +147,7 @@ pub(crate) fn columns_answer(
         ColumnMethod::Isna => columns_placed(alloc, store, dict, &Marked { missing: true }, on),
         ColumnMethod::Notna => columns_placed(alloc, store, dict, &Marked { missing: false }, on),
         ColumnMethod::Fillna => {
-            let value = given_scalar(store, dict, bound, 0);
+            let value = bound.scalar(0);
             columns_placed(alloc, store, dict, &Filled { value }, on)
         }
         ColumnMethod::Isin => {

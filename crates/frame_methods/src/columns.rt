@@ -9,8 +9,8 @@ ghost use Rattle.table_meaning.specs.Settled.{IsSettled};
 ghost use Rattle.form_meaning.specs.Finish.{try_all};
 ghost use Rattle.frame_store.specs.Parts.{block_column, IsSingle, HaveRows};
 ghost use Rattle.frame_store.specs.Shown.{cells_value, columns_value};
-ghost use Rattle.label_methods.specs.Columns.{seen_column};
 ghost use Rattle.frame_methods.specs.Columns.{EachGiven, MakesColumn, MakesColumns};
+ghost use Rattle.form_parts.specs.Makes.{column_seen};
 
 use cell_core::{Grid, TextDict};
 use column_core::{ColRef, Column};
@@ -37,7 +37,7 @@ pub(crate) trait ColumnOp {
         ensures given { IfOk result (λ c. AreGiven dict.new c.cells) }
         ensures rows { IfOk result (λ c. length c.cells ≡ length a.entry.cells) }
         ensures answer { MakesColumn dict.new result
-            (answer self.now (cells_value dict.old (held self.now)) (seen_column dict.old a.entry)) };
+            (answer self.now (cells_value dict.old (held self.now)) (column_seen dict.old a.entry)) };
 }
 
 // What is made of each column of a table, each in a block of its own, or the first fault.

@@ -10,8 +10,8 @@ ghost use Rattle.frame_methods.specs.Rows.{AreNumbers, duplicated_among};
 
 use cell_core::{Cell, Code, Grid, Kind, NoMemory, Places, TextDict};
 use column_core::Column;
-use form_parts::{series_table, within_limits};
-use frame_store::{ObjRef, OpFault, Table};
+use form_parts::within_limits;
+use frame_store::{ObjRef, OpFault, Table, series_table};
 use indexmap::IndexSet;
 use std::alloc::Global;
 

@@ -8,7 +8,7 @@ ghost use Rattle.form_meaning.specs.Make.{pairs_in};
 ghost use Rattle.method_meaning.specs.Methods as meant;
 ghost use Rattle.frame_store.specs.Arguments.{entries_of};
 ghost use Rattle.frame_store.specs.Objects.{Tables, tables, table_at};
-ghost use Rattle.frame_store.specs.Shown.{shown, FormAnswers};
+ghost use Rattle.frame_store.specs.World.{world, IsSettledWorld, Forms};
 ghost use Rattle.frame_methods.specs.Renames.{given_labels};
 
 use crate::relabelling::renamed_headings;
@@ -28,13 +28,12 @@ pub(crate) fn rename_series(
 ) -> Result<Value, OpFault>
     requires live { IsSome (tables store.old on.0) }
     requires shape { (table_at (tables store.old) on.0).shape ≡ Series }
-    requires settled { IsSettled shown dict.now (tables store.old) }
+    requires settled { IsSettledWorld (world store.old dict.now) }
     requires name { IsSettled heading_value dict.now name }
-    ensures settled { IsSettled shown dict.now (tables store.new) }
-    ensures answers { FormAnswers dict.now result
+    ensures { Forms result
         (limited (meant.renamed_series (table_value dict.now (table_at (tables store.old) on.0))
         (heading_value dict.now name)))
-        (shown dict.now (tables store.old)) (shown dict.now (tables store.new)) }
+        (world store.old dict.now) (world store.new dict.now) }
 {
     let source = store.read(on);
     let mut headings = Headings::new(alloc, source.columns_name());
@@ -53,13 +52,12 @@ pub(crate) fn rename_frame(
 ) -> Result<Value, OpFault>
     requires live { IsSome (tables store.old on.0) }
     requires shape { (table_at (tables store.old) on.0).shape ≡ Frame }
-    requires settled { IsSettled shown dict.now (tables store.old) }
+    requires settled { IsSettledWorld (world store.old dict.now) }
     requires given { IsSettled given_labels dict.now pairs.now }
-    ensures settled { IsSettled shown dict.now (tables store.new) }
-    ensures answers { (live : Tables) → FormAnswers dict.now result
+    ensures { (live : Tables) → Forms result
         (meant.renamed_frame (table_value dict.now (table_at (tables store.old) on.0))
         (pairs_in (entries_of live dict.now pairs.now)))
-        (shown dict.now (tables store.old)) (shown dict.now (tables store.new)) }
+        (world store.old dict.now) (world store.new dict.now) }
 {
     let headings = renamed_headings(alloc, dict, &store.read(on), pairs)?;
     renamed(alloc, store, dict, on, headings)
@@ -74,11 +72,10 @@ pub(crate) fn to_frame(
 ) -> Result<Value, OpFault>
     requires live { IsSome (tables store.old on.0) }
     requires shape { (table_at (tables store.old) on.0).shape ≡ Series }
-    requires settled { IsSettled shown dict.now (tables store.old) }
-    ensures settled { IsSettled shown dict.now (tables store.new) }
-    ensures answers { FormAnswers dict.now result
+    requires settled { IsSettledWorld (world store.old dict.now) }
+    ensures { Forms result
         (limited (meant.as_frame (table_value dict.now (table_at (tables store.old) on.0))))
-        (shown dict.now (tables store.old)) (shown dict.now (tables store.new)) }
+        (world store.old dict.now) (world store.new dict.now) }
 {
     let source = store.read(on);
     let mut headings = Headings::new(alloc, source.columns_name());

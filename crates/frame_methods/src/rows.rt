@@ -18,8 +18,8 @@ ghost use Rattle.frame_store.specs.World.{world, IsSettledWorld, Forms};
 ghost use Rattle.frame_methods.specs.Rows.{complete};
 
 use cell_core::{Cell, Code, Grid, NoMemory, Places, Rows};
-use form_parts::{headings_of, within_limits};
-use frame_store::{ObjId, ObjRef, OpFault, Store, Table, Value};
+use form_parts::within_limits;
+use frame_store::{ObjId, ObjRef, OpFault, Store, Table, Value, headings_of};
 use selections::{chosen_table, places_below, sliced};
 use std::alloc::Global;
 

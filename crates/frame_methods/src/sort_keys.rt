@@ -7,7 +7,6 @@ ghost use Rattle.frame_methods.specs.Sorts as sorts;
 
 use cell_core::{Label, NoMemory, Places, TextDict};
 use column_core::ColRef;
-use form_parts::label_of;
 use frame_store::ObjRef;
 use multi_index::Axis;
 use sorting::{LabelKeys, rows_by_labels};
@@ -25,7 +24,7 @@ fn cell_key(column: &ColRef<'_>, row: usize) -> Label
     ensures { result ≡ sorts.cell_at column.now row }
 {
     if row < column.len() {
-        label_of(column.cell(row))
+        Label::from(column.cell(row))
     } else {
         Label::Na
     }

@@ -6,20 +6,19 @@ ghost use Rattle.table_meaning.specs.Table.{table_value};
 ghost use Rattle.table_meaning.specs.Settled.{IsSettled};
 ghost use Rattle.form_meaning.specs.Finish.{try_all};
 ghost use Rattle.method_meaning.specs.Methods as meant;
-ghost use Rattle.form_parts.specs.Makes.{MakesBy};
+ghost use Rattle.form_parts.specs.Makes.{column_seen, MakesBy};
 ghost use Rattle.cell_core.specs.declared.grid.Shape.TheVariants.{Frame};
 ghost use Rattle.frame_store.specs.Shown.{columns_value, Makes};
 ghost use Rattle.frame_store.specs.World.{IsKnownTable};
 ghost use Rattle.frame_methods.specs.Made.{made_value};
-ghost use Rattle.label_methods.specs.Columns.{seen_column};
 ghost use Rattle.frame_methods.specs.Summaries.{summary_value, counted_cell, column_cells};
 
 use crate::made::Made;
 use call_meaning::SummaryMethod;
 use cell_core::{Cell, Code, Grid, Kind, Shape, TextDict};
 use column_core::{ColRef, Column};
-use form_parts::{refusal_of, series_table, within_limits};
-use frame_store::{ObjRef, OpFault, Table};
+use form_parts::{refusal_of, within_limits};
+use frame_store::{ObjRef, OpFault, Table, series_table};
 use label_methods::columns_axis;
 use nullable_array::{Reduction, distinct, reduce};
 use std::alloc::Global;
@@ -80,7 +79,7 @@ pub(crate) fn summary_cell(
     ensures held { IfOk result (λ c. (texts : List OneText)
         → holds (meant.summary_kind (summary_value op) a.entry.kind) (datum texts c) ≡ true) }
     ensures answer { MakesBy datum dict.now result
-        (meant.summary_cell (summary_value op) (seen_column dict.now a.entry)) }
+        (meant.summary_cell (summary_value op) (column_seen dict.now a.entry)) }
 {
     match op {
         Summary::Reduced(op) => match reduce(dict, op, a) {
@@ -106,7 +105,7 @@ fn summary_as(
     ensures given { IfOk result (IsGiven dict.now) }
     ensures held { IfOk result (λ c. (texts : List OneText) → holds kind (datum texts c) ≡ true) }
     ensures answer { MakesBy datum dict.now result
-        (meant.summary_as (summary_value op) kind (seen_column dict.now a.entry)) }
+        (meant.summary_as (summary_value op) kind (column_seen dict.now a.entry)) }
 {
     if summary_kind(op, a.kind()) != kind {
         return Err(OpFault::Refused(Code::WrongKind));

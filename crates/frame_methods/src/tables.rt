@@ -10,8 +10,8 @@ ghost use Rattle.frame_methods.specs.Columns.{EachGiven};
 
 use crate::columns::{ColumnOp, each_column};
 use cell_core::{Code, Grid, TextDict};
-use form_parts::{headings_of, placed, refusal_of, table_under, within_limits};
-use frame_store::{ObjId, ObjRef, OpFault, Store, Table, Value};
+use form_parts::{refusal_of, within_limits};
+use frame_store::{ObjId, ObjRef, OpFault, Store, Table, Value, headings_of, placed, table_under};
 use std::alloc::Global;
 
 // The table with what is made of each column in its place, or the first fault.

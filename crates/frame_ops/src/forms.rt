@@ -10,8 +10,7 @@ ghost use Rattle.frame_store.specs.World.{world, entry_in, IsSettledWorld, IsKno
 use crate::tables::{scalar_infix, table_infix};
 use cell_core::{Cell, Code, TextDict};
 use column_operators::Operator;
-use form_parts::placed;
-use frame_store::{OpFault, Store, Table, Value};
+use frame_store::{OpFault, Store, Table, Value, placed};
 use std::alloc::Global;
 
 // The table that an operator makes of two values.

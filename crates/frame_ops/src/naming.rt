@@ -4,8 +4,7 @@ ghost use Rattle.table_meaning.specs.Valid.{IsWhole};
 ghost use Rattle.frame_ops.specs.Namings.{headings_by};
 
 use cell_core::{Grid, Label, NoMemory};
-use form_parts::{headings_named, headings_of};
-use frame_store::{Headings, ObjRef};
+use frame_store::{Headings, ObjRef, headings_named, headings_of};
 use std::alloc::Global;
 
 /// What the headings of a new table are.

@@ -29,8 +29,8 @@ use crate::spreading::{labels_fit, spread_frame};
 use crate::widening::{joined_labels, widened};
 use cell_core::{Cell, Code, Grid, Reason, Shape, TextDict};
 use column_operators::Operator;
-use form_parts::{common_name, same_rows, table_under};
-use frame_store::{ObjRef, OpFault, Table};
+use form_parts::{common_name, same_rows};
+use frame_store::{ObjRef, OpFault, Table, table_under};
 use std::alloc::Global;
 
 // The table of what the operator makes of each column and what it meets.

@@ -5,3 +5,4 @@ pub mod HeldLaws
 pub mod ObjectLaws
 pub mod Settling
 pub mod RowLaws
+pub mod ObjectMade

@@ -3,7 +3,7 @@ ghost use Rattle.std.specs.Prelude.{◌≡◌, ◌<◌, [], ◌∷◌, ◌++◌,
 ghost use Rattle.frame_store.specs.Lists.{TakesLast};
 
 use crate::object::ObjId;
-use cell_core::{Cell, Label, NoMemory, Words};
+use cell_core::{Cell, Label, ListOf, NoMemory, Words};
 use std::alloc::Global;
 
 /// What an expression gives: an object of the store, or a scalar.
@@ -64,11 +64,8 @@ pub struct Named {
     pub value: Argument,
 }
 
-/// The arguments of a call. It keeps the allocator that it was made with.
-#[derive(Drop)]
-pub struct NamedList {
-    pub(crate) items: Vec<Named>,
-}
+/// The arguments of a call.
+pub type NamedList = ListOf<Named>;
 
 /// A subscript: a key, or the two ends and the step of a slice, `Nothing` where one is left out.
 #[derive(Drop)]
@@ -203,54 +200,5 @@ impl Entries {
         ensures { TakesLast self.old.pairs.items self.new.pairs.items result }
     {
         self.pairs.pop()
-    }
-}
-
-impl NamedList {
-    /// No arguments. Takes no memory.
-    pub fn new(alloc: Global) -> NamedList
-        ensures { result.items.items ≡ [] }
-    {
-        NamedList {
-            items: Vec::new(alloc),
-        }
-    }
-
-    /// How many arguments there are. Takes no memory.
-    pub fn len(&self) -> usize
-        ensures { result ≡ length self.now.items.items }
-    {
-        self.items.len()
-    }
-
-    /// The argument at a place, counted from 0. Takes no memory.
-    pub fn at(&self, i: usize) -> &Named
-        requires { i < length self.now.items.items }
-        ensures { slice_get self.now.items.items i ≡ Some result.now }
-    {
-        &self.items[i]
-    }
-
-    /// The arguments in order. Takes no memory.
-    pub fn as_slice(&self) -> &[Named]
-        ensures { result.now ≡ self.now.items.items }
-    {
-        self.items.as_slice()
-    }
-
-    /// Appends an argument. `NoMemory` leaves the list as it was.
-    pub fn push(&mut self, item: Named) -> Result<(), NoMemory>
-        ensures ok { OnOk result (self.new.items.items ≡ self.old.items.items ++ item ∷ []) }
-        ensures err { OnErr result (self.new.items.items ≡ self.old.items.items) }
-    {
-        self.items.push(item)?;
-        Ok(())
-    }
-
-    /// Takes the last argument out; `None` exactly where there is none. Takes no memory.
-    pub fn pop(&mut self) -> Option<Named>
-        ensures { TakesLast self.old.items.items self.new.items.items result }
-    {
-        self.items.pop()
     }
 }

@@ -8,6 +8,8 @@
 //!
 //! Each object keeps columns of its own, one to a block, and `derive` copies them.
 //!
+//! A form makes a [`Table`], of its own or as [`table_under`] does, and hands it to [`placed`], which gives it an object.
+//!
 //! ```text
 //! let mut price = Column::new(alloc, Kind::Int64);
 //! price.push(Cell::Int(7))?;
@@ -27,6 +29,7 @@ mod columns;
 mod fault;
 mod given;
 mod headings;
+mod made;
 mod object;
 mod store;
 mod table;
@@ -38,6 +41,7 @@ pub use arguments::{
 pub use blocks::Blocks;
 pub use fault::OpFault;
 pub use headings::Headings;
+pub use made::{headings_named, headings_of, placed, series_table, table_under};
 pub use object::{ObjId, ObjRef};
 pub use store::Store;
 pub use table::Table;

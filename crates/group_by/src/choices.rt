@@ -1,16 +1,14 @@
 // The reductions that are gathered cell by cell.
-ghost use Rattle.std.specs.Prelude.{◌≡◌, ℕ, List, pos, refl};
+ghost use Rattle.std.specs.Prelude.{◌≡◌, pos, refl};
 ghost use Rattle.meaning.specs.Cell.{datum};
 ghost use Rattle.meaning.specs.Operator.{cell_cmp};
 ghost use Rattle.meaning.specs.Reduce.{number_in, lesser, greater};
 ghost use Rattle.group_meaning.specs.Reductions.{earlier, later};
 ghost use Rattle.group_meaning.specs.Reductions as meant;
-ghost use Rattle.group_by.specs.Gathered.{if_present};
 
 use crate::cells::is_na;
 use crate::gather::{Amount, Choice};
-use cell_core::{Cell, TextDict};
-use factorize::label_of;
+use cell_core::{Cell, Label, TextDict};
 use std::cmp::Ordering;
 
 /// The number in a cell: 1 in True, 0 in False.
@@ -61,7 +59,7 @@ impl Amount for One {
 fn compare(dict: &TextDict, a: Cell, b: Cell) -> Ordering
     ensures { result ≡ cell_cmp (datum dict.now a) (datum dict.now b) }
 {
-    dict.compare(label_of(a), label_of(b))
+    dict.compare(Label::from(a), Label::from(b))
 }
 
 /// The first of the least cells.

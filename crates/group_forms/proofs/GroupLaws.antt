@@ -108,7 +108,7 @@ module _ (texts : List Text) (t : NumberedTable) (g : Grouping) (v : Values) (op
 pub group_labelled : (t : NumberedTable) (g : Grouping) (own : List (Option Label)) → IsWhole t → t.shape ≡ Frame → AreColumnsOf t g.keys → All IsSome own → All IsSome (group_headings t g own)
 group_labelled t g own whole frame below some = grind (arith, labelled, All-append IsSome (headings_at t g.keys) own)
 
-module _ (texts : List Text) (t : NumberedTable) (g : Grouping) (v : Values) (heading : Option Label) (named : heading_value texts heading ≡ meant.size_heading g.as_index) where
+module _ (texts : List Text) (t : NumberedTable) (g : Grouping) (heading : Option Label) (named : heading_value texts heading ≡ meant.size_heading g.as_index) where
   abbrev S : Table
   S = table_value texts t
 

@@ -1,9 +1,8 @@
 -- The last call behind `groupby`, and the chain that it is the end of.
-use Rattle.std.specs.Prelude.{◌≡◌, List}
+use Rattle.std.specs.Prelude.{List}
 use Rattle.meaning.specs.Text.{Text}
 use Rattle.method_meaning.specs.Groups as meant
 use Rattle.group_by.specs.Operations.{reduction_of}
-use Rattle.signatures.specs.declared.bound.Bound.{Bound}
 use Rattle.group_forms.specs.declared.calls.GroupCall.{GroupCall}
 use Rattle.group_forms.specs.declared.calls.GroupCall.TheVariants.{Reduced, Size, Transformed, Cumsum, Cumcount}
 
@@ -16,7 +15,3 @@ call_of Cumcount = meant.cumcount
 
 abbrev pub call_seen : List Text → GroupCall → meant.GroupCall
 call_seen texts call = call_of call
-
--- the arguments are those of `transform`
-abbrev pub IsTransform : Bound → Type 0
-IsTransform b = b.parameters.now ≡ meant.transform_parameters

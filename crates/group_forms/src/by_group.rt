@@ -162,7 +162,6 @@ pub(crate) fn sizes(
     dict: &TextDict,
     on: &ObjRef<'_>,
     grouping: &Grouping,
-    values: &Values,
     heading: Option<Label>,
 ) -> Result<Table, OpFault>
     requires known { IsKnownTable dict.now on.now }
@@ -172,11 +171,8 @@ pub(crate) fn sizes(
     requires given { IsSettled heading_value dict.now heading }
     ensures { let t = table_value dict.now on.now in
         let g = grouping_seen dict.now grouping.now in
-        let v = values_seen dict.now values.now in
-        Makes dict.now result (meant.group_answer t g v meant.size) }
+        (named : meant.Values) → Makes dict.now result (meant.group_answer t g named meant.size) }
 {
-    // What the brackets name matters to the clauses alone.
-    let _ = values;
     let found = groups_of(alloc, dict, on, grouping)?;
     let labels = headings_beside(alloc, on, grouping, &[heading])?;
     let single = grouping.as_index;

@@ -60,18 +60,14 @@ pub(crate) fn counts(
     dict: &TextDict,
     on: &ObjRef<'_>,
     grouping: &Grouping,
-    values: &Values,
 ) -> Result<Table, OpFault>
     requires known { IsKnownTable dict.now on.now }
     requires shape { on.now.shape ≡ Frame }
     requires keys { HasKeys on.now grouping.now }
     ensures { let t = table_value dict.now on.now in
         let g = grouping_seen dict.now grouping.now in
-        let v = values_seen dict.now values.now in
-        Makes dict.now result (meant.group_answer t g v meant.cumcount) }
+        (named : meant.Values) → Makes dict.now result (meant.group_answer t g named meant.cumcount) }
 {
-    // What the brackets name matters to the clauses alone.
-    let _ = values;
     let found = groups_of(alloc, dict, on, grouping)?;
     let headings = new_headings(alloc, dict, None, &[None], true, on.rows())?;
     let column = group_cumcount(alloc, &found.groups)?;

@@ -1,5 +1,5 @@
 // Calls behind `groupby` on objects.
-ghost use Rattle.std.specs.Prelude.{◌≡◌, true, Some, IfOk, IfSome, OnErr, codes};
+ghost use Rattle.std.specs.Prelude.{◌≡◌, true, Some, IfOk, IfSome};
 ghost use Rattle.std.specs.Option.{option_map};
 ghost use Rattle.cell_core.specs.declared.grid.Shape.TheVariants.{Frame};
 ghost use Rattle.meaning.specs.Cell.{IsLonger};
@@ -21,8 +21,7 @@ use crate::columns::ColumnCall;
 use crate::grouping::{Grouping, grouping_of};
 use crate::values::{Values, values_of};
 use cell_core::{Grid, Label, NoMemory, Shape, TextDict};
-use form_parts::placed;
-use frame_store::{Argument, Chain, Named, NamedList, ObjId, OpFault, Store, Value};
+use frame_store::{Argument, Chain, Named, NamedList, ObjId, OpFault, Store, Value, placed};
 use label_methods::no_attribute;
 use std::alloc::Global;
 
@@ -44,7 +43,6 @@ fn sizes_placed(
     store: &mut Store,
     dict: &mut TextDict,
     grouping: &Grouping,
-    values: &Values,
     on: ObjId,
 ) -> Result<Value, OpFault>
     requires live { IsLiveObject (tables store.old) on }
@@ -53,12 +51,11 @@ fn sizes_placed(
     requires keys { HasKeys (table_at (tables store.old) on.0) grouping.now }
     ensures { let t = object_value (tables store.old) dict.old on in
         let g = grouping_seen dict.old grouping.now in
-        let v = values_seen dict.old values.now in
-        Forms result (meant.group_answer t g v meant.size)
+        (named : meant.Values) → Forms result (meant.group_answer t g named meant.size)
         (world store.old dict.old) (world store.new dict.new) }
 {
     let heading = size_heading(dict, grouping.as_index)?;
-    let table = sizes(alloc, dict, &store.read(on), grouping, values, heading);
+    let table = sizes(alloc, dict, &store.read(on), grouping, heading);
     placed(store, dict, table)
 }
 
@@ -88,7 +85,7 @@ fn answer(
             let table = reduced(alloc, dict, &store.read(on), grouping, values, op);
             placed(store, dict, table)
         }
-        GroupCall::Size => sizes_placed(alloc, store, dict, grouping, values, on),
+        GroupCall::Size => sizes_placed(alloc, store, dict, grouping, on),
         GroupCall::Transformed(op) => {
             let made = ColumnCall::Transformed(op);
             let table = along_rows(alloc, dict, &store.read(on), grouping, values, made);
@@ -100,7 +97,7 @@ fn answer(
             placed(store, dict, table)
         }
         GroupCall::Cumcount => {
-            let table = counts(alloc, dict, &store.read(on), grouping, values);
+            let table = counts(alloc, dict, &store.read(on), grouping);
             placed(store, dict, table)
         }
     }
@@ -198,10 +195,10 @@ pub fn method(
     requires live { IsLive (tables store.old) on }
     requires settled { IsSettledWorld (world store.old dict.old) }
     requires before { IsKnownChain (world store.old dict.old) chain.now }
-    requires arguments { AreKnownArguments (world store.old dict.old) args.now.items.items }
+    requires arguments { AreKnownArguments (world store.old dict.old) args.now }
     ensures { let w = world store.old dict.old in
         Forms result (chain_result (entry_in w on) (chain_in w chain.now)
-        (arguments_in w args.now.items.items)) w (world store.new dict.new) }
+        (arguments_in w args.now)) w (world store.new dict.new) }
 {
     match chain {
         Chain::Group(by, brackets, name) => {

@@ -1,23 +1,19 @@
 // The last call: what is made of groups.
-ghost use Rattle.std.specs.Prelude.{◌≡◌, List, slice_get, Some};
+ghost use Rattle.std.specs.Prelude.{◌≡◌, List};
 ghost use Rattle.std.specs.Option.{option_map};
 ghost use Rattle.meaning.specs.Text.{Text};
-ghost use Rattle.meaning.specs.Cell.{datum, text_of};
-ghost use Rattle.call_meaning.specs.Binding as plain;
 ghost use Rattle.method_meaning.specs.Groups as meant;
 ghost use Rattle.form_parts.specs.Makes.{MakesBy};
 ghost use Rattle.group_by.specs.Operations.{reduction_of};
-ghost use Rattle.frame_store.specs.Objects.{Tables};
 ghost use Rattle.frame_store.specs.World.{world, arguments_in, AreKnownArguments};
-ghost use Rattle.signatures.specs.Bound.{given_in, stands_at};
-ghost use Rattle.group_forms.specs.Calls.{call_of, call_seen, IsTransform};
+ghost use Rattle.group_forms.specs.Calls.{call_of, call_seen};
 
 use call_meaning::{Accepted, Choices, Omitted, Parameter, ParameterName};
-use cell_core::{Cell, Code, Reason, TextDict, TextId};
+use cell_core::{Code, Reason, TextDict};
 use frame_store::{Named, OpFault, Store};
 use group_by::GroupOp;
 use label_methods::no_attribute;
-use signatures::{Bound, bind};
+use signatures::bind;
 use std::alloc::Global;
 
 // What is made of groups: a cell for each group, or one for each row.
@@ -73,43 +69,12 @@ fn transform_parameters() -> &'static [Parameter]
     }]
 }
 
-// The text that a scalar is, if it is one.
-fn text_of(cell: Cell) -> Option<TextId>
-    ensures { (texts : List Text)
-        → option_map (text_of texts) result ≡ plain.text_of (Some (datum texts cell)) }
+// What `transform` makes, by the name of a reduction.
+fn transformed(name: &str) -> Result<GroupCall, OpFault>
+    ensures { (texts : List Text) → MakesBy call_seen texts result
+        (meant.transform_of (meant.reduction_named name.now)) }
 {
-    match cell {
-        Cell::Text(id) => Some(id),
-        Cell::Int(_) => None,
-        Cell::Bool(_) => None,
-        Cell::Na => None,
-    }
-}
-
-// The text that is the first argument, if it is one.
-fn text_told(bound: &Bound<'_>) -> Option<TextId>
-    requires { plain.HasNoText (slice_get bound.now.parameters.now 0) }
-    ensures { (live : Tables) (texts : List Text)
-        → option_map (text_of texts) result ≡ plain.text_in (stands_at live texts bound.now 0) }
-{
-    match bound.scalar_or_none(0) {
-        Some(cell) => text_of(cell),
-        None => None,
-    }
-}
-
-// What `transform` makes, by the name that is bound.
-fn transformed(store: &Store, dict: &TextDict, bound: &Bound<'_>) -> Result<GroupCall, OpFault>
-    requires { IsTransform bound.now }
-    ensures { MakesBy call_seen dict.now result
-        (meant.transform_in (given_in (world store.now dict.now) bound.now)) }
-{
-    // The tables matter to the clauses alone.
-    let _ = store;
-    let Some(id) = text_told(bound) else {
-        return Err(OpFault::Refused(Code::WrongKind));
-    };
-    match reduction_named(dict.text(id)) {
+    match reduction_named(name) {
         Some(op) => Ok(GroupCall::Transformed(op)),
         None => Err(OpFault::Refused(Code::BadValue(Reason::Argument))),
     }
@@ -150,7 +115,7 @@ pub(crate) fn group_call(
     match name {
         "transform" => {
             let bound = bind(store, dict, transform_parameters(), args)?;
-            transformed(store, dict, &bound)
+            transformed(bound.text(dict, 0))
         }
         _ => without_arguments(alloc, store, dict, name, args),
     }

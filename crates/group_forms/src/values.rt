@@ -13,11 +13,10 @@ ghost use Rattle.frame_store.specs.World.{world, argument_in, IsSettledWorld, Is
 ghost use Rattle.signatures.specs.Scalars.{scalars};
 ghost use Rattle.group_forms.specs.Grouped.{values_seen, AreValues};
 
-use cell_core::{Cell, Code, Grid, Places, TextDict};
-use form_parts::label_of;
+use cell_core::{Cell, Code, Grid, Label, Places, TextDict};
 use frame_store::{Argument, Item, ObjId, ObjRef, OpFault, Store};
 use label_methods::places_besides;
-use selections::{column_place, column_places, scalars_of};
+use selections::{column_place, column_places, scalars_alone};
 use std::alloc::Global;
 
 // The columns of which something is made, and whether one label alone names them.
@@ -35,7 +34,7 @@ fn labelled(alloc: Global, dict: &TextDict, on: &ObjRef<'_>, cell: Cell) -> Resu
         (meant.values_named (table_value dict.now on.now) (Some (datum dict.now cell)) None) }
     ensures values { IfOk result (AreValues on.now) }
 {
-    let place = column_place(alloc, dict, on, label_of(cell))?;
+    let place = column_place(alloc, dict, on, Label::from(cell))?;
     let mut places = Places::new(alloc);
     places.push(place)?;
     Ok(Values {
@@ -58,7 +57,7 @@ fn listed(
         (Some (items_of live dict.now items.now))) }
     ensures values { IfOk result (AreValues on.now) }
 {
-    let Some(cells) = scalars_of(alloc, items)? else {
+    let Some(cells) = scalars_alone(alloc, items)? else {
         return Err(OpFault::Refused(Code::WrongKind));
     };
     let places = column_places(alloc, dict, on, &cells)?;

@@ -28,10 +28,9 @@ ranges_same a b m n r e f is = (
 )
 
 -- one more label is taken
-pub one_more_label : (labels taken taken' : List Label) (places : List ℕ) (k place : ℕ) (label : Label)
-    → taken ≡ labels_at labels (take k places) → k < length places → slice_get places k ≡ Some place → slice_get labels place ≡ Some label → taken' ≡ taken ++ label ∷ []
+pub one_more_label : (labels taken taken' : List Label) (places : List ℕ) (k : ℕ) (label : Label)
+    → taken ≡ labels_at labels (take k places) → k < length places → slice_get labels (slice_index_or places k 0) ≡ Some label → taken' ≡ taken ++ label ∷ []
     → taken' ≡ labels_at labels (take (k + 1) places)
-one_more_label labels _ _ places k _ label before inside at is pushed =
-    let same : slice_index_or labels (slice_index_or places k 0) Na ≡ label = grind (arith, get_or_from_slice_get)
-    in
+one_more_label labels _ _ places k label before inside is pushed =
+    let same : slice_index_or labels (slice_index_or places k 0) Na ≡ label = grind (arith, get_or_from_slice_get) in
     cc (take_more places k 0 inside, map-append (λ p. slice_index_or labels p Na) (take k places) (slice_index_or places k 0 ∷ []))

@@ -137,8 +137,8 @@ impl Index {
         ensures { IfOk result (λ index. index ≡ labels_at self.now places.now) }
     {
         let mut taken = Vec::new(alloc);
-        for k in 0..places.len() {
-            taken.push(self.label(*places.at(k)))?;
+        for place in places.as_slice() {
+            taken.push(self.label(*place))?;
         }
         Ok(Index::from_vec(taken))
     }

@@ -2,7 +2,6 @@ pub mod Lists
 pub mod TableLaws
 pub mod AnswerLaws
 pub mod RowLaws
-pub mod ScalarLaws
 pub mod ColumnLabelLaws
 pub mod NamedLaws
 pub mod LevelNameLaws

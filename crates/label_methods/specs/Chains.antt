@@ -9,7 +9,7 @@ use Rattle.frame_store.specs.World.{World, argument_in, arguments_in, IsKnownArg
 -- a chain with its tables and texts
 abbrev pub chain_in : World → Chain → ChainValue
 chain_in w (Plain name) = plain name
-chain_in w (Group by brackets name) = grouped (arguments_in w by.items.items) (option_map (argument_in w) brackets) name
+chain_in w (Group by brackets name) = grouped (arguments_in w by) (option_map (argument_in w) brackets) name
 chain_in w (Rolling args name) = through (codes "rolling")
 chain_in w (Expanding args name) = through (codes "expanding")
 
@@ -23,6 +23,6 @@ is_grouped (Expanding args name) = false
 -- the arguments of `groupby` and its brackets are known
 abbrev pub IsKnownChain : World → Chain → Type 0
 IsKnownChain w (Plain name) = Unit {0}
-IsKnownChain w (Group by brackets name) = AreKnownArguments w by.items.items × IfSome brackets (IsKnownArgument w)
+IsKnownChain w (Group by brackets name) = AreKnownArguments w by × IfSome brackets (IsKnownArgument w)
 IsKnownChain w (Rolling args name) = Unit {0}
 IsKnownChain w (Expanding args name) = Unit {0}

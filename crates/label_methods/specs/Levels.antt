@@ -4,7 +4,7 @@ use Rattle.cell_core.specs.declared.cell.Label.{Label}
 use Rattle.meaning.specs.Cell.{CellValue, LabelValue}
 use Rattle.meaning.specs.Operator.{cell_label}
 use Rattle.table_meaning.specs.Table.{NumberedTable}
-use Rattle.form_parts.specs.Labels.{label_of}
+use Rattle.cell_core.specs.Values.{label_of}
 use Rattle.label_methods.specs.Rows.{row_cells}
 
 -- labels as names

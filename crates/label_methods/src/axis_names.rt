@@ -15,7 +15,7 @@ ghost use Rattle.label_methods.specs.Levels.{some_labels};
 
 use crate::under::{named_axis, table_under_axis};
 use cell_core::{Code, Grid, Label, NoMemory, Reason};
-use form_parts::{label_of, name_of, within_limits};
+use form_parts::{name_of, within_limits};
 use frame_store::{Item, ObjRef, OpFault, Table};
 use multi_index::Axis;
 use signatures::Bound;
@@ -28,7 +28,7 @@ fn push_names(names: &mut Vec<Option<Label>>, items: &[Item]) -> Result<(), NoMe
 {
     for item in items {
         if let Some(cell) = item.scalar() {
-            names.push(Some(label_of(cell)))?;
+            names.push(Some(Label::from(cell)))?;
         }
     }
     Ok(())

@@ -14,8 +14,8 @@ ghost use Rattle.label_methods.specs.Section.{has_number, section_of};
 
 use crate::levels::level_of;
 use cell_core::{Cell, Code, Grid, Label, NoMemory, Places, Reason, TextDict, Tuple};
-use form_parts::{headings_of, label_of, within_limits};
-use frame_store::{ObjRef, OpFault, Table};
+use form_parts::within_limits;
+use frame_store::{ObjRef, OpFault, Table, headings_of};
 use multi_index::Axis;
 use selections::{chosen_blocks, places_below};
 use std::alloc::Global;
@@ -111,5 +111,5 @@ pub fn xs(
         return Err(OpFault::Refused(Code::BadValue(Reason::Levels)));
     }
     let level = level_of(alloc, dict, on, level)?;
-    section(alloc, dict, on, label_of(key), level)
+    section(alloc, dict, on, Label::from(key), level)
 }

@@ -6,7 +6,7 @@ ghost use Rattle.table_meaning.specs.Table.{table_value};
 ghost use Rattle.table_meaning.specs.Valid.{IsWhole};
 ghost use Rattle.method_meaning.specs.Levels as meant;
 ghost use Rattle.multi_index.specs.Axes.{nameless_axis};
-ghost use Rattle.form_parts.specs.Labels.{label_of};
+ghost use Rattle.cell_core.specs.Values.{label_of};
 ghost use Rattle.frame_store.specs.Parts.{AreColumnsOf};
 ghost use Rattle.frame_store.specs.Shown.{Makes};
 ghost use Rattle.frame_store.specs.World.{IsKnownTable};
@@ -17,7 +17,7 @@ use crate::named_columns::places_besides;
 use crate::under::{copied_columns, named_axis};
 use cell_core::{Code, Grid, Label, NoMemory, Places, Shape, TextDict, Tuple, Tuples};
 use column_core::ColRef;
-use form_parts::{label_of, within_limits};
+use form_parts::within_limits;
 use frame_store::{ObjRef, OpFault, Table};
 use multi_index::Axis;
 use selections::{different_headings, headings_at};
@@ -34,7 +34,7 @@ pub fn row_tuple(alloc: Global, on: &ObjRef<'_>, places: &Places, row: usize) ->
     let mut labels = [Label::Na; 4];
     let levels = places.len();
     for level in 0..levels {
-        labels[level] = label_of(on.cell(row, *places.at(level)));
+        labels[level] = Label::from(on.cell(row, *places.at(level)));
     }
     Tuple::of(alloc, &labels[..levels])
 }
@@ -60,7 +60,7 @@ fn cell_labels(alloc: Global, column: &ColRef<'_>) -> Result<Vec<Label>, NoMemor
 {
     let mut labels = Vec::with_capacity(alloc, column.len())?;
     for row in 0..column.len() {
-        labels.push(label_of(column.cell(row)))?;
+        labels.push(Label::from(column.cell(row)))?;
     }
     Ok(labels)
 }

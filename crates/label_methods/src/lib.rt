@@ -42,7 +42,7 @@ pub use cross_section::xs;
 pub use indexing::{row_tuple, set_index};
 pub use level_columns::cell_of;
 pub use levels::{drop_level, swap_levels};
-pub use named_columns::{drop_columns, named_places, places_besides, scalars_of, subset_places};
+pub use named_columns::{drop_columns, named_places, places_besides, subset_places};
 pub use reindexing::reindex;
 pub use resetting::reset_levels;
 pub use under::named_axis;

@@ -2,7 +2,6 @@
 ghost use Rattle.std.specs.Prelude.{◌≡◌, ◌<◌, ◌∷◌, [], List, map, filter, not, nat_eq, All, IfOk};
 ghost use Rattle.std.specs.List.{list_any, range_with_len};
 ghost use Rattle.cell_core.specs.declared.grid.Shape.TheVariants.{Frame};
-ghost use Rattle.meaning.specs.Text.{Text as OneText};
 ghost use Rattle.meaning.specs.Cell.{datum};
 ghost use Rattle.meaning.specs.Operator.{cell_label};
 ghost use Rattle.table_meaning.specs.Settled.{IsSettled};
@@ -13,32 +12,16 @@ ghost use Rattle.form_meaning.specs.Select.{columns_frame};
 ghost use Rattle.method_meaning.specs.Rows as meant;
 ghost use Rattle.frame_store.specs.Arguments.{object_value, shape_at, IsLiveObject};
 ghost use Rattle.frame_store.specs.Objects.{tables, table_at};
-ghost use Rattle.frame_store.specs.Shown.{cells_value};
 ghost use Rattle.frame_store.specs.World.{world, IsSettledWorld, IsKnownTable, Forms};
 ghost use Rattle.signatures.specs.Scalars.{scalars};
 ghost use Rattle.label_methods.specs.Named.{first_in, NamesColumns, FindsPlaces, AreMarks};
 ghost use Rattle.frame_store.specs.Parts.{AreColumnsOf};
 
-use cell_core::{Cell, Cells, Grid, NoMemory, Places, TextDict};
-use form_parts::label_of;
+use cell_core::{Cell, Grid, Label, NoMemory, Places, TextDict};
 use frame_store::{Item, ObjId, ObjRef, OpFault, Store, Value};
 use selections::{column_place, column_places, columns_of, places_below};
-use signatures::Bound;
+use signatures::{Bound, scalars_of};
 use std::alloc::Global;
-
-/// The scalars among the parts of a list, in their order. `NoMemory` is the only refusal.
-pub fn scalars_of(alloc: Global, items: &[Item]) -> Result<Cells, NoMemory>
-    ensures { IfOk result (λ cells. (texts : List OneText)
-        → cells_value texts cells ≡ scalars texts items.now) }
-{
-    let mut cells = Cells::new(alloc);
-    for item in items {
-        if let Some(cell) = item.scalar() {
-            cells.push(cell)?;
-        }
-    }
-    Ok(cells)
-}
 
 // The column that a scalar is the label of.
 fn place_of(alloc: Global, dict: &TextDict, on: &ObjRef<'_>, cell: Cell) -> Result<Places, OpFault>
@@ -48,7 +31,7 @@ fn place_of(alloc: Global, dict: &TextDict, on: &ObjRef<'_>, cell: Cell) -> Resu
         (select.column_places (table_value dict.now on.now)
         (cell_label (datum dict.now cell) ∷ [])) }
 {
-    let place = column_place(alloc, dict, on, label_of(cell))?;
+    let place = column_place(alloc, dict, on, Label::from(cell))?;
     let mut places = Places::new(alloc);
     places.push(place)?;
     Ok(places)

@@ -6,8 +6,7 @@ ghost use Rattle.table_meaning.specs.Valid.{IsWhole};
 ghost use Rattle.frame_store.specs.Parts.{block_column, IsSingle};
 
 use cell_core::{Grid, Label, NoMemory, Places};
-use form_parts::headings_of;
-use frame_store::{Blocks, ObjRef, Table};
+use frame_store::{Blocks, ObjRef, Table, headings_of};
 use multi_index::Axis;
 use selections::places_below;
 use std::alloc::Global;

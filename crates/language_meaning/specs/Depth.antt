@@ -1,6 +1,6 @@
 -- How deep a form is.
 use Rattle.std.specs.Prelude.{ℕ, suc, max}
-use Rattle.language_meaning.specs.Tree.{Expr, Step, Sub, OptionalSub, OptionalArg, OptionalExpr, Arg, ArgList, Args, ArgPairs, name, literal, unary, binary, after, len, make, paren, item, access, method, group, rolling, expanding, key, span, no_sub, some_sub, no_arg, some_arg, no_expr, some_expr, expr, many, row, table, nothing, no_args, more_args, no_named, more_named, no_pairs, more_pairs}
+use Rattle.language_meaning.specs.Tree.{Expr, Step, Sub, OptionalSub, OptionalArg, OptionalExpr, Tagging, Arg, Parts, name, literal, unary, binary, after, len, make, paren, item, access, method, group, rolling, expanding, key, span, no_sub, some_sub, no_arg, some_arg, no_expr, some_expr, expr, many, row, table, nothing, no_parts, more_parts}
 
 -- A name, a literal, None and a form without parts have depth 1, any other form one more than its deepest part. The parts in a step belong to the form that it makes.
 abbrev mutual
@@ -11,16 +11,16 @@ abbrev mutual
   depth (binary o x y) = suc (max (depth x) (depth y))
   depth (after x s) = suc (max (depth x) (step_depth s))
   depth (len x) = suc (depth x)
-  depth (make n args) = suc (args_depth args)
+  depth (make n args) = suc (parts_depth args)
   depth (paren x) = suc (depth x)
 
   pub step_depth : Step → ℕ
   step_depth (item a) = arg_depth a
   step_depth (access by s t) = max (sub_depth s) (optional_sub_depth t)
-  step_depth (method n args) = args_depth args
-  step_depth (group args by n more) = max (args_depth args) (max (optional_arg_depth by) (args_depth more))
-  step_depth (rolling args n more) = max (args_depth args) (args_depth more)
-  step_depth (expanding args n more) = max (args_depth args) (args_depth more)
+  step_depth (method n args) = parts_depth args
+  step_depth (group args by n more) = max (parts_depth args) (max (optional_arg_depth by) (parts_depth more))
+  step_depth (rolling args n more) = max (parts_depth args) (parts_depth more)
+  step_depth (expanding args n more) = max (parts_depth args) (parts_depth more)
 
   pub sub_depth : Sub → ℕ
   sub_depth (key a) = arg_depth a
@@ -40,19 +40,11 @@ abbrev mutual
 
   pub arg_depth : Arg → ℕ
   arg_depth (expr x) = depth x
-  arg_depth (many parts) = suc (list_depth parts)
-  arg_depth (row parts) = suc (list_depth parts)
-  arg_depth (table pairs) = suc (pairs_depth pairs)
+  arg_depth (many parts) = suc (parts_depth parts)
+  arg_depth (row parts) = suc (parts_depth parts)
+  arg_depth (table pairs) = suc (parts_depth pairs)
   arg_depth nothing = 1
 
-  pub list_depth : ArgList → ℕ
-  list_depth no_args = 0
-  list_depth (more_args a rest) = max (arg_depth a) (list_depth rest)
-
-  pub args_depth : Args → ℕ
-  args_depth no_named = 0
-  args_depth (more_named n a rest) = max (arg_depth a) (args_depth rest)
-
-  pub pairs_depth : ArgPairs → ℕ
-  pairs_depth no_pairs = 0
-  pairs_depth (more_pairs k a rest) = max (arg_depth a) (pairs_depth rest)
+  pub parts_depth : {by : Tagging} → Parts by → ℕ
+  parts_depth no_parts = 0
+  parts_depth (more_parts tag a rest) = max (arg_depth a) (parts_depth rest)

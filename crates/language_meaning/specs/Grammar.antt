@@ -1,10 +1,10 @@
 -- The grammar: between two lists of tokens, the first of which holds the second at its end, stands a part of a statement.
-use Rattle.std.specs.Prelude.{◌≡◌, ℕ, suc, ◌<◌, ◌≤◌, ◌^◌, ◌⊎◌, ℤ, pos, neg_ℤ, Bool, true, false, List, [], ◌∷◌, Option, Some, None, is_some, codes}
+use Rattle.std.specs.Prelude.{◌≡◌, ℕ, suc, ◌<◌, ◌≤◌, ◌^◌, ◌⊎◌, ℤ, pos, neg_ℤ, Bool, true, false, List, [], ◌∷◌, Some, None, codes}
 use Rattle.std.specs.List.{list_any}
 use Rattle.meaning.specs.Text.{Text, same_text}
 use Rattle.language_meaning.specs.Token.{Token, word, int, text, op, mark, Mark, equals, dot, comma, colon, tilde, open_paren, close_paren, open_bracket, close_bracket, open_brace, close_brace}
 use Rattle.language_meaning.specs.Tree as tree
-use Rattle.language_meaning.specs.Tree.{Binary, add, sub, mul, floor_div, mod_, eq, ne, lt, le, gt, ge, and, or, xor, Accessor, loc, iloc, at, iat, Expr, Step, Sub, OptionalSub, OptionalArg, OptionalExpr, Arg, ArgList, Args, ArgPairs, Action, name, literal, unary, binary, after, len, make, paren, item, access, method, group, rolling, expanding, key, span, no_sub, some_sub, no_arg, some_arg, no_expr, some_expr, expr, many, row, table, nothing, no_args, more_args, no_named, more_named, no_pairs, more_pairs, import_pandas, bind, put, drop_name, drop_column, print}
+use Rattle.language_meaning.specs.Tree.{Binary, add, sub, mul, floor_div, mod_, and, or, xor, Accessor, loc, iloc, at, iat, Expr, Step, Sub, OptionalSub, OptionalArg, OptionalExpr, Tagging, bare, named, keyed, Tag, Arg, Parts, Action, name, literal, unary, binary, after, len, make, paren, item, access, method, group, rolling, expanding, key, span, no_sub, some_sub, no_arg, some_arg, no_expr, some_expr, expr, many, row, table, nothing, no_parts, more_parts, import_pandas, bind, put, drop_name, drop_column, print}
 use Rattle.language_meaning.specs.Depth.{depth, arg_depth}
 
 -- the words that are no names
@@ -85,15 +85,27 @@ IsItem (expr x) = Unit {0}
 IsItem (row parts) = Unit {0}
 IsItem a = ⊥
 
--- an argument without a name stands before all with one
-abbrev pub MayFollow : Bool → Option Text → Type 0
-MayFollow true None = ⊥
-MayFollow named n = Unit {0}
+-- what may be a part: in a list or a tuple an item, in a call or a dict any argument
+abbrev pub IsPart : Tagging → Arg → Type 0
+IsPart bare a = IsItem a
+IsPart by a = Unit {0}
 
--- the name of an argument with its `=`, where one is given
-abbrev pub SpellsKeyword : Option Text → List Token → List Token → Type 0
-SpellsKeyword None ts us = ts ≡ us
-SpellsKeyword (Some n) ts us = (ts ≡ word n ∷ mark equals ∷ us) × IsName n
+-- what stands before a part: the name of an argument and its `=`, where one is given, or a key and its colon
+abbrev pub SpellsTag : (by : Tagging) → Tag by → List Token → List Token → Type 0
+SpellsTag bare tag ts us = ts ≡ us
+SpellsTag named None ts us = ts ≡ us
+SpellsTag named (Some n) ts us = (ts ≡ word n ∷ mark equals ∷ us) × IsName n
+SpellsTag keyed k ts us = SpellsLiteral k ts (mark colon ∷ us)
+
+-- an argument without a name stands before all with one
+abbrev pub MayFollow : (by : Tagging) → Tag by → Tag by → Type 0
+MayFollow named (Some m) None = ⊥
+MayFollow by last tag = Unit {0}
+
+-- the comma behind a part and before the rest; behind the last part it may be absent
+abbrev pub SpellsComma : {by : Tagging} → Tag by → Parts by → List Token → List Token → Type 0
+SpellsComma last no_parts ts us = (ts ≡ us) ⊎ (ts ≡ mark comma ∷ us)
+SpellsComma {by} last (more_parts tag a rest) ts us = (ts ≡ mark comma ∷ us) × MayFollow by last tag
 
 -- The first number is the least level at which the expression may stand.
 abbrev mutual
@@ -105,22 +117,22 @@ abbrev mutual
   SpellsExpr (binary o x y) l ts us = (l ≤ level o) × (vs : List Token) × SpellsExpr x (left_level o) ts (op o ∷ vs) × SpellsExpr y (suc (level o)) vs us
   SpellsExpr (after x s) l ts us = (vs : List Token) × SpellsExpr x 7 ts vs × SpellsStep s vs us
   SpellsExpr (len x) l ts us = (vs : List Token) × (ts ≡ word (codes "len") ∷ mark open_paren ∷ vs) × SpellsExpr x 0 vs (mark close_paren ∷ us)
-  SpellsExpr (make n args) l ts us = (vs : List Token) × (ts ≡ word (codes "pd") ∷ mark dot ∷ word n ∷ mark open_paren ∷ vs) × IsMethodName n × SpellsArgs args vs us
+  SpellsExpr (make n args) l ts us = (vs : List Token) × (ts ≡ word (codes "pd") ∷ mark dot ∷ word n ∷ mark open_paren ∷ vs) × IsMethodName n × SpellsParts args close_paren vs us
   SpellsExpr (paren x) l ts us = (vs : List Token) × (ts ≡ mark open_paren ∷ vs) × SpellsExpr x 0 vs (mark close_paren ∷ us)
 
   pub SpellsStep : Step → List Token → List Token → Type 0
   SpellsStep (item a) ts us = (vs : List Token) × (ts ≡ mark open_bracket ∷ vs) × SpellsArg a vs (mark close_bracket ∷ us)
   SpellsStep (access by s t) ts us = (vs : List Token) × (ts ≡ mark dot ∷ word (accessor_word by) ∷ mark open_bracket ∷ vs) × (ws : List Token) × SpellsSub s vs ws × SpellsSecond t ws us
-  SpellsStep (method n args) ts us = (vs : List Token) × (ts ≡ mark dot ∷ word n ∷ mark open_paren ∷ vs) × IsMethodName n × SpellsArgs args vs us
+  SpellsStep (method n args) ts us = (vs : List Token) × (ts ≡ mark dot ∷ word n ∷ mark open_paren ∷ vs) × IsMethodName n × SpellsParts args close_paren vs us
   SpellsStep (group args by n more) ts us =
-      (vs ws xs : List Token) × (ts ≡ mark dot ∷ word (codes "groupby") ∷ mark open_paren ∷ vs) × SpellsArgs args vs ws × SpellsBrackets by ws xs
-      × (ys : List Token) × (xs ≡ mark dot ∷ word n ∷ mark open_paren ∷ ys) × IsMethodName n × SpellsArgs more ys us
+      (vs ws xs : List Token) × (ts ≡ mark dot ∷ word (codes "groupby") ∷ mark open_paren ∷ vs) × SpellsParts args close_paren vs ws × SpellsBrackets by ws xs
+      × (ys : List Token) × (xs ≡ mark dot ∷ word n ∷ mark open_paren ∷ ys) × IsMethodName n × SpellsParts more close_paren ys us
   SpellsStep (rolling args n more) ts us =
-      (vs ws : List Token) × (ts ≡ mark dot ∷ word (codes "rolling") ∷ mark open_paren ∷ vs) × SpellsArgs args vs ws
-      × (xs : List Token) × (ws ≡ mark dot ∷ word n ∷ mark open_paren ∷ xs) × IsMethodName n × SpellsArgs more xs us
+      (vs ws : List Token) × (ts ≡ mark dot ∷ word (codes "rolling") ∷ mark open_paren ∷ vs) × SpellsParts args close_paren vs ws
+      × (xs : List Token) × (ws ≡ mark dot ∷ word n ∷ mark open_paren ∷ xs) × IsMethodName n × SpellsParts more close_paren xs us
   SpellsStep (expanding args n more) ts us =
-      (vs ws : List Token) × (ts ≡ mark dot ∷ word (codes "expanding") ∷ mark open_paren ∷ vs) × SpellsArgs args vs ws
-      × (xs : List Token) × (ws ≡ mark dot ∷ word n ∷ mark open_paren ∷ xs) × IsMethodName n × SpellsArgs more xs us
+      (vs ws : List Token) × (ts ≡ mark dot ∷ word (codes "expanding") ∷ mark open_paren ∷ vs) × SpellsParts args close_paren vs ws
+      × (xs : List Token) × (ws ≡ mark dot ∷ word n ∷ mark open_paren ∷ xs) × IsMethodName n × SpellsParts more close_paren xs us
 
   -- a second subscript, if there is one, and the bracket that closes them
   pub SpellsSecond : OptionalSub → List Token → List Token → Type 0
@@ -146,44 +158,21 @@ abbrev mutual
 
   pub SpellsArg : Arg → List Token → List Token → Type 0
   SpellsArg (expr x) ts us = SpellsExpr x 0 ts us
-  SpellsArg (many parts) ts us = (vs : List Token) × (ts ≡ mark open_bracket ∷ vs) × SpellsItems parts close_bracket vs us
+  SpellsArg (many parts) ts us = (vs : List Token) × (ts ≡ mark open_bracket ∷ vs) × SpellsParts parts close_bracket vs us
   SpellsArg (row parts) ts us = (vs : List Token) × (ts ≡ mark open_paren ∷ vs) × SpellsRow parts vs us
-  SpellsArg (table pairs) ts us = (vs : List Token) × (ts ≡ mark open_brace ∷ vs) × SpellsPairs pairs vs us
+  SpellsArg (table pairs) ts us = (vs : List Token) × (ts ≡ mark open_brace ∷ vs) × SpellsParts pairs close_brace vs us
   SpellsArg nothing ts us = ts ≡ word (codes "None") ∷ us
 
   -- a tuple has an item, with a comma behind it
-  pub SpellsRow : ArgList → List Token → List Token → Type 0
-  SpellsRow no_args ts us = ⊥
-  SpellsRow (more_args a rest) ts us = (vs : List Token) × IsItem a × SpellsArg a ts (mark comma ∷ vs) × SpellsItems rest close_paren vs us
+  pub SpellsRow : Parts bare → List Token → List Token → Type 0
+  SpellsRow no_parts ts us = ⊥
+  SpellsRow (more_parts tag a rest) ts us = (vs : List Token) × IsItem a × SpellsArg a ts (mark comma ∷ vs) × SpellsParts rest close_paren vs us
 
-  -- items with commas between them, and the bracket that closes them, before which a comma may stand
-  pub SpellsItems : ArgList → Mark → List Token → List Token → Type 0
-  SpellsItems no_args close ts us = ts ≡ mark close ∷ us
-  SpellsItems (more_args a rest) close ts us = (vs : List Token) × IsItem a × SpellsArg a ts vs × SpellsMoreItems rest close vs us
-
-  pub SpellsMoreItems : ArgList → Mark → List Token → List Token → Type 0
-  SpellsMoreItems no_args close ts us = (ts ≡ mark close ∷ us) ⊎ (ts ≡ mark comma ∷ mark close ∷ us)
-  SpellsMoreItems (more_args a rest) close ts us = (vs ws : List Token) × (ts ≡ mark comma ∷ vs) × IsItem a × SpellsArg a vs ws × SpellsMoreItems rest close ws us
-
-  -- arguments, and the parenthesis that closes them
-  pub SpellsArgs : Args → List Token → List Token → Type 0
-  SpellsArgs no_named ts us = ts ≡ mark close_paren ∷ us
-  SpellsArgs (more_named n a rest) ts us = (vs ws : List Token) × SpellsKeyword n ts vs × SpellsArg a vs ws × SpellsMoreArgs rest (is_some n) ws us
-
-  pub SpellsMoreArgs : Args → Bool → List Token → List Token → Type 0
-  SpellsMoreArgs no_named named ts us = (ts ≡ mark close_paren ∷ us) ⊎ (ts ≡ mark comma ∷ mark close_paren ∷ us)
-  SpellsMoreArgs (more_named n a rest) named ts us =
-      (vs ws xs : List Token) × (ts ≡ mark comma ∷ vs) × MayFollow named n × SpellsKeyword n vs ws × SpellsArg a ws xs × SpellsMoreArgs rest (is_some n) xs us
-
-  -- the entries of a dict, and the brace that closes them
-  pub SpellsPairs : ArgPairs → List Token → List Token → Type 0
-  SpellsPairs no_pairs ts us = ts ≡ mark close_brace ∷ us
-  SpellsPairs (more_pairs k a rest) ts us = (vs ws : List Token) × SpellsLiteral k ts (mark colon ∷ vs) × SpellsArg a vs ws × SpellsMorePairs rest ws us
-
-  pub SpellsMorePairs : ArgPairs → List Token → List Token → Type 0
-  SpellsMorePairs no_pairs ts us = (ts ≡ mark close_brace ∷ us) ⊎ (ts ≡ mark comma ∷ mark close_brace ∷ us)
-  SpellsMorePairs (more_pairs k a rest) ts us =
-      (vs ws xs : List Token) × (ts ≡ mark comma ∷ vs) × SpellsLiteral k vs (mark colon ∷ ws) × SpellsArg a ws xs × SpellsMorePairs rest xs us
+  -- parts with their commas, and the bracket that closes them
+  pub SpellsParts : {by : Tagging} → Parts by → Mark → List Token → List Token → Type 0
+  SpellsParts no_parts close ts us = ts ≡ mark close ∷ us
+  SpellsParts {by} (more_parts tag a rest) close ts us =
+      (vs ws xs : List Token) × SpellsTag by tag ts vs × IsPart by a × SpellsArg a vs ws × SpellsComma tag rest ws xs × SpellsParts rest close xs us
 
 -- the last step of a setting's target
 abbrev pub IsTarget : Step → Type 0

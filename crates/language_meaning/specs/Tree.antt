@@ -13,6 +13,17 @@ pub data Unary : Type 0 where
   minus : Unary
   invert : Unary
 
+-- what stands before each part in brackets: nothing, the name of an argument, where one is given, or the key of an entry
+pub data Tagging : Type 0 where
+  bare : Tagging
+  named : Tagging
+  keyed : Tagging
+
+abbrev pub Tag : Tagging → Type 0
+Tag bare = Unit {0}
+Tag named = Option Text
+Tag keyed = Literal
+
 -- Lists and options of parts are types of their own, since a part holds them.
 mutual
   pub data Expr : Type 0 where
@@ -22,16 +33,16 @@ mutual
     binary : Binary → Expr → Expr → Expr
     after : Expr → Step → Expr
     len : Expr → Expr
-    make : Text → Args → Expr
+    make : Text → Parts named → Expr
     paren : Expr → Expr
 
   pub data Step : Type 0 where
     item : Arg → Step
     access : Accessor → Sub → OptionalSub → Step
-    method : Text → Args → Step
-    group : Args → OptionalArg → Text → Args → Step
-    rolling : Args → Text → Args → Step
-    expanding : Args → Text → Args → Step
+    method : Text → Parts named → Step
+    group : Parts named → OptionalArg → Text → Parts named → Step
+    rolling : Parts named → Text → Parts named → Step
+    expanding : Parts named → Text → Parts named → Step
 
   pub data Sub : Type 0 where
     key : Arg → Sub
@@ -52,23 +63,15 @@ mutual
   -- a list, a tuple and a dict are the parts in their brackets
   pub data Arg : Type 0 where
     expr : Expr → Arg
-    many : ArgList → Arg
-    row : ArgList → Arg
-    table : ArgPairs → Arg
+    many : Parts bare → Arg
+    row : Parts bare → Arg
+    table : Parts keyed → Arg
     nothing : Arg
 
-  pub data ArgList : Type 0 where
-    no_args : ArgList
-    more_args : Arg → ArgList → ArgList
-
-  -- arguments, each with its name where one is given
-  pub data Args : Type 0 where
-    no_named : Args
-    more_named : Option Text → Arg → Args → Args
-
-  pub data ArgPairs : Type 0 where
-    no_pairs : ArgPairs
-    more_pairs : Literal → Arg → ArgPairs → ArgPairs
+  -- parts in their order, each with what stands before it
+  pub data Parts : Tagging → Type 0 where
+    no_parts : {by : Tagging} → Parts by
+    more_parts : {by : Tagging} → Tag by → Arg → Parts by → Parts by
 
 pub data Action : Type 0 where
   import_pandas : Action
@@ -83,15 +86,7 @@ pub record Statement : Type 0 where
   pub line : ℕ
   pub action : Action
 
--- the parts of a list, as the tree holds them
-abbrev pub arg_list : List Arg → ArgList
-arg_list [] = no_args
-arg_list (a ∷ rest) = more_args a (arg_list rest)
-
-abbrev pub named_args : List (Option Text × Arg) → Args
-named_args [] = no_named
-named_args (a ∷ rest) = more_named a.0 a.1 (named_args rest)
-
-abbrev pub arg_pairs : List (Literal × Arg) → ArgPairs
-arg_pairs [] = no_pairs
-arg_pairs (p ∷ rest) = more_pairs p.0 p.1 (arg_pairs rest)
+-- parts in a list, as the tree holds them
+abbrev pub parts : {by : Tagging} → List (Tag by × Arg) → Parts by
+parts [] = no_parts
+parts (p ∷ rest) = more_parts p.0 p.1 (parts rest)

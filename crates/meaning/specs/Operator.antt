@@ -5,7 +5,8 @@ use Rattle.std.specs.Ordering.{is_lt, is_le, is_gt, is_ge, is_eq, int_eq}
 use Rattle.std.specs.declared.cmp.Ordering.{Ordering}
 use Rattle.cell_core.specs.declared.cell.Kind.{Kind}
 use Rattle.cell_core.specs.declared.cell.Kind.TheVariants.{Int64, Boolean, Text as string}
-use Rattle.meaning.specs.Cell.{CellValue, na_cell, int_cell, truth_cell, text_cell, LabelValue, truth, int, text, na, label_cmp}
+use Rattle.meaning.specs.Cell.{CellValue, na_cell, int_cell, truth_cell, text_cell, label_cmp}
+pub use Rattle.meaning.specs.Cell.{cell_label}
 use Rattle.meaning.specs.Column.{ColumnValue, ColumnFault, kind_mismatch, zero_division, try_pairs, column_if}
 use Rattle.meaning.specs.Symbol.{Binary, add, sub, mul, floor_div, mod_, eq, ne, lt, le, gt, ge, and, or, xor}
 
@@ -45,13 +46,6 @@ number_cells f a b = na_cell
 abbrev pub division_cells : (ℤ → ℤ → ℤ) → CellValue → CellValue → Option CellValue
 division_cells f (int_cell x) (int_cell y) = if int_eq y (pos 0) then None else Some (int_cell (int_wrap w64 (f x y)))
 division_cells f a b = Some na_cell
-
--- a cell in the order of labels
-abbrev pub cell_label : CellValue → LabelValue
-cell_label na_cell = na
-cell_label (int_cell z) = int z
-cell_label (truth_cell b) = truth b
-cell_label (text_cell t) = text t
 
 abbrev pub cell_cmp : CellValue → CellValue → Ordering
 cell_cmp a b = label_cmp (cell_label a) (cell_label b)

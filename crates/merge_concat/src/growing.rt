@@ -3,7 +3,6 @@ ghost use Rattle.std.specs.Prelude.{◌≡◌, ◌+◌, ◌≤◌, ◌<◌, ◌^
 ghost use Rattle.cell_core.specs.declared.cell.Kind.TheVariants.{Int64, Boolean, Text as string};
 ghost use Rattle.cell_core.specs.declared.cell.Cell.TheVariants as cell;
 ghost use Rattle.column_core.specs.Columns.{number_cell, truth_cell, text_cell};
-ghost use Rattle.column_core.specs.Lanes.{lane_row};
 ghost use Rattle.merge_concat.specs.Growing.{cells_of_values, cells_of_rows, cells_of_lane};
 ghost use Rattle.merge_concat.specs.Parts.{part_kind, part_cells};
 

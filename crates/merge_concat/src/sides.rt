@@ -1,7 +1,6 @@
 // The rows of two sides, those of the left first, and the rows of one by the numbers of their keys.
 ghost use Rattle.std.specs.Prelude.{◌≡◌, ◌<◌, ◌≤◌, ◌^◌, ◌++◌, [], length, slice_index_or, All, IfOk, IfSome, IfNone};
 ghost use Rattle.multi_index.specs.Axes.{HaveLevels};
-ghost use Rattle.row_keys.specs.Keys.{label_in};
 ghost use Rattle.row_keys.specs.Buckets.{buckets_of, rows_of_code};
 ghost use Rattle.factorize.specs.Keys.{levels_of};
 

@@ -12,8 +12,7 @@ ghost use Rattle.merge_forms.specs.Calls.{is_plain, merge_of};
 use crate::merging::merged;
 use call_meaning::{Method, OtherMethod};
 use cell_core::{Grid, Shape, TextDict};
-use form_parts::placed;
-use frame_store::{Chain, Named, NamedList, ObjId, OpFault, Store, Value};
+use frame_store::{Chain, Named, NamedList, ObjId, OpFault, Store, Value, placed};
 use signatures::{bind, method_named, parameters};
 use std::alloc::Global;
 
@@ -103,10 +102,10 @@ pub fn method(
     requires chain { is_plain chain.now ≡ true }
     requires live { IsLive (tables store.old) on }
     requires settled { IsSettledWorld (world store.old dict.old) }
-    requires arguments { AreKnownArguments (world store.old dict.old) args.now.items.items }
+    requires arguments { AreKnownArguments (world store.old dict.old) args.now }
     ensures { let w = world store.old dict.old in
         Forms result (meant.call_result (entry_in w on) (chain_in w chain.now)
-        (arguments_in w args.now.items.items)) w (world store.new dict.new) }
+        (arguments_in w args.now)) w (world store.new dict.new) }
 {
     match merge_of(store, on, chain) {
         Some(id) => merge_call(alloc, store, dict, id, args.as_slice()),

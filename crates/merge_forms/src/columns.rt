@@ -3,11 +3,10 @@ ghost use Rattle.std.specs.Prelude.{◌≡◌, ◌<◌, ◌++◌, length, map, A
 ghost use Rattle.std.specs.List.{range_with_len};
 ghost use Rattle.cell_core.specs.declared.cell.Cell.TheVariants.{Na};
 ghost use Rattle.column_core.specs.Moves.{IsPlaceOf};
-ghost use Rattle.table_meaning.specs.Table.{column_at};
 ghost use Rattle.frame_store.specs.Parts.{columns_of, table_column, AreColumnsOf, IsHeld, IsSingle};
 ghost use Rattle.merge_forms.specs.Keys.{keys_value, AreMergeKeys};
 ghost use Rattle.merge_forms.specs.Rows.{AreRowsMet};
-ghost use Rattle.merge_forms.specs.Columns.{key_cell_at, key_cells, column_on, left_column_on, merged_columns};
+ghost use Rattle.merge_forms.specs.Columns.{key_cell_at, key_cells, left_column_on, merged_columns};
 
 use crate::keys::MergeKeys;
 use crate::places::key_at;

@@ -18,9 +18,9 @@ ghost use Rattle.merge_forms.specs.Keys.{cell_labels, labels_on, keys_seen, kind
 use crate::headings::heading_set;
 use cell_core::{Cells, Code, Grid, NoMemory, Places, Reason, TextDict};
 use frame_store::{ObjRef, OpFault};
-use label_methods::{cell_of, scalars_of};
+use label_methods::cell_of;
 use selections::{column_places, places_below};
-use signatures::Bound;
+use signatures::{Bound, scalars_of};
 use std::alloc::Global;
 
 // The columns of either frame whose cells are the keys, one of the left for each of the right.

@@ -6,7 +6,7 @@ ghost use Rattle.merge_forms.specs.Keys.{keys_seen, AreMergeKeys};
 ghost use Rattle.merge_forms.specs.Rows.{repeated_in, pairs_in, met_result, AreRowsMet, MeetsBy, IsJoinFault};
 
 use crate::keys::MergeKeys;
-use cell_core::{Code, Grid, NoMemory, Places, TextDict};
+use cell_core::{Code, Grid, NoMemory, TextDict};
 use column_core::ColRef;
 use factorize::KeyColumns;
 use frame_store::{ObjRef, OpFault};

@@ -10,7 +10,7 @@ use Rattle.call_meaning.specs.declared.OtherMethod.TheVariants.{Merge}
 use Rattle.call_meaning.specs.Signature.{parameters_of, method_named}
 use Rattle.call_meaning.specs.Binding.{bound_of, on_bound}
 use Rattle.method_meaning.specs.Groups.{grouped_result}
-use Rattle.method_meaning.specs.Methods.{answer_for, is_built}
+use Rattle.method_meaning.specs.Methods.{answer_for, takes_one_table}
 use Rattle.method_meaning.specs.Merge.{merge_result}
 
 -- whether a value has a method of the name
@@ -20,7 +20,7 @@ has_method (table t) name = is_some (method_named t.shape name)
 
 abbrev pub called : Option Method → Text → List NamedGiven → Table → Result Entry FaultValue
 called None name gs t = Err (no_attribute name)
-called (Some m) name gs t = if is_built m then on_bound (bound_of (parameters_of m) gs) (λ given. answer_for m given t) else Err not_built
+called (Some m) name gs t = if takes_one_table m then on_bound (bound_of (parameters_of m) gs) (λ given. answer_for m given t) else Err not_built
 
 -- a method of a value, but for `merge`, which stands below; a scalar has none
 abbrev pub method_result : Entry → Text → List NamedGiven → Result Entry FaultValue

@@ -190,7 +190,8 @@ answer_for (method.Table table_method.ToCsv) (index ∷ []) t = on (truth_in ind
 -- no other number of arguments is bound, and no other method is built
 answer_for m gs t = Err not_built
 
--- whether the method is built; one that isn't answers so before its arguments are looked at
-abbrev pub is_built : Method → Bool
-is_built (method.Other m) = false
-is_built m = true
+-- whether the method is answered by its table alone, as all but those of `Other`: of these `groupby` and `merge` are calls of
+-- their own, and each that isn't built answers so before its arguments are looked at
+abbrev pub takes_one_table : Method → Bool
+takes_one_table (method.Other m) = false
+takes_one_table m = true

@@ -10,11 +10,10 @@ use Rattle.table_meaning.specs.Table.{Table}
 use Rattle.table_meaning.specs.Value.{Entry, cell, table, Given, GivenPairs, NamedGiven, one, no_entries, more_entries, dict_in}
 use Rattle.call_meaning.specs.declared.Function.{Function}
 use Rattle.call_meaning.specs.declared.Function.TheVariants as function
-use Rattle.call_meaning.specs.Signature.{function_parameters, function_named}
+use Rattle.call_meaning.specs.Signature.{function_parameters}
 use Rattle.call_meaning.specs.Binding.{Bound, not_taken, not_listed, bound, bound_of, on_bound, text_in}
 use Rattle.form_meaning.specs.Finish.{default_labels}
 use Rattle.form_meaning.specs.Make.{kind_named}
-use Rattle.call_meaning.specs.Functions.{make_result}
 use Rattle.csv_meaning.specs.CsvRead.{CsvValue, CsvRefusal, not_utf8, no_record, long_record, not_of_kind, beyond_limits, columns_of_file}
 
 abbrev pub reads_file : Option Function → Bool
@@ -77,8 +76,3 @@ csv_result bytes gs = Err wrong_kind
 
 abbrev pub read_result : List ℕ → List NamedGiven → Result Entry FaultValue
 read_result bytes gs = on_bound (bound_of (function_parameters function.ReadCsv) gs) (csv_result bytes)
-
--- a function of `pd`: one that reads a file makes it of the bytes, where they are given; no other looks at them
-abbrev pub make_with : Option (List ℕ) → Text → List NamedGiven → Result Entry FaultValue
-make_with None name gs = make_result name gs
-make_with (Some bytes) name gs = if reads_file (function_named name) then read_result bytes gs else make_result name gs

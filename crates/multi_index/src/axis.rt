@@ -432,8 +432,8 @@ fn taken(alloc: Global, tuples: &Tuples, places: &Places) -> Result<Tuples, NoMe
     ensures { IfOk result (λ taken. taken ≡ tuples_at tuples.now places.now) }
 {
     let mut taken = Tuples::new(alloc);
-    for k in 0..places.len() {
-        taken.push(tuples.at(*places.at(k)).copy())?;
+    for place in places.as_slice() {
+        taken.push(tuples.at(*place).copy())?;
     }
     Ok(taken)
 }
@@ -456,8 +456,8 @@ fn copy_of(alloc: Global, tuples: &Tuples) -> Result<Tuples, NoMemory>
     ensures { IfOk result (λ copied. copied ≡ tuples.now) }
 {
     let mut copied = Tuples::new(alloc);
-    for row in 0..tuples.len() {
-        copied.push(tuples.at(row).copy())?;
+    for tuple in tuples.as_slice() {
+        copied.push(tuple.copy())?;
     }
     Ok(copied)
 }

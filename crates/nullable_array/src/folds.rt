@@ -1,5 +1,5 @@
 // What is gathered from the values of rows.
-ghost use Rattle.std.specs.Prelude.{◌≡◌, ℕ, Bool, true, false, not, ◌||◌, ◌&&◌, ℤ, pos, Option};
+ghost use Rattle.std.specs.Prelude.{◌≡◌, not, ◌||◌, ◌&&◌, pos, Option};
 ghost use Rattle.nullable_array.specs.Folds.{step_row, folded, sum_step, one_of_truth, is_not_zero, least_step, greatest_step};
 
 use crate::orders::Order;

@@ -1,5 +1,5 @@
 // The one loop over values and flags that lie side by side, for the operations that refuse no row.
-ghost use Rattle.std.specs.Prelude.{◌≡◌, ◌<◌, ◌≤◌, ℕ, Bool, false, length, slice_get, slice_index_or, Option, Some, IfOk, OnOk};
+ghost use Rattle.std.specs.Prelude.{◌≡◌, ◌<◌, ◌≤◌, ℕ, Bool, false, length, slice_get, slice_index_or, Option, Some, IfOk};
 ghost use Rattle.std.proofs.Common.{refl};
 ghost use Rattle.column_core.specs.Rows.{flagged, AreWritten};
 ghost use Rattle.nullable_array.specs.Pairs.{AreFlagged, AreValued, AreFilled, flagged_at};

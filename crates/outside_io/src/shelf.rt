@@ -1,5 +1,5 @@
 // Held files, and the one of them that is read.
-ghost use Rattle.std.specs.Prelude.{◌≡◌, ◌<◌, ◌≤◌, ◌+◌, ◌++◌, ◌∷◌, [], ℕ, length, take, drop, position, Some, None, IsTrue, IsFalse, OnOk, OnErr};
+ghost use Rattle.std.specs.Prelude.{◌≡◌, ◌<◌, ◌≤◌, ◌+◌, ◌++◌, ◌∷◌, [], length, take, drop, position, Some, None, IsTrue, IsFalse, OnOk, OnErr};
 ghost use Rattle.std.specs.FinMap.{empty, get, insert};
 ghost use Rattle.outside_io.specs.Shelf.{is_under, bytes_at, reading_bytes, least_held, with_bytes, kept_reading};
 

@@ -1,5 +1,5 @@
 // Numbers of rows, numbered by first sight.
-ghost use Rattle.std.specs.Prelude.{◌≡◌, ◌<◌, ◌≤◌, ◌^◌, nat_eq, length, All, IfOk, IfSome};
+ghost use Rattle.std.specs.Prelude.{◌≡◌, ◌<◌, ◌≤◌, ◌^◌, nat_eq, All, IfOk, IfSome};
 ghost use Rattle.row_keys.specs.Keys.{codes_of, first_rows};
 ghost use Rattle.row_keys.specs.Numbers.{AreLeaders, LeadBack};
 

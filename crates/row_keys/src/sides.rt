@@ -56,8 +56,8 @@ impl LevelRows for Tuples {
     }
 
     fn push_level(&self, level: usize, labels: &mut Vec<Label>) -> Result<(), NoMemory> {
-        for row in 0..self.len() {
-            labels.push(tuple_label(self.at(row), level))?;
+        for tuple in self.as_slice() {
+            labels.push(tuple_label(tuple, level))?;
         }
         Ok(())
     }

@@ -3,9 +3,8 @@ use Rattle.{
   meaning.proofs.Common.{arith, ◌≡◌, ℕ, zero, suc, ◌+◌, ◌≤◌, List, [], ◌∷◌, Some, drop, length, slice_get, ◌∙◌, Result, Ok, Err, IsErrAnd, Contents},
   std.proofs.Common.{drop_of_length-le},
   script_meaning.specs.{Reading.{Files, Reads, gives}, State.{State}},
-  script_evaluation.specs.Evaluates.{Moment, Evaluates},
   outside_io.specs.Files.{Serves},
-  script_work.{specs.{Reads.{Goes, files_in}, Work.{names_in, world_of, state_in}, declared.{file_names.FileName.{FileName}, fault.EvalFault.{EvalFault}, work.Work.{Work}}}, proofs.{Rides.{serves_both, goes_by, goes_to, ahead, joined, loop_next, loop_fault, loop_end}, States.{state_kept}, Worlds.{keeps_both}}},
+  script_work.{specs.{Evaluates.{Moment, Evaluates}, Reads.{Goes, files_in}, Work.{names_in, world_of, state_in}, declared.{file_names.FileName.{FileName}, fault.EvalFault.{EvalFault}, work.Work.{Work}}}, proofs.{Rides.{serves_both, goes_by, goes_to, ahead, joined, loop_next, loop_fault, loop_end}, States.{state_kept}, Worlds.{keeps_both}}},
   frame_store.specs.World.{World, Keeps},
 }
 

@@ -1,4 +1,3 @@
 pub mod Parts
 pub mod Trees
-pub mod Evaluations
 pub mod Gathering

@@ -2,7 +2,7 @@
 use mathlib.Core.Former.{Count}
 use Rattle.{
   meaning.proofs.Common.{arith, ◌≡◌, List, [], ◌∷◌, ◌++◌, refl, append_assoc, Label, Text, cell_label, label_datum},
-  language_meaning.specs.Tree.{arg_list, named_args, arg_pairs},
+  language_meaning.specs.Tree.{parts},
   script_meaning.specs.Expression.{cell_of, parts_of, part_of, pairs_of, given_of},
   script_evaluation.proofs.Gathering.{ReadsParts},
   table_meaning.specs.{Settled.{IsSettled}, Value.{GivenList, GivenPairs, NamedGiven, no_given, more_given, no_entries, more_entries}},
@@ -12,13 +12,13 @@ use Rattle.frame_store.specs.declared.arguments.Subscript.TheVariants as subscri
 use Rattle.script_meaning.specs.Expression as expression
 
 -- lists of parts, pairs and arguments as they are read
-pub reads_items : ReadsParts (λ fs s xs. parts_of fs s (arg_list xs)) part_of (λ x. more_given) no_given
+pub reads_items : ReadsParts (λ fs s xs. parts_of fs s (parts xs)) (λ fs s x. part_of fs s x.1) (λ x. more_given) no_given
 reads_items = record { none = λ fs s. refl; more = λ fs s x xs. refl }
 
-pub reads_pairs : ReadsParts (λ fs s xs. pairs_of fs s (arg_pairs xs)) (λ fs s x. given_of fs s x.1) (λ x. more_entries (cell_label (cell_of x.0))) no_entries
+pub reads_pairs : ReadsParts (λ fs s xs. pairs_of fs s (parts xs)) (λ fs s x. given_of fs s x.1) (λ x. more_entries (cell_label (cell_of x.0))) no_entries
 reads_pairs = record { none = λ fs s. refl; more = λ fs s x xs. refl }
 
-pub reads_arguments : ReadsParts (λ fs s xs. expression.named_of fs s (named_args xs)) (λ fs s x. given_of fs s x.1) (λ x g l. record { name = x.0; value = g } ∷ l) []
+pub reads_arguments : ReadsParts (λ fs s xs. expression.named_of fs s (parts xs)) (λ fs s x. given_of fs s x.1) (λ x g l. record { name = x.0; value = g } ∷ l) []
 reads_arguments = record { none = λ fs s. refl; more = λ fs s x xs. refl }
 
 -- parts behind parts

@@ -1,8 +1,8 @@
 -- Trees, as their parts.
 use Rattle.{
-  meaning.proofs.Common.{◌≡◌, ℕ, zero, suc, ◌≤◌, List, [], ◌∷◌, slice_get, Option, Some, max, arith},
-  script_tree.specs.{declared.{literal.Accessor.{Accessor}, tree.{Sub.{Sub}, Arg.{Arg}, Expr.{Expr}}}, View.{step_of, sub_of, accessor_of, optional_arg}},
-  script_evaluation.specs.Parts.{optional_sub, optional_expr},
+  meaning.proofs.Common.{◌≡◌, ℕ, zero, suc, ◌≤◌, List, [], ◌∷◌, slice_get, Option, Some, arith},
+  language_meaning.specs.{Tree.{Tagging, Tag, parts}, Depth.{arg_depth, parts_depth}},
+  script_tree.specs.{declared.{literal.Accessor.{Accessor}, tree.{Sub.{Sub}, Arg.{Arg}, Expr.{Expr}}}, View.{step_of, sub_of, accessor_of, optional_arg, optional_sub, optional_expr}},
 }
 use Rattle.language_meaning.specs.Tree as tree
 use Rattle.script_tree.specs.declared.tree.Sub.TheVariants as sub
@@ -15,7 +15,7 @@ pub sub_of-Span : (from to : Option Arg) (by : Option Expr) → sub_of (sub.Span
 sub_of-Span = grind arith
 
 -- a part is no deeper than its list
-pub part_depth : {X : Type 0} (depth : X → ℕ) (all : List X → ℕ) → ((x : X) (xs : List X) → all (x ∷ xs) ≡ max (depth x) (all xs)) → (xs : List X) (i : ℕ) (x : X) → slice_get xs i ≡ Some x → depth x ≤ all xs
-part_depth _ _ _ [] i x e = Prim.cc
-part_depth _ _ is (y ∷ xs) zero x e = grind (arith, is)
-part_depth depth all is (y ∷ xs) (suc i) x e = grind (arith, is, part_depth depth all is xs)
+pub part_depth : (by : Tagging) (xs : List (Tag by × tree.Arg)) (i : ℕ) (x : Tag by × tree.Arg) → slice_get xs i ≡ Some x → arg_depth x.1 ≤ parts_depth {by = by} (parts xs)
+part_depth by [] i x e = Prim.cc
+part_depth by (y ∷ xs) zero x e = grind arith
+part_depth by (y ∷ xs) (suc i) x e = grind (arith, part_depth by xs)

@@ -2,7 +2,7 @@
 use Rattle.std.specs.Prelude.{List, Option, codes}
 use Rattle.meaning.specs.Text.{Text}
 use Rattle.table_meaning.specs.Value.{Entry, Given, NamedGiven}
-use Rattle.language_meaning.specs.Tree.{named_args}
+use Rattle.language_meaning.specs.Tree.{parts}
 use Rattle.method_meaning.specs.Calls.{has_method, ChainValue, grouped, through, call_result}
 use Rattle.script_meaning.specs.Reading.{Files, Reads, at_once, then_read}
 use Rattle.script_meaning.specs.State.{State}
@@ -11,8 +11,8 @@ use Rattle.script_tree.specs.View.{named_parts_of, optional_arg}
 use Rattle.cell_core.specs.declared.words.Words.{Words}
 use Rattle.frame_store.specs.declared.arguments.Argument.{Argument}
 use Rattle.frame_store.specs.declared.arguments.Chain.{Chain}
+use Rattle.frame_store.specs.declared.arguments.Named.{Named}
 use Rattle.frame_store.specs.declared.arguments.Chain.TheVariants as chain
-use Rattle.frame_store.specs.declared.arguments.NamedList.{NamedList}
 use Rattle.script_evaluation.specs.declared.link.Link.{Link}
 use Rattle.script_evaluation.specs.declared.link.Link.TheVariants.{Groupby, Rolling, Expanding}
 use Rattle.script_evaluation.specs.declared.link.Linked.{Linked}
@@ -23,7 +23,7 @@ link_name Rolling = codes "rolling"
 link_name Expanding = codes "expanding"
 
 -- the chain of a link with its arguments, what stands in brackets, and the name behind it
-abbrev pub chain_behind : Link → NamedList → Option Argument → Words → Chain
+abbrev pub chain_behind : Link → List Named → Option Argument → Words → Chain
 chain_behind Groupby args by name = chain.Group args by name
 chain_behind Rolling args by name = chain.Rolling args name
 chain_behind Expanding args by name = chain.Expanding args name
@@ -36,7 +36,7 @@ chain_meant Expanding args by name = through (codes "expanding")
 
 -- what follows the arguments of the link, and what follows the brackets
 abbrev pub after_brackets : Files → State → Entry → Linked → List NamedGiven → Option Given → Reads Entry
-after_brackets files s v call g h = then_read (named_of files s (named_args (named_parts_of call.more.now))) (λ gs. at_once (call_result v (chain_meant call.link g h call.name.now) gs))
+after_brackets files s v call g h = then_read (named_of files s (parts (named_parts_of call.more.now))) (λ gs. at_once (call_result v (chain_meant call.link g h call.name.now) gs))
 
 abbrev pub after_link : Files → State → Entry → Linked → List NamedGiven → Reads Entry
 after_link files s v call g = then_read (brackets_of files s (optional_arg call.by.now)) (after_brackets files s v call g)
@@ -45,4 +45,4 @@ after_link files s v call g = then_read (brackets_of files s (optional_arg call.
 abbrev pub linked : Files → State → Entry → Linked → Reads Entry
 linked files s v call =
     where_named (has_method v (link_name call.link)) (link_name call.link)
-    (then_read (named_of files s (named_args (named_parts_of call.args.now))) (after_link files s v call))
+    (then_read (named_of files s (parts (named_parts_of call.args.now))) (after_link files s v call))

@@ -1,13 +1,13 @@
 // The values of expressions and arguments. What they make is noted.
 ghost use Rattle.std.specs.Prelude.{None};
-ghost use Rattle.language_meaning.specs.Tree.{arg_list, named_args, arg_pairs};
+ghost use Rattle.language_meaning.specs.Tree as tree;
 ghost use Rattle.script_meaning.specs.Expression.{named_by, value_of, stepped, given_of, part_of, parts_of as parts_given, pairs_of, named_of, sub_of, second_of, brackets_of, bound_of};
-ghost use Rattle.script_tree.specs.View.{expr_of, step_of, sub_of as view_sub, arg_of, optional_arg, parts_of, named_parts_of, pair_parts_of};
-ghost use Rattle.frame_store.specs.World.{IsKnownValue, IsKnownItem, AreKnownItems, IsKnownArgument, AreKnownPairs, AreKnownArguments, IsKnownSubscript, entry_in};
-ghost use Rattle.script_evaluation.specs.Evaluates.{moment, IsValue, Evaluates, AreSubscripts, item_in, items_in, argument_in, pairs_in, arguments_in, subscript_in, subscripts_in};
-ghost use Rattle.script_work.specs.Reads.{both_of};
-ghost use Rattle.script_evaluation.specs.Parts.{optional_sub, AreBrackets, brackets_in};
+ghost use Rattle.script_tree.specs.View.{expr_of, step_of, sub_of as view_sub, arg_of, optional_arg, optional_sub, parts_of, named_parts_of, pair_parts_of};
+ghost use Rattle.frame_store.specs.World.{IsKnownValue, IsKnownItem, AreKnownItems, IsKnownArgument, AreKnownPairs, AreKnownArguments, IsKnownSubscript, argument_in, arguments_in, entry_in, subscript_in};
+ghost use Rattle.script_evaluation.specs.Parts.{item_in, items_in, pairs_in, AreSubscripts, subscripts_in, AreBrackets, brackets_in};
 ghost use Rattle.script_evaluation.specs.Links.{linked};
+ghost use Rattle.script_work.specs.Evaluates.{moment, IsValue, Evaluates};
+ghost use Rattle.script_work.specs.Reads.{both_of};
 ghost use Rattle.script_work.specs.Work.{world_of};
 
 use crate::link::{Link, Linked};
@@ -301,7 +301,7 @@ fn items<F: Files>(
 ) -> Result<Items, EvalFault>
     ensures { let at = moment F.seen in
         Evaluates names.now (λ w l. AreKnownItems (world_of w) l.items.items) items_in
-        (λ fs s. parts_given fs s (arg_list (parts_of parts.now)))
+        (λ fs s. parts_given fs s (tree.parts (parts_of parts.now)))
         (at work.old files.old) (at work.new files.new) result }
 {
     let mut items = Items::new(work.alloc());
@@ -322,7 +322,7 @@ fn entries<F: Files>(
 ) -> Result<Entries, EvalFault>
     ensures { let at = moment F.seen in
         Evaluates names.now (λ w l. AreKnownPairs (world_of w) l.pairs.items) pairs_in
-        (λ fs s. pairs_of fs s (arg_pairs (pair_parts_of pairs.now)))
+        (λ fs s. pairs_of fs s (tree.parts (pair_parts_of pairs.now)))
         (at work.old files.old) (at work.new files.new) result }
 {
     let mut entries = Entries::new(work.alloc());
@@ -344,8 +344,8 @@ fn arguments<F: Files>(
     args: &Args,
 ) -> Result<NamedList, EvalFault>
     ensures { let at = moment F.seen in
-        Evaluates names.now (λ w l. AreKnownArguments (world_of w) l.items.items) arguments_in
-        (λ fs s. named_of fs s (named_args (named_parts_of args.now)))
+        Evaluates names.now (λ w l. AreKnownArguments (world_of w) l) arguments_in
+        (λ fs s. named_of fs s (tree.parts (named_parts_of args.now)))
         (at work.old files.old) (at work.new files.new) result }
 {
     let mut arguments = NamedList::new(work.alloc());

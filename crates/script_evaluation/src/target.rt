@@ -1,8 +1,8 @@
 // The last step of a target.
 ghost use Rattle.script_meaning.specs.Expression.{target_of};
 ghost use Rattle.script_tree.specs.View.{step_of};
-ghost use Rattle.script_evaluation.specs.Evaluates.{moment, Evaluates, IsTarget};
-ghost use Rattle.script_evaluation.specs.Parts.{target_seen};
+ghost use Rattle.script_evaluation.specs.Parts.{IsTarget, target_seen};
+ghost use Rattle.script_work.specs.Evaluates.{moment, Evaluates};
 
 use crate::evaluating::{given, subscripts};
 use crate::words::selector_of;

@@ -5,7 +5,7 @@ use Rattle.meaning.specs.Cell.{CellValue, na_cell, int_cell, truth_cell, text_ce
 use Rattle.meaning.specs.Operator.{cell_label}
 use Rattle.meaning.specs.Fault.{FaultValue, no_name, no_attribute, not_built}
 use Rattle.language_meaning.specs.Tree as tree
-use Rattle.language_meaning.specs.Tree.{Expr, Step, Sub, OptionalSub, OptionalArg, OptionalExpr, Arg, ArgList, Args, ArgPairs}
+use Rattle.language_meaning.specs.Tree.{Expr, Step, Sub, OptionalSub, OptionalArg, OptionalExpr, Arg, Parts, bare, named, keyed}
 use Rattle.table_meaning.specs.Value.{Entry, cell, Given, GivenList, GivenPairs, GivenSub, NamedGiven, nothing, one, row, many, entries, no_given, more_given, no_entries, more_entries, key_given, span_given}
 use Rattle.call_meaning.specs.declared.Function.TheVariants.{ReadCsv}
 use Rattle.call_meaning.specs.Signature.{function_named}
@@ -112,17 +112,17 @@ abbrev mutual
   part_of files s (tree.row parts) = then_read (parts_of files s parts) (λ parts. gives (row parts))
   part_of files s a = at_once (Err not_built)
 
-  pub parts_of : Files → State → ArgList → Reads GivenList
-  parts_of files s tree.no_args = gives no_given
-  parts_of files s (tree.more_args a rest) = then_read (part_of files s a) (λ g. then_read (parts_of files s rest) (λ gs. gives (more_given g gs)))
+  pub parts_of : Files → State → Parts bare → Reads GivenList
+  parts_of files s tree.no_parts = gives no_given
+  parts_of files s (tree.more_parts tag a rest) = then_read (part_of files s a) (λ g. then_read (parts_of files s rest) (λ gs. gives (more_given g gs)))
 
-  pub pairs_of : Files → State → ArgPairs → Reads GivenPairs
-  pairs_of files s tree.no_pairs = gives no_entries
-  pairs_of files s (tree.more_pairs k a rest) = then_read (given_of files s a) (λ g. then_read (pairs_of files s rest) (λ es. gives (more_entries (cell_label (cell_of k)) g es)))
+  pub pairs_of : Files → State → Parts keyed → Reads GivenPairs
+  pairs_of files s tree.no_parts = gives no_entries
+  pairs_of files s (tree.more_parts k a rest) = then_read (given_of files s a) (λ g. then_read (pairs_of files s rest) (λ es. gives (more_entries (cell_label (cell_of k)) g es)))
 
-  pub named_of : Files → State → Args → Reads (List NamedGiven)
-  named_of files s tree.no_named = gives []
-  named_of files s (tree.more_named n a rest) = then_read (given_of files s a) (λ g. then_read (named_of files s rest) (λ gs. gives (record { name = n; value = g } ∷ gs)))
+  pub named_of : Files → State → Parts named → Reads (List NamedGiven)
+  named_of files s tree.no_parts = gives []
+  named_of files s (tree.more_parts n a rest) = then_read (given_of files s a) (λ g. then_read (named_of files s rest) (λ gs. gives (record { name = n; value = g } ∷ gs)))
 
 -- the last step of a setting's target: what stands before its brackets, and in them
 pub record Target : Type 0 where

@@ -45,14 +45,14 @@ ends_absent _ _ _ _ _ _ does is t =
     ends_fetched _ _ _ _ _ _ does (rw is t)
 
 -- the script was fetched, and could not be read
-pub ends_unread : (words : RunWords) (held : Contents) (old new : Outside) → new.fetches ≡ count_after old.fetches 1 → new.out ≡ old.out → AppendsFront old.err new.err (codes "input failed\n")
+pub ends_unread : (words : RunWords) (held : Contents) (old new : Outside) → new.files.fetches ≡ count_after old.files.fetches 1 → new.out ≡ old.out → AppendsFront old.err new.err (codes "input failed\n")
     → (¬ (HasRisen old.err_faults new.err_faults) → new.err ≡ appended old.err (codes "input failed\n")) → Ends (IsWordsResult (Some words) held) Input old new
 ends_unread words held old new fetches out front whole =
     let (rest, is, other) = file_one _ _ _ in
     unread_first old new (IsWordsResult (Some words) held) _ (rest, is, refl) fetched rest.steps refl 1 (omega arith) (omega arith) fetches out front whole
 
 -- the script was fetched, and nothing else was done
-pub does_fetch : (old mid : Outside) → mid.out ≡ old.out → mid.err ≡ old.err → mid.fetches ≡ count_after old.fetches 1 → old.out_faults ≤ mid.out_faults → old.err_faults ≤ mid.err_faults → Does (fetched ∷ []) old mid
+pub does_fetch : (old mid : Outside) → mid.out ≡ old.out → mid.err ≡ old.err → mid.files.fetches ≡ count_after old.files.fetches 1 → old.out_faults ≤ mid.out_faults → old.err_faults ≤ mid.err_faults → Does (fetched ∷ []) old mid
 does_fetch = search (does_one, appended-nil)
 
 -- without a read or a write that failed, a run ends by its meaning

@@ -1,14 +1,13 @@
 // A run, from the words to the bytes written.
-ghost use Rattle.std.specs.Prelude.{◌≡◌, ◌≢◌, ◌⊎◌, ◌≤◌, IfNone, IfSome, map, string_bytes};
+ghost use Rattle.std.specs.Prelude.{◌≡◌, ◌≢◌, IfNone, IfSome, map, string_bytes};
 ghost use Rattle.outside_io.specs.Count.{HasRisen};
-ghost use Rattle.outside_io.specs.Files.{Serves};
 ghost use Rattle.outside_io.specs.Sink.{appended};
 ghost use Rattle.script_meaning.specs.State.{no_names};
 ghost use Rattle.script_meaning.specs.Run.{not_found_line, run_in, statements_result, syntax_line, too_large_line, usage, usage_line, with_line, IsRunResult, IsScriptResult, IsWordsResult};
 ghost use Rattle.script_tree.specs.ScriptView.{statements_of};
 ghost use Rattle.script_work.specs.Reads.{files_in, paths_of};
 ghost use Rattle.script_steps.specs.Errors.{RunLeaves, StatementsLeave};
-ghost use Rattle.script_steps.specs.Ends.{outside, Ends, EndsByMeaning, EndsWithLine, Is};
+ghost use Rattle.script_steps.specs.Ends.{outside, Ends, EndsByMeaning, EndsWith, HasCause, Is};
 
 use crate::words::{WordsFault, names_in, script_in};
 use fault_lines::{line_of_absence, line_of_syntax};
@@ -63,25 +62,25 @@ pub fn run<F: Files, O: Sink, E: Sink>(
     err: &mut E,
 ) -> Status
     // In told contents the status, the bytes and the fetches are those of the meaning.
-    ensures told { IfSome (F.seen files.old).contents (λ held.
+    ensures told { let at = outside F.seen O.seen E.seen in
+        IfSome (F.seen files.old).contents (λ held.
         Ends (IsRunResult (map string_bytes words.now.items) held) result
-        (outside (F.seen files.old) (O.seen out.old) (E.seen err.old))
-        (outside (F.seen files.new) (O.seen out.new) (E.seen err.new))) }
+        (at files.old out.old err.old) (at files.new out.new err.new)) }
 
     // Without a read or a write that failed there is no other ending.
-    ensures complete { IfSome (F.seen files.old).contents (λ held.
+    ensures complete { let at = outside F.seen O.seen E.seen in
+        IfSome (F.seen files.old).contents (λ held.
         ¬ (HasRisen (F.seen files.old).faults (F.seen files.new).faults) →
         ¬ (HasRisen (O.seen out.old).faults (O.seen out.new).faults) →
         ¬ (HasRisen (E.seen err.old).faults (E.seen err.new).faults) →
         EndsByMeaning (IsRunResult (map string_bytes words.now.items) held) result
-        (outside (F.seen files.old) (O.seen out.old) (E.seen err.old))
-        (outside (F.seen files.new) (O.seen out.new) (E.seen err.new))) }
+        (at files.old out.old err.old) (at files.new out.new err.new)) }
 
     // Words that are no run have one meaning, whatever the files tell, and fetch nothing.
-    ensures words { IfNone (run_in (map string_bytes words.now.items)) (
+    ensures words { let at = outside F.seen O.seen E.seen in
+        IfNone (run_in (map string_bytes words.now.items)) (
         Ends (Is (with_line usage_line usage)) result
-        (outside (F.seen files.old) (O.seen out.old) (E.seen err.old))
-        (outside (F.seen files.new) (O.seen out.new) (E.seen err.new))) }
+        (at files.old out.old err.old) (at files.new out.new err.new)) }
     ensures fetches { IfNone (run_in (map string_bytes words.now.items)) (
         (F.seen files.new).fetches ≡ (F.seen files.old).fetches) }
 
@@ -95,15 +94,8 @@ pub fn run<F: Files, O: Sink, E: Sink>(
         result ≡ Status.Usage → HasRisen (F.seen files.old).absences (F.seen files.new).absences
         × ((E.seen err.new).written ≡
         appended (E.seen err.old).written (not_found_line run.script))) }
-    ensures input { result ≡ Status.Input →
-        HasRisen (F.seen files.old).faults (F.seen files.new).faults }
-    ensures output { result ≡ Status.Output →
-        HasRisen (O.seen out.old).faults (O.seen out.new).faults
-        ⊎ HasRisen (E.seen err.old).faults (E.seen err.new).faults }
-
-    ensures serves { Serves (F.seen files.old) (F.seen files.new) }
-    ensures out_faults { (O.seen out.old).faults ≤ (O.seen out.new).faults }
-    ensures err_faults { (E.seen err.old).faults ≤ (E.seen err.new).faults }
+    ensures cause { let at = outside F.seen O.seen E.seen in
+        HasCause result (at files.old out.old err.old) (at files.new out.new err.new) }
 {
     let Some((script, more)) = script_in(words) else {
         return end_usage(err);
@@ -117,11 +109,7 @@ pub fn run<F: Files, O: Sink, E: Sink>(
 
 // Ends a run whose words are none.
 fn end_usage<E: Sink>(err: &mut E) -> Status
-    ensures ended { EndsWithLine usage_line Status.Usage result
-        (E.seen err.old).written (E.seen err.new).written }
-    ensures output { result ≡ Status.Output →
-        HasRisen (E.seen err.old).faults (E.seen err.new).faults }
-    ensures faults { (E.seen err.old).faults ≤ (E.seen err.new).faults }
+    ensures { EndsWith usage_line Status.Usage result (E.seen err.old) (E.seen err.new) }
 {
     end_with(
         err,
@@ -140,11 +128,11 @@ fn run_file<F: Files, O: Sink, E: Sink>(
     out: &mut O,
     err: &mut E,
 ) -> Status
-    ensures told { IfSome (F.seen files.old).contents (λ held.
+    ensures told { let at = outside F.seen O.seen E.seen in
+        IfSome (F.seen files.old).contents (λ held.
         Ends (IsWordsResult (Some record { script = path.now; paths = paths_of names.now }) held)
         result
-        (outside (F.seen files.old) (O.seen out.old) (E.seen err.old))
-        (outside (F.seen files.new) (O.seen out.new) (E.seen err.new))) }
+        (at files.old out.old err.old) (at files.new out.new err.new)) }
 
     ensures errors { RunLeaves (paths_of names.now)
         (F.seen files.old).absences (F.seen files.new).absences
@@ -152,15 +140,8 @@ fn run_file<F: Files, O: Sink, E: Sink>(
     ensures usage { result ≡ Status.Usage →
         HasRisen (F.seen files.old).absences (F.seen files.new).absences
         × ((E.seen err.new).written ≡ appended (E.seen err.old).written (not_found_line path.now)) }
-    ensures input { result ≡ Status.Input →
-        HasRisen (F.seen files.old).faults (F.seen files.new).faults }
-    ensures output { result ≡ Status.Output →
-        HasRisen (O.seen out.old).faults (O.seen out.new).faults
-        ⊎ HasRisen (E.seen err.old).faults (E.seen err.new).faults }
-
-    ensures serves { Serves (F.seen files.old) (F.seen files.new) }
-    ensures out_faults { (O.seen out.old).faults ≤ (O.seen out.new).faults }
-    ensures err_faults { (E.seen err.old).faults ≤ (E.seen err.new).faults }
+    ensures cause { let at = outside F.seen O.seen E.seen in
+        HasCause result (at files.old out.old err.old) (at files.new out.new err.new) }
 {
     match read_whole(alloc, files, path, MOST_BYTES) {
         Ok(bytes) => run_bytes(alloc, bytes.as_slice(), names, files, out, err),
@@ -176,11 +157,8 @@ fn run_file<F: Files, O: Sink, E: Sink>(
 
 // Ends a run whose script isn't there.
 fn end_absent<E: Sink>(alloc: Global, path: &str, err: &mut E) -> Status
-    ensures ended { EndsWithLine (not_found_line path.now) Status.Usage result
-        (E.seen err.old).written (E.seen err.new).written }
-    ensures output { result ≡ Status.Output →
-        HasRisen (E.seen err.old).faults (E.seen err.new).faults }
-    ensures faults { (E.seen err.old).faults ≤ (E.seen err.new).faults }
+    ensures { EndsWith (not_found_line path.now) Status.Usage result
+        (E.seen err.old) (E.seen err.new) }
 {
     match line_of_absence(alloc, path) {
         Ok(line) => end_with(err, Status::Usage, line.as_str()),
@@ -190,22 +168,14 @@ fn end_absent<E: Sink>(alloc: Global, path: &str, err: &mut E) -> Status
 
 // Ends a run whose script has too many bytes.
 fn end_too_large<E: Sink>(err: &mut E) -> Status
-    ensures ended { EndsWithLine too_large_line Status.Syntax result
-        (E.seen err.old).written (E.seen err.new).written }
-    ensures output { result ≡ Status.Output →
-        HasRisen (E.seen err.old).faults (E.seen err.new).faults }
-    ensures faults { (E.seen err.old).faults ≤ (E.seen err.new).faults }
+    ensures { EndsWith too_large_line Status.Syntax result (E.seen err.old) (E.seen err.new) }
 {
     end_with(err, Status::Syntax, "script too large\n")
 }
 
 // Ends a run whose bytes are no script, by the line of its first piece that isn't right.
 fn end_syntax<E: Sink>(alloc: Global, line: u64, err: &mut E) -> Status
-    ensures ended { EndsWithLine (syntax_line line) Status.Syntax result
-        (E.seen err.old).written (E.seen err.new).written }
-    ensures output { result ≡ Status.Output →
-        HasRisen (E.seen err.old).faults (E.seen err.new).faults }
-    ensures faults { (E.seen err.old).faults ≤ (E.seen err.new).faults }
+    ensures { EndsWith (syntax_line line) Status.Syntax result (E.seen err.old) (E.seen err.new) }
 {
     match line_of_syntax(alloc, line) {
         Ok(text) => end_with(err, Status::Syntax, text.as_str()),
@@ -223,24 +193,17 @@ fn run_bytes<F: Files, O: Sink, E: Sink>(
     out: &mut O,
     err: &mut E,
 ) -> Status
-    ensures told { IfSome (F.seen files.old).contents (λ held.
+    ensures told { let at = outside F.seen O.seen E.seen in
+        IfSome (F.seen files.old).contents (λ held.
         Ends (IsScriptResult (files_in names.now held) bytes.now) result
-        (outside (F.seen files.old) (O.seen out.old) (E.seen err.old))
-        (outside (F.seen files.new) (O.seen out.new) (E.seen err.new))) }
+        (at files.old out.old err.old) (at files.new out.new err.new)) }
 
     ensures errors { RunLeaves (paths_of names.now)
         (F.seen files.old).absences (F.seen files.new).absences
         result (E.seen err.old).written (E.seen err.new).written }
     ensures usage { result ≢ Status.Usage }
-    ensures input { result ≡ Status.Input →
-        HasRisen (F.seen files.old).faults (F.seen files.new).faults }
-    ensures output { result ≡ Status.Output →
-        HasRisen (O.seen out.old).faults (O.seen out.new).faults
-        ⊎ HasRisen (E.seen err.old).faults (E.seen err.new).faults }
-
-    ensures serves { Serves (F.seen files.old) (F.seen files.new) }
-    ensures out_faults { (O.seen out.old).faults ≤ (O.seen out.new).faults }
-    ensures err_faults { (E.seen err.old).faults ≤ (E.seen err.new).faults }
+    ensures cause { let at = outside F.seen O.seen E.seen in
+        HasCause result (at files.old out.old err.old) (at files.new out.new err.new) }
 {
     match parse(alloc, bytes) {
         Ok(script) => run_script(alloc, &script, names, files, out, err),
@@ -260,24 +223,17 @@ fn run_script<F: Files, O: Sink, E: Sink>(
     out: &mut O,
     err: &mut E,
 ) -> Status
-    ensures told { IfSome (F.seen files.old).contents (λ held.
+    ensures told { let at = outside F.seen O.seen E.seen in
+        IfSome (F.seen files.old).contents (λ held.
         Ends (Is (statements_result (files_in names.now held) no_names (statements_of script.now)))
         result
-        (outside (F.seen files.old) (O.seen out.old) (E.seen err.old))
-        (outside (F.seen files.new) (O.seen out.new) (E.seen err.new))) }
+        (at files.old out.old err.old) (at files.new out.new err.new)) }
 
     ensures errors { StatementsLeave (paths_of names.now)
         (F.seen files.old).absences (F.seen files.new).absences
         result (E.seen err.old).written (E.seen err.new).written }
-    ensures input { result ≡ Status.Input →
-        HasRisen (F.seen files.old).faults (F.seen files.new).faults }
-    ensures output { result ≡ Status.Output →
-        HasRisen (O.seen out.old).faults (O.seen out.new).faults
-        ⊎ HasRisen (E.seen err.old).faults (E.seen err.new).faults }
-
-    ensures serves { Serves (F.seen files.old) (F.seen files.new) }
-    ensures out_faults { (O.seen out.old).faults ≤ (O.seen out.new).faults }
-    ensures err_faults { (E.seen err.old).faults ≤ (E.seen err.new).faults }
+    ensures cause { let at = outside F.seen O.seen E.seen in
+        HasCause result (at files.old out.old err.old) (at files.new out.new err.new) }
 {
     let mut session = Session::new(alloc);
     for i in 0..script.len() {

@@ -1,5 +1,5 @@
 // The words of the command line.
-ghost use Rattle.std.specs.Prelude.{◌≡◌, [], ◌∷◌, ◌++◌, Bool, true, false, None, Some, List, IfOk, IsErrOf, MatchOption, OnOk, map, string_bytes};
+ghost use Rattle.std.specs.Prelude.{◌≡◌, [], ◌∷◌, ◌++◌, true, false, None, Some, IfOk, IsErrOf, MatchOption, OnOk, map, string_bytes};
 ghost use Rattle.script_meaning.specs.Run.{is_pair, is_path, pair_in, pairs_after, run_in, with_script};
 ghost use Rattle.script_work.specs.Reads.{paths_of};
 ghost use Rattle.script_run.specs.Names.{may_follow};

@@ -1,14 +1,14 @@
 -- What statements answer.
 use Rattle.{
-  meaning.proofs.Common.{arith, ◌≡◌, ℕ, Bool, true, false, nat_eq, List, [], ◌∷◌, Option, Some, None, refl, sym, ◌∙◌, ap, IsSome, if◌then◌else◌, Result, Ok, Err, IsErrAnd, ⊤, Text, Contents, same_text, FaultValue},
-  std.specs.Prelude.{OnErr},
+  meaning.proofs.Common.{arith, ◌≡◌, ℕ, Bool, true, false, nat_eq, List, [], ◌∷◌, Option, Some, None, refl, sym, ◌∙◌, ap, IsSome, if◌then◌else◌, Result, Ok, Err, IsErrAnd, ⊤, Text, same_text, FaultValue},
+  meaning.specs.Cell.{IsLonger},
+  std.{specs.Prelude.{OnErr}, proofs.lemmas.Result.{on_err_weaker}},
   table_meaning.specs.Table.{Table},
-  frame_store.{specs.{Shown.{table_in}, declared.{object.ObjId.{ObjId}, arguments.{Value.{Value, TheVariants.{Object}}, Argument.{Argument, TheVariants.{Nothing}}}, fault.OpFault.{OpFault}}, World.{World, objects_of, entry_in, Keeps, Sets}}, proofs.Settling.{seen_later}},
-  script_meaning.specs.{State.{State}, Reading.{Files, Reading, Reads, at_once}, Statement.{Answer, with_value, done, refused, then_answer, set_answer, is_chained, statement_result}},
-  script_evaluation.{specs.Evaluates.{Moment, Evaluates}, proofs.Evaluations.{moment_of}},
+  frame_store.{specs.{Shown.{table_in}, declared.{object.ObjId.{ObjId}, arguments.{Value.{Value, TheVariants.{Object}}, Argument.{Argument, TheVariants.{Nothing}}}, fault.OpFault.{OpFault}}, World.{World, objects_of, entry_in, Keeps, Sets}}, proofs.Settling.{seen_later, longer_twice}},
+  script_meaning.specs.{State.{State}, Reading.{Files, Reading, Reads, at_once}, Statement.{Answer, with_value, done, refused, then_answer, set_answer, is_chained}},
   settings.specs.Assigned.{without},
-  script_session.specs.{declared.fault.{Outcome.{Outcome}, StepFault.{StepFault, TheVariants.{Refused, NoMemory}}}, Faults.{IsStepFault, Performs, PerformsOnce, step_fault, marked_fault}},
-  script_work.{specs.{declared.{file_names.FileName.{FileName}, fault.EvalFault.{EvalFault}, work.Work.{Work}}, Reads.{Goes, Halts, files_in}, Work.{names_in, world_of, state_in, SetsFrom}, Bindings.{Bindings, bound, value_at, is_named, state_over, IsOf, KeepNamed, AreGiven, AreNamed}}, proofs.{Bindings.{nat_same, nat_eq_self, true_false, same_congr, named_object}, States.{same_state, state_kept, bind_state}, Worlds.{entry_seen, some_shown, set_failed}, Validity.{spent_state}, Rides.{caused_later, goes_both, stuck_both, spends_both, goes_value, halts_first, goes_same, uncaused, fault_uncaused, spends_none}}},
+  script_session.specs.{declared.fault.{Outcome.{Outcome}, StepFault.{StepFault, TheVariants.{Refused, NoMemory}}}, Faults.{IsStepFault, Performs, Answers, step_fault, marked_fault}},
+  script_work.{specs.{declared.{file_names.FileName.{FileName}, fault.EvalFault.{EvalFault}, work.Work.{Work}}, Evaluates.{Moment, moment_of, Evaluates}, Reads.{Goes, Halts}, Work.{names_in, world_of, state_in, SetsFrom}, Bindings.{Bindings, bound, value_at, is_named, state_over, IsOf, KeepNamed, AreGiven, AreNamed}}, proofs.{Bindings.{nat_same, nat_eq_self, true_false, same_congr, named_object}, States.{same_state, state_kept, bind_state}, Worlds.{entry_seen, some_shown, set_failed, keeps_both}, Validity.{spent_state}, Rides.{serves_self, serves_both, caused_later, goes_both, stuck_both, spends_both, goes_value, halts_first, goes_same, fault_uncaused, spends_none}}},
   fault_laws.specs.FormFault.{HasFormFault},
   outside_io.specs.Files.{FilesValue, Serves},
 }
@@ -51,56 +51,55 @@ performs_both : (s : State) (texts : List Text) (files : Files) (third : FilesVa
 performs_both _ _ _ _ (Err (Refused code warned)) serves p h = search (goes_both, caused_later)
 performs_both _ _ _ _ _ serves p h = search (goes_both, stuck_both, spends_both)
 
--- a statement answers what is meant
-pub record Answers (paths : List FileName) (meant : Files → State → Reading Answer) (old new : Moment) (r : Result Outcome StepFault) : Type 0 where
-  pub told : (held : Contents) → Performs (state_in new.work) (world_of new.work).texts (files_in paths held) old.files new.files (meant (files_in paths held) (state_in old.work)) r
-
-pub answers : (action : tree.Action) {paths : List FileName} {old new : Moment} {r : Result Outcome StepFault} → Answers paths (λ files s. statement_result files s action) old new r
-    → (held : Contents) → Performs (state_in new.work) (world_of new.work).texts (files_in paths held) old.files new.files (statement_result (files_in paths held) (state_in old.work) action) r
-answers _ x = x.told
-
 module _ {paths : List FileName} where
   module _ {V A : Type 0} {known : Work → V → Type 0} {view : World → V → A} {first : Files → State → Reads A} (go : Files → State → A → Reading Answer) where
     -- the first fault refuses the statement
     pub fails : {old new : Moment} {f : EvalFault} {r : Result Outcome StepFault} → Evaluates paths known view first old new (Err f) → IsErrAnd r (λ e. e ≡ step_fault f) → Answers paths (λ files s. then_answer (first files s) (go files s)) old new r
     fails {r = Ok o} x is = absurd is
-    fails {old} {new} {f} {r = Err e} x is = record { told = grind (arith, step_halts, halts_first) }
+    fails {old} {new} {f} {r = Err e} x is = record { answers = grind (arith, step_halts, halts_first); serves = x.serves; names = x.names; kept = x.kept; longer = x.kept.texts }
 
     -- a value goes on
     pub follows : {old mid new : Moment} {v : V} {r : Result Outcome StepFault} → Evaluates paths known view first old mid (Ok v) → Answers paths (λ files s. go files s (view (world_of mid.work) v)) mid new r → Answers paths (λ files s. then_answer (first files s) (go files s)) old new r
-    follows {old} {mid} {new} {v} {r} x y = record { told = λ held. performs_both _ _ _ new.files r x.serves (grind (arith, goes_value, state_kept)) (y.told held) }
+    follows {old} {mid} {new} {v} {r} x y =
+        record {
+          answers = λ held. performs_both _ _ _ new.files r x.serves (grind (arith, goes_value, state_kept)) (y.answers held);
+          serves = serves_both x.serves y.serves;
+          names = on_err_weaker r (λ e. e ∙ x.names) y.names;
+          kept = on_err_weaker r (keeps_both _ _ _ x.kept) y.kept;
+          longer = longer_twice _ _ _ x.kept.texts y.longer;
+        }
 
   -- memory was refused
-  pub runs_out : {w : Work} (u : Work) {s : FilesValue} {meant : Files → State → Reading Answer} {r : Result Outcome StepFault} → IsErrAnd r (λ e. e ≡ NoMemory) → Answers paths meant (moment_of w s) (moment_of u s) r
-  runs_out _ {r = Ok o} is = absurd is
-  runs_out _ {r = Err e} is = record { told = λ held. rw is spends_none }
+  pub runs_out : {w u : Work} {s : FilesValue} {meant : Files → State → Reading Answer} {r : Result Outcome StepFault} → IsErrAnd r (λ e. e ≡ NoMemory) → names_in u ≡ names_in w → Keeps (world_of w) (world_of u) → Answers paths meant (moment_of w s) (moment_of u s) r
+  runs_out {r = Ok o} is names kept = absurd is
+  runs_out {s = s} {r = Err e} is names kept = record { answers = λ held. rw is spends_none; serves = serves_self s; names = names; kept = kept; longer = kept.texts }
 
   -- a statement is done
-  pub does : (u : Work) {w : Work} {s : FilesValue} (a : State → Answer) {printed : Text} {warned : Bool} {o : Outcome} → a (state_in w) ≡ done (state_in u) printed warned → o.printed ≡ printed → o.warned ≡ warned
+  pub does : (u : Work) {w : Work} {s : FilesValue} (a : State → Answer) {printed : Text} {warned : Bool} {o : Outcome} → a (state_in w) ≡ done (state_in u) printed warned → o.printed ≡ printed → o.warned ≡ warned → IsLonger (world_of w).texts (world_of u).texts
       → Answers paths (λ files t. at_once (a t)) (moment_of w s) (moment_of u s) (Ok o)
-  does u {w} a {printed} {warned} {o} is first second = record { told = λ held. goes_same (cc (is, first, second)) }
+  does u {s = s} a is first second longer = record { answers = λ held. goes_same (cc (is, first, second)); serves = serves_self s; names = tt; kept = tt; longer = longer }
 
 -- a setting, after which an object may end that no name stands for
-module _ (w u : Work) {value : Argument} {r : Result ⊤ OpFault} {on : Value} {meant : Result Table FaultValue} (e : SetsFrom (names_in w) value r on meant (world_of w) (world_of u)) where
-  pub set_done : (o : Option Text) → IsOf (names_in w) o on → names_in u ≡ names_in w → r ≡ Ok tt → set_answer (state_in w) o meant ≡ done (state_in u) [] (is_chained o)
-  set_done o of names is =
+module _ (w u : Work) {value : Argument} {r : Result ⊤ OpFault} {on : Value} {meant : Result Table FaultValue} (e : SetsFrom value r on meant w u) where
+  pub set_done : (o : Option Text) → IsOf (names_in w) o on → r ≡ Ok tt → set_answer (state_in w) o meant ≡ done (state_in u) [] (is_chained o)
+  set_done o of is =
       let sets = rw is at e.sets in
-      cc (names, spent_state (names_in w) value (Ok tt) e.spare (world_of w) e.unnamed, set_state (names_in w) o on meant (without (Ok tt) e.spare (world_of w)) (world_of u) w.given of sets)
+      cc (e.names, spent_state (names_in w) value (Ok tt) e.spare (world_of w) e.unnamed, set_state (names_in w) o on meant (without (Ok tt) e.spare (world_of w)) (world_of u) w.given of sets)
+
+  pub set_longer : IsLonger (world_of w).texts (world_of u).texts
+  set_longer = e.sets.1
 
   -- one that was refused, with its mark
-  pub set_keeps : (f : OpFault) → r ≡ Err f → Keeps (world_of w) (world_of u)
-  set_keeps f is = set_failed _ _ f on meant (rw is at e.sets)
-
   pub set_refused : {paths : List FileName} {s : FilesValue} (a : State → Answer) (o : Option Text) (f : OpFault) {fault : StepFault} → HasFormFault meant → r ≡ Err f → fault ≡ marked_fault (is_chained o) f → a (state_in w) ≡ set_answer (state_in w) o meant
       → Answers paths (λ files t. at_once (a t)) (moment_of w s) (moment_of u s) (Err fault)
   set_refused {s = s} a o f action is marked same =
       let sets = rw is at e.sets in
-      record { told = λ held. grind (arith, goes_same, fault_uncaused, spends_none) }
+      record { answers = λ held. grind (arith, goes_same, fault_uncaused, spends_none); serves = serves_self s; names = e.names; kept = set_failed _ _ f on meant sets; longer = e.sets.1 }
 
 -- one after which none ends
-pub alone : {bs : Bindings} (r : Result ⊤ OpFault) (on : Value) (meant : Result Table FaultValue) (old new : World) → Sets r on meant old new → SetsFrom bs Nothing r on meant old new
-alone (Ok _) _ _ _ _ sets = record { spare = None; unnamed = tt; sets = sets }
-alone (Err f) _ _ _ _ sets = record { spare = None; unnamed = tt; sets = sets }
+pub alone : (r : Result ⊤ OpFault) (on : Value) (meant : Result Table FaultValue) (old new : Work) → names_in new ≡ names_in old → Sets r on meant (world_of old) (world_of new) → SetsFrom Nothing r on meant old new
+alone (Ok _) _ _ _ _ names sets = record { names = names; spare = None; unnamed = tt; sets = sets }
+alone (Err f) _ _ _ _ names sets = record { names = names; spare = None; unnamed = tt; sets = sets }
 
 -- a name that gets a value
 pub set_name : (w u : Work) (n : Text) (o : Option Text) (v : Value) → IsOf (names_in w) o v → names_in u ≡ bound (names_in w) n v → world_of u ≡ world_of w → done (with_value (state_in w) n o (entry_in (world_of w) v)) [] false ≡ done (state_in u) [] false
@@ -109,10 +108,6 @@ set_name w u n o v of names world = cc (bind_state (names_in w) n o v (world_of 
 -- an evaluation leaves the state
 pub state_after : {paths : List FileName} {V A : Type 0} {known : Work → V → Type 0} {view : World → V → A} {meant : Files → State → Reads A} {old new : Moment} {r : Result V EvalFault} → Evaluates paths known view meant old new r → state_in new.work ≡ state_in old.work
 state_after {old = old} {new} x = state_kept old.work new.work x.names x.kept
-
--- what a statement that reads no file answers
-pub performs_once : (texts : List Text) (files : Files) (seen : FilesValue) (whole : Reading Answer) (s : State) (r : Result Outcome StepFault) → PerformsOnce s texts whole r → Performs s texts files seen seen whole r
-performs_once = grind (arith, goes_same, uncaused, spends_none)
 
 -- after a sweep, which keeps the state and the texts
 pub performs_after : {texts texts' : List Text} (files : Files) (old new : FilesValue) (whole : Reading Answer) (s t : State) (r : Result Outcome StepFault) → Performs s texts files old new whole r → s ≡ t → texts ≡ texts'

@@ -1,15 +1,21 @@
 -- What a refusal says of what a statement means.
-use Rattle.std.specs.Prelude.{◌≡◌, Bool, false, List, None, Result, Ok, Err}
-use Rattle.meaning.specs.Text.{Text}
+use Rattle.std.specs.Prelude.{◌≡◌, Bool, false, List, OnErr, Result, Ok, Err}
+use Rattle.meaning.specs.Cell.{IsLonger}
+use Rattle.meaning.specs.Text.{Text, Contents}
 use Rattle.meaning.specs.FaultOf.{fault_of}
 use Rattle.table_meaning.specs.Settled.{IsSettled}
+use Rattle.language_meaning.specs.Tree as tree
 use Rattle.frame_store.specs.declared.fault.OpFault.{OpFault}
 use Rattle.frame_store.specs.declared.fault.OpFault.TheVariants.{Refused as OpRefused, NoMemory as OpNoMemory}
-use Rattle.outside_io.specs.Files.{FilesValue}
+use Rattle.frame_store.specs.World.{Keeps}
+use Rattle.outside_io.specs.Files.{FilesValue, Serves}
 use Rattle.script_meaning.specs.Reading.{Files, Reading, at_once}
 use Rattle.script_meaning.specs.State.{State}
-use Rattle.script_meaning.specs.Statement.{Answer, done, refused}
-use Rattle.script_work.specs.Reads.{Goes, Stuck, Spends, IsCaused, absent_name}
+use Rattle.script_meaning.specs.Statement.{Answer, done, refused, statement_result}
+use Rattle.script_work.specs.Evaluates.{Moment}
+use Rattle.script_work.specs.Reads.{Goes, Stuck, Spends, IsCaused, absent_name, files_in}
+use Rattle.script_work.specs.Work.{names_in, world_of, state_in}
+use Rattle.script_work.specs.declared.file_names.FileName.{FileName}
 use Rattle.script_work.specs.declared.fault.EvalFault.{EvalFault}
 use Rattle.script_work.specs.declared.fault.EvalFault.TheVariants.{Refused as EvalRefused, Input as EvalInput, NoMemory as EvalNoMemory}
 use Rattle.script_session.specs.declared.fault.Outcome.{Outcome}
@@ -38,13 +44,13 @@ abbrev pub Performs : State → List Text → Files → FilesValue → FilesValu
 Performs s texts files old new answer (Ok o) = Goes files.held old new answer (at_once (done s o.printed o.warned))
 Performs s texts files old new answer (Err fault) = IsStepFault texts files old new answer fault
 
--- the refusal is the answer of a statement that reads no file, or memory was refused
-abbrev pub IsRefusal : List Text → StepFault → Reading Answer → Type 0
-IsRefusal texts (Refused code warned) answer = (answer ≡ at_once (refused (fault_of texts code) warned)) × (absent_name code ≡ None) × IsSettled fault_of texts code
-IsRefusal texts Input answer = ⊥
-IsRefusal texts NoMemory answer = Unit {0}
+-- What a statement does, with the files that it reads. Where it is refused the names stay, and what was live. Texts keep their numbers in any case.
+pub record Answers (paths : List FileName) (meant : Files → State → Reading Answer) (old new : Moment) (result : Result Outcome StepFault) : Type 0 where
+  pub answers : (held : Contents) → Performs (state_in new.work) (world_of new.work).texts (files_in paths held) old.files new.files (meant (files_in paths held) (state_in old.work)) result
+  pub serves : Serves old.files new.files
+  pub names : OnErr result (names_in new.work ≡ names_in old.work)
+  pub kept : OnErr result (Keeps (world_of old.work) (world_of new.work))
+  pub longer : IsLonger (world_of old.work).texts (world_of new.work).texts
 
--- what a statement that reads no file answers
-abbrev pub PerformsOnce : State → List Text → Reading Answer → Result Outcome StepFault → Type 0
-PerformsOnce s texts answer (Ok o) = answer ≡ at_once (done s o.printed o.warned)
-PerformsOnce s texts answer (Err fault) = IsRefusal texts fault answer
+abbrev pub Executes : List FileName → tree.Action → Moment → Moment → Result Outcome StepFault → Type 0
+Executes paths action old new result = Answers paths (λ files s. statement_result files s action) old new result

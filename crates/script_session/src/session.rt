@@ -14,7 +14,7 @@ use crate::fault::{Outcome, StepFault};
 use crate::statements::perform;
 use cell_core::TextDict;
 use outside_io::Files;
-use script_tree::{Action, Statement};
+use script_tree::Statement;
 use script_work::{FileNames, Work};
 use std::alloc::Global;
 
@@ -81,7 +81,9 @@ impl Session {
         ensures apart { OnOk result (ChangesOneObject (action_of statement.now.action)
             (state_of self.old) (state_of self.new)) }
     {
-        self.perform(files, names, &statement.action)
+        let result = perform(&mut self.work, files, names, &statement.action);
+        self.work.sweep();
+        result
     }
 
     /// Takes a name out, and its object where no other name stands for it. Answers whether the name was there.
@@ -101,32 +103,5 @@ impl Session {
         ensures { result.now ≡ texts_of self.now }
     {
         self.work.texts()
-    }
-
-    // Does the statement, and ends what it has made and no name stands for.
-    fn perform<F: Files>(
-        &mut self,
-        files: &mut F,
-        names: &FileNames,
-        action: &Action,
-    ) -> Result<Outcome, StepFault>
-        ensures answers { (held : Contents) →
-            Performs (state_of self.new) (texts_of self.new) (files_in names.now held)
-            (F.seen files.old) (F.seen files.new)
-            (statement_result (files_in names.now held) (state_of self.old)
-            (action_of action.now))
-            result }
-        ensures serves { Serves (F.seen files.old) (F.seen files.new) }
-        ensures same { OnErr result (state_of self.new ≡ state_of self.old) }
-        ensures objects { OnErr result (live_of self.new ≡ live_of self.old) }
-        ensures longer { IsLonger (texts_of self.old) (texts_of self.new) }
-        ensures live { LiveAreNamed self.new }
-        ensures valid { AreValid (live_of self.new) }
-        ensures apart { OnOk result (ChangesOneObject (action_of action.now)
-            (state_of self.old) (state_of self.new)) }
-    {
-        let result = perform(&mut self.work, files, names, action);
-        self.work.sweep();
-        result
     }
 }

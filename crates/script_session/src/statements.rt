@@ -1,17 +1,14 @@
 // Statements. What they make is noted.
-ghost use Rattle.std.specs.Prelude.{◌≡◌, [], Some, OnOk, OnErr};
-ghost use Rattle.meaning.specs.Cell.{IsLonger};
-ghost use Rattle.meaning.specs.Text.{Contents};
+ghost use Rattle.std.specs.Prelude.{◌≡◌, List, [], Some, OnOk};
 ghost use Rattle.language_meaning.specs.Tree as tree;
-ghost use Rattle.frame_store.specs.World.{Keeps};
-ghost use Rattle.outside_io.specs.Files.{Serves};
-ghost use Rattle.script_meaning.specs.Reading.{Files as SomeFiles};
+ghost use Rattle.outside_io.specs.Files.{FilesValue};
 ghost use Rattle.script_meaning.specs.Expression.{named_by};
-ghost use Rattle.script_meaning.specs.Statement.{is_chained, statement_result};
+ghost use Rattle.script_meaning.specs.Statement.{is_chained};
 ghost use Rattle.script_tree.specs.View.{expr_of, step_of, arg_of, action_of};
-ghost use Rattle.script_work.specs.Reads.{files_in};
-ghost use Rattle.script_work.specs.Work.{names_in, world_of, state_in};
-ghost use Rattle.script_session.specs.Faults.{Performs, PerformsOnce, marked_fault};
+ghost use Rattle.script_work.specs.Evaluates.{moment, moment_of};
+ghost use Rattle.script_work.specs.Work.{state_in};
+ghost use Rattle.script_work.specs.declared.file_names.FileName.{FileName};
+ghost use Rattle.script_session.specs.Faults.{Executes, marked_fault};
 ghost use Rattle.script_session.specs.Apart.{IsSetApart, ChangesOneObject};
 
 use crate::fault::{Outcome, StepFault};
@@ -30,16 +27,9 @@ pub(crate) fn perform<F: Files>(
     names: &FileNames,
     action: &Action,
 ) -> Result<Outcome, StepFault>
-    ensures answers { (held : Contents) →
-        Performs (state_in work.new) (world_of work.new).texts (files_in names.now held)
-        (F.seen files.old) (F.seen files.new)
-        (statement_result (files_in names.now held) (state_in work.old)
-        (action_of action.now))
-        result }
-    ensures serves { Serves (F.seen files.old) (F.seen files.new) }
-    ensures names { OnErr result (names_in work.new ≡ names_in work.old) }
-    ensures kept { OnErr result (Keeps (world_of work.old) (world_of work.new)) }
-    ensures longer { IsLonger (world_of work.old).texts (world_of work.new).texts }
+    ensures executes { let at = moment F.seen in
+        Executes names.now (action_of action.now)
+        (at work.old files.old) (at work.new files.new) result }
     ensures apart { OnOk result (ChangesOneObject (action_of action.now)
         (state_in work.old) (state_in work.new)) }
 {
@@ -54,7 +44,6 @@ pub(crate) fn perform<F: Files>(
 }
 
 // `name = expr`
-#[tactic(auto, using(crate::proofs::Hints::bind))]
 fn bind<F: Files>(
     work: &mut Work,
     files: &mut F,
@@ -62,16 +51,9 @@ fn bind<F: Files>(
     name: &Words,
     expr: &Expr,
 ) -> Result<Outcome, StepFault>
-    ensures answers { (held : Contents) →
-        Performs (state_in work.new) (world_of work.new).texts (files_in names.now held)
-        (F.seen files.old) (F.seen files.new)
-        (statement_result (files_in names.now held) (state_in work.old)
-        (tree.bind name.now (expr_of expr.now)))
-        result }
-    ensures serves { Serves (F.seen files.old) (F.seen files.new) }
-    ensures names { OnErr result (names_in work.new ≡ names_in work.old) }
-    ensures kept { OnErr result (Keeps (world_of work.old) (world_of work.new)) }
-    ensures longer { IsLonger (world_of work.old).texts (world_of work.new).texts }
+    ensures { let at = moment F.seen in
+        Executes names.now (tree.bind name.now (expr_of expr.now))
+        (at work.old files.old) (at work.new files.new) result }
 {
     let value = evaluate(work, files, names, expr)?;
     work.set_name(name.as_str(), value)?;
@@ -79,7 +61,6 @@ fn bind<F: Files>(
 }
 
 // `target.step = arg`
-#[tactic(auto, using(script_work::proofs::Rides::serves_both))]
 fn put<F: Files>(
     work: &mut Work,
     files: &mut F,
@@ -88,16 +69,9 @@ fn put<F: Files>(
     step: &Step,
     arg: &Arg,
 ) -> Result<Outcome, StepFault>
-    ensures answers { (held : Contents) →
-        Performs (state_in work.new) (world_of work.new).texts (files_in names.now held)
-        (F.seen files.old) (F.seen files.new)
-        (statement_result (files_in names.now held) (state_in work.old)
-        (tree.put (expr_of target.now) (step_of step.now) (arg_of arg.now)))
-        result }
-    ensures serves { Serves (F.seen files.old) (F.seen files.new) }
-    ensures names { OnErr result (names_in work.new ≡ names_in work.old) }
-    ensures kept { OnErr result (Keeps (world_of work.old) (world_of work.new)) }
-    ensures longer { IsLonger (world_of work.old).texts (world_of work.new).texts }
+    ensures executes { let at = moment F.seen in
+        Executes names.now (tree.put (expr_of target.now) (step_of step.now) (arg_of arg.now))
+        (at work.old files.old) (at work.new files.new) result }
     ensures apart { OnOk result (IsSetApart (named_by (expr_of target.now))
         (state_in work.old) (state_in work.new)) }
 {
@@ -112,14 +86,10 @@ fn put<F: Files>(
 }
 
 // `del name`
-#[tactic(auto, using(script_work::proofs::Rides::then_gives))]
 fn drop_name(work: &mut Work, name: &Words) -> Result<Outcome, StepFault>
-    ensures answers { (files : SomeFiles) →
-        PerformsOnce (state_in work.new) (world_of work.new).texts
-        (statement_result files (state_in work.old) (tree.drop_name name.now)) result }
-    ensures names { OnErr result (names_in work.new ≡ names_in work.old) }
-    ensures kept { OnErr result (Keeps (world_of work.old) (world_of work.new)) }
-    ensures longer { IsLonger (world_of work.old).texts (world_of work.new).texts }
+    ensures { (paths : List FileName) (seen : FilesValue) →
+        Executes paths (tree.drop_name name.now)
+        (moment_of work.old seen) (moment_of work.new seen) result }
 {
     work.named(name)?;
     work.forget(name.as_str());
@@ -127,7 +97,6 @@ fn drop_name(work: &mut Work, name: &Words) -> Result<Outcome, StepFault>
 }
 
 // `del name[key]`
-#[tactic(auto, using(crate::proofs::Hints::drop_column))]
 fn drop_column<F: Files>(
     work: &mut Work,
     files: &mut F,
@@ -135,16 +104,9 @@ fn drop_column<F: Files>(
     name: &Words,
     key: &Expr,
 ) -> Result<Outcome, StepFault>
-    ensures answers { (held : Contents) →
-        Performs (state_in work.new) (world_of work.new).texts (files_in names.now held)
-        (F.seen files.old) (F.seen files.new)
-        (statement_result (files_in names.now held) (state_in work.old)
-        (tree.drop_column name.now (expr_of key.now)))
-        result }
-    ensures serves { Serves (F.seen files.old) (F.seen files.new) }
-    ensures names { OnErr result (names_in work.new ≡ names_in work.old) }
-    ensures kept { OnErr result (Keeps (world_of work.old) (world_of work.new)) }
-    ensures longer { IsLonger (world_of work.old).texts (world_of work.new).texts }
+    ensures executes { let at = moment F.seen in
+        Executes names.now (tree.drop_column name.now (expr_of key.now))
+        (at work.old files.old) (at work.new files.new) result }
     ensures apart { OnOk result (IsSetApart (Some name.now)
         (state_in work.old) (state_in work.new)) }
 {
@@ -157,7 +119,6 @@ fn drop_column<F: Files>(
 }
 
 // `print(expr, end=end)`
-#[tactic(auto, using(crate::proofs::Hints::print))]
 fn print<F: Files>(
     work: &mut Work,
     files: &mut F,
@@ -165,16 +126,9 @@ fn print<F: Files>(
     expr: &Expr,
     end: &Words,
 ) -> Result<Outcome, StepFault>
-    ensures answers { (held : Contents) →
-        Performs (state_in work.new) (world_of work.new).texts (files_in names.now held)
-        (F.seen files.old) (F.seen files.new)
-        (statement_result (files_in names.now held) (state_in work.old)
-        (tree.print (expr_of expr.now) end.now))
-        result }
-    ensures serves { Serves (F.seen files.old) (F.seen files.new) }
-    ensures names { OnErr result (names_in work.new ≡ names_in work.old) }
-    ensures kept { OnErr result (Keeps (world_of work.old) (world_of work.new)) }
-    ensures longer { IsLonger (world_of work.old).texts (world_of work.new).texts }
+    ensures { let at = moment F.seen in
+        Executes names.now (tree.print (expr_of expr.now) end.now)
+        (at work.old files.old) (at work.new files.new) result }
 {
     let value = evaluate(work, files, names, expr)?;
     let end = end.as_str();

@@ -60,7 +60,7 @@ module _ (old new : Outside) where
     stops_first _ (inr memory) out part = rw memory (search early_errors)
 
   -- a read failed in the first step
-  pub unread_first : (means : RunResult → Type 0) (r : RunResult) → means r → (step : RunStep) (others : List RunStep) → r.steps ≡ step ∷ others → (m : ℕ) → m ≤ step.fetches → 0 < m → new.fetches ≡ count_after old.fetches m → new.out ≡ old.out
+  pub unread_first : (means : RunResult → Type 0) (r : RunResult) → means r → (step : RunStep) (others : List RunStep) → r.steps ≡ step ∷ others → (m : ℕ) → m ≤ step.fetches → 0 < m → new.files.fetches ≡ count_after old.files.fetches m → new.out ≡ old.out
       → AppendsFront old.err new.err (codes "input failed\n") → (¬ (HasRisen old.err_faults new.err_faults) → new.err ≡ appended old.err (codes "input failed\n")) → EndsUnread means old new
   unread_first = grind (arith, le-ltb, nothing_yet, appended-nil)
 
@@ -68,7 +68,7 @@ module _ (old new : Outside) where
   ends_as = grind arith
 
   -- a run of one step whose errors end with a line, where what stands before the line was written
-  pub ends_with_lines : (ending : Ending) (fetches : ℕ) (before line : Text) (result : Status) (mid : Written) → new.out ≡ old.out → mid ≡ appended old.err before → new.fetches ≡ count_after old.fetches fetches
+  pub ends_with_lines : (ending : Ending) (fetches : ℕ) (before line : Text) (result : Status) (mid : Written) → new.out ≡ old.out → mid ≡ appended old.err before → new.files.fetches ≡ count_after old.files.fetches fetches
       → EndsWithLine line (status_of ending) result mid new.err → Ends (Is (first_then (record { output = []; errors = before ++ line; fetches = fetches }) [] ending)) result old new
   ends_with_lines _ _ _ _ _ _ out wrote count (inl last) = rw last.0 (ends_as _ _ (grind (arith, appended-nil, append-nil, appended-appended)))
   ends_with_lines _ _ _ _ _ _ out wrote count (inr (inl last)) =
@@ -77,7 +77,7 @@ module _ (old new : Outside) where
   ends_with_lines _ _ _ _ _ _ out wrote count (inr (inr last)) = search (rules, early_errors)
 
   -- a run that ends with one line
-  pub ends_with_line : (ending : Ending) (line : Text) (result : Status) → new.out ≡ old.out → new.fetches ≡ old.fetches → EndsWithLine line (status_of ending) result old.err new.err → Ends (Is (with_line line ending)) result old new
+  pub ends_with_line : (ending : Ending) (line : Text) (result : Status) → new.out ≡ old.out → new.files.fetches ≡ old.files.fetches → EndsWithLine line (status_of ending) result old.err new.err → Ends (Is (with_line line ending)) result old new
   ends_with_line = search (rules, ends_with_lines, appended-nil)
 
 -- a meaning after some steps
@@ -200,7 +200,7 @@ module _ {files files' : FilesValue} {answer : Contents → Reading Answer} wher
   module _ {state : State} {printed : Text} {mark : Bool} (goes : (held : Contents) → Goes held files files' (answer held) (at_once (done state printed mark)))
       (line : ℕ) (old new : Outside) (err : new.err ≡ appended old.err (warning_line line mark)) where
     -- the statement was done, and its warning and its text were written
-    pub goes_on : old.fetches ≡ files.fetches → new.fetches ≡ files'.fetches → new.out ≡ appended old.out printed → old.out_faults ≤ new.out_faults → old.err_faults ≤ new.err_faults
+    pub goes_on : old.files.fetches ≡ files.fetches → new.files.fetches ≡ files'.fetches → new.out ≡ appended old.out printed → old.out_faults ≤ new.out_faults → old.err_faults ≤ new.err_faults
         → IfSome files.contents (λ held. GoesOn (answer held) line state old new)
     goes_on before after out out_faults err_faults =
         told goes (λ r. GoesOn r line state old new) (λ n count. (record { output = printed; errors = warning_line line mark; fetches = n }, does_one _ _ _ out err (cc count) out_faults err_faults, λ go. refl))
@@ -211,14 +211,14 @@ module _ {files files' : FilesValue} {answer : Contents → Reading Answer} wher
 
   -- a refused statement, whose warning was written
   pub stops_refused : {f : FaultValue} {mark : Bool} → ((held : Contents) → Goes held files files' (answer held) (at_once (refused f mark))) → (line : ℕ) (status : Status) (old new : Outside)
-      (mid : Written) → old.fetches ≡ files.fetches → new.fetches ≡ files'.fetches → new.out ≡ old.out → mid ≡ appended old.err (warning_line line mark) → EndsWithLine (line_about line (fault_text f)) Fault status mid new.err
+      (mid : Written) → old.files.fetches ≡ files.fetches → new.files.fetches ≡ files'.fetches → new.out ≡ old.out → mid ≡ appended old.err (warning_line line mark) → EndsWithLine (line_about line (fault_text f)) Fault status mid new.err
       → IfSome files.contents (λ held. Stops (answer held) line status old new)
   stops_refused goes line status old new mid before after out wrote ends =
       told goes (λ r. Stops r line status old new) (λ n count go. ends_with_lines old new _ n _ _ status mid out wrote (cc count) ends)
 
   -- a file could not be read: where the contents are told, the last fetch is one of the statement
   pub stops_input : (line : ℕ) (old new : Outside) → ((held : Contents) → Stuck held files files' (answer held))
-      → old.fetches ≡ files.fetches → new.fetches ≡ files'.fetches → new.out ≡ old.out → AppendsFront old.err new.err (codes "input failed\n")
+      → old.files.fetches ≡ files.fetches → new.files.fetches ≡ files'.fetches → new.out ≡ old.out → AppendsFront old.err new.err (codes "input failed\n")
       → (¬ (HasRisen old.err_faults new.err_faults) → new.err ≡ appended old.err (codes "input failed\n")) → IfSome files.contents (λ held. Stops (answer held) line Input old new)
   stops_input line old new stuck before after out front whole = some-told files.contents (λ held. Stops (answer held) line Input old new) (λ held told go.
       let s = stuck held in

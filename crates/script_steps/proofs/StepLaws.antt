@@ -31,7 +31,7 @@ pub count_after-add : (count a b : ℕ) → count_after (count_after count a) b 
 count_after-add = grind (arith, zero-add, add-zero)
 
 -- one step was done
-pub does_one : (step : RunStep) (old new : Outside) → new.out ≡ appended old.out step.output → new.err ≡ appended old.err step.errors → new.fetches ≡ count_after old.fetches step.fetches
+pub does_one : (step : RunStep) (old new : Outside) → new.out ≡ appended old.out step.output → new.err ≡ appended old.err step.errors → new.files.fetches ≡ count_after old.files.fetches step.fetches
     → old.out_faults ≤ new.out_faults → old.err_faults ≤ new.err_faults → Does (step ∷ []) old new
 does_one = search (append-nil, add-zero)
 

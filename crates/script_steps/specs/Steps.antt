@@ -13,7 +13,7 @@ use Rattle.script_steps.specs.declared.status.Status.{Status}
 pub record Does (steps : List RunStep) (old new : Outside) : Type 0 where
   pub out : new.out ≡ appended old.out (output_of steps)
   pub err : new.err ≡ appended old.err (errors_of steps)
-  pub fetches : new.fetches ≡ count_after old.fetches (fetches_of steps)
+  pub fetches : new.files.fetches ≡ count_after old.files.fetches (fetches_of steps)
   pub out_faults : old.out_faults ≤ new.out_faults
   pub err_faults : old.err_faults ≤ new.err_faults
 

@@ -11,7 +11,7 @@ ghost use Rattle.script_tree.specs.View.{action_of};
 ghost use Rattle.script_work.specs.Reads.{files_in, paths_of};
 ghost use Rattle.script_session.specs.Session.{state_of};
 ghost use Rattle.script_steps.specs.Errors.{StatementsLeave, Warns};
-ghost use Rattle.script_steps.specs.Ends.{outside, EndsWithLine};
+ghost use Rattle.script_steps.specs.Ends.{outside, EndsWith};
 ghost use Rattle.script_steps.specs.Steps.{GoesOn, Stops};
 
 use crate::ending::{end_with, say_unread};
@@ -36,18 +36,18 @@ pub fn advance<F: Files, O: Sink, E: Sink>(
     out: &mut O,
     err: &mut E,
 ) -> Result<(), Status>
-    ensures on { OnOk result (IfSome (F.seen files.old).contents (λ held. GoesOn
+    ensures on { let at = outside F.seen O.seen E.seen in
+        OnOk result (IfSome (F.seen files.old).contents (λ held. GoesOn
         (statement_result (files_in names.now held) (state_of session.old)
         (action_of statement.now.action))
         statement.now.line (state_of session.new)
-        (outside (F.seen files.old) (O.seen out.old) (E.seen err.old))
-        (outside (F.seen files.new) (O.seen out.new) (E.seen err.new)))) }
-    ensures stops { IfErr result (λ status. IfSome (F.seen files.old).contents (λ held. Stops
+        (at files.old out.old err.old) (at files.new out.new err.new))) }
+    ensures stops { let at = outside F.seen O.seen E.seen in
+        IfErr result (λ status. IfSome (F.seen files.old).contents (λ held. Stops
         (statement_result (files_in names.now held) (state_of session.old)
         (action_of statement.now.action))
         statement.now.line status
-        (outside (F.seen files.old) (O.seen out.old) (E.seen err.old))
-        (outside (F.seen files.new) (O.seen out.new) (E.seen err.new)))) }
+        (at files.old out.old err.old) (at files.new out.new err.new))) }
 
     ensures input { IfErr result (λ status. status ≡ Status.Input →
         HasRisen (F.seen files.old).faults (F.seen files.new).faults) }
@@ -126,12 +126,9 @@ fn warn<E: Sink>(alloc: Global, line: u64, warned: bool, err: &mut E) -> Result<
 
 // Writes the line of a fault, with which a run ends.
 fn end_at_fault<E: Sink>(alloc: Global, texts: &TextDict, fault: &Fault, err: &mut E) -> Status
-    ensures ended { EndsWithLine
+    ensures { EndsWith
         (line_about fault.now.line (fault_text (fault_of texts.now fault.now.code)))
-        Status.Fault result (E.seen err.old).written (E.seen err.new).written }
-    ensures output { result ≡ Status.Output →
-        HasRisen (E.seen err.old).faults (E.seen err.new).faults }
-    ensures faults { (E.seen err.old).faults ≤ (E.seen err.new).faults }
+        Status.Fault result (E.seen err.old) (E.seen err.new) }
 {
     match line_of_fault(alloc, texts, fault) {
         Ok(text) => end_with(err, Status::Fault, text.as_str()),

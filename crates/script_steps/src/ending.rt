@@ -2,7 +2,7 @@
 ghost use Rattle.std.specs.Prelude.{◌≡◌, ◌≢◌, ◌≤◌, codes};
 ghost use Rattle.outside_io.specs.Count.{HasRisen};
 ghost use Rattle.outside_io.specs.Sink.{appended, AppendsFront};
-ghost use Rattle.script_steps.specs.Ends.{EndsWithLine};
+ghost use Rattle.script_steps.specs.Ends.{EndsWith};
 
 use crate::status::Status;
 use outside_io::{Sink, write_piece};
@@ -11,11 +11,7 @@ use outside_io::{Sink, write_piece};
 /// That one is not to be given.
 pub fn end_with<E: Sink>(err: &mut E, status: Status, line: &str) -> Status
     requires { status ≢ Status.Output }
-    ensures ended { EndsWithLine line.now status result
-        (E.seen err.old).written (E.seen err.new).written }
-    ensures output { result ≡ Status.Output →
-        HasRisen (E.seen err.old).faults (E.seen err.new).faults }
-    ensures faults { (E.seen err.old).faults ≤ (E.seen err.new).faults }
+    ensures { EndsWith line.now status result (E.seen err.old) (E.seen err.new) }
 {
     match write_piece(err, line.as_bytes()) {
         Ok(()) => status,

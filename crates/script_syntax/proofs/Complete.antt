@@ -1,8 +1,8 @@
 -- What is in the grammar is read.
 use Rattle.{
-  meaning.proofs.Common.{◌≡◌, ℕ, zero, suc, ◌≤◌, Bool, false, List, ◌∷◌, length, Option, Some, None, is_some, refl, arith, inl, inr, ◌⊎◌, codes, nat_eq, Text, Binary},
-  script_syntax.{specs.Reading.{dotted_at, call_at, after_word, may_follow, call_of, accessor_at, maker_at, len_at, Reader, and_then, or_else, pick, after_mark, name_at, operator_at, sign_at, begins_step, ends_bound, Call, plain, grouped, rolled, expanded, past_comma, keyword_at, keyword_for, key_at, item_at, bracketed, enclosed, items, named_at, arguments, entry_at, pairs, all_arguments, atom, bound, stride, span_after, sub_from, sub_at, second, subscripts, brackets, named_call, called, call, dotted, step_from, step, steps, postfix, signed, operators, expr_with, expr_from, unparted, opened, argument_with, expr_at, argument_at, word_at}, proofs.{Starts.{as_arg, StartsExpr, expr_starts, arg_starts, arg_no_mark, arg_no_end, expr_no_end, arg_no_target, Ends, EndsBound, mark_ends, step_begins, Closes, EndsSub, stride_ends}, Gives.{method_is, word_same, other_mark, name_reads, reserved_is_none, target_reads, operator_reads, operator_below, none_above, minus_reads, guard_reads, literal_reads, word_no_mark, no_len, literal_plain, item_yes, as_item_reads, past_comma_reads, at_close_reads}, Takes.{mark_same, CallIs, no_operator, level_small, not_zero, tilde_reads, mark_takes}, Sound.{FirstFollows, expr_sound}, Shorter.{items_shorter, args_shorter, pairs_shorter, expr_shorter, step_shorter, arg_shorter, keyword_shorter, literal_shorter}}},
-  language_meaning.specs.{Token.{Token, word, op, mark, Mark, equals, dot, comma, colon, open_paren, close_paren, open_bracket, close_bracket, close_brace}, Tree.{Unary, Literal, Expr, Step, Sub, OptionalSub, OptionalArg, OptionalExpr, Arg, ArgList, Args, ArgPairs, name, literal, unary, binary, after, len, make, paren, item, access, method, group, rolling, expanding, key, span, no_sub, some_sub, no_arg, some_arg, no_expr, some_expr, expr, many, row, table, nothing, no_args, more_args, no_named, more_named, no_pairs, more_pairs}, Depth.{depth, step_depth, sub_depth, optional_sub_depth, optional_arg_depth, optional_expr_depth, arg_depth, list_depth, args_depth, pairs_depth}, Grammar.{level, IsMethodName, SpellsExpr, SpellsStep, SpellsSecond, SpellsBrackets, SpellsSub, SpellsBound, SpellsStride, SpellsArg, SpellsItems, SpellsMoreItems, SpellsArgs, SpellsMoreArgs, SpellsPairs, SpellsMorePairs}},
+  meaning.proofs.Common.{◌≡◌, ℕ, zero, suc, ◌≤◌, Bool, false, List, ◌∷◌, length, Option, Some, None, refl, arith, inl, inr, ◌⊎◌, codes, nat_eq, Text, Binary},
+  script_syntax.{specs.Reading.{dotted_at, call_at, after_word, may_follow, call_of, accessor_at, maker_at, len_at, Reader, and_then, or_else, pick, after_mark, name_at, operator_at, sign_at, begins_step, ends_bound, Call, plain, grouped, rolled, expanded, past_comma, keyword_at, keyword_for, key_at, tag_at, has_name, item_at, bracketed, enclosed, part_at, parts, all_arguments, atom, bound, stride, span_after, sub_from, sub_at, second, subscripts, brackets, named_call, called, call, dotted, step_from, step, steps, postfix, signed, operators, expr_with, expr_from, unparted, opened, argument_with, expr_at, argument_at, word_at}, proofs.{Starts.{StartsExpr, StartsArg, expr_starts, arg_starts, part_starts, arg_no_mark, arg_no_end, expr_no_end, arg_no_target, Ends, EndsBound, mark_ends, step_begins, Closes, EndsSub, stride_ends}, Gives.{method_is, word_same, other_mark, name_reads, reserved_is_none, target_reads, operator_reads, operator_below, none_above, minus_reads, guard_reads, literal_reads, word_no_mark, no_len, literal_plain, item_yes, as_item_reads, as_part_reads, past_comma_reads, at_close_reads}, Takes.{mark_same, MayCome, may_come, CallIs, no_operator, level_small, not_zero, tilde_reads, mark_takes}, Sound.{FirstComes, expr_sound}, Shorter.{parts_shorter, expr_shorter, step_shorter, arg_shorter, tag_shorter, comma_shorter}}},
+  language_meaning.specs.{Token.{Token, word, op, mark, Mark, equals, dot, comma, colon, open_paren, close_paren, open_bracket, close_bracket, close_brace}, Tree.{Unary, Literal, Expr, Step, Sub, OptionalSub, OptionalArg, OptionalExpr, Tagging, bare, named, keyed, Tag, Arg, Parts, name, literal, unary, binary, after, len, make, paren, item, access, method, group, rolling, expanding, key, span, no_sub, some_sub, no_arg, some_arg, no_expr, some_expr, expr, many, row, table, nothing, no_parts, more_parts}, Depth.{depth, step_depth, sub_depth, optional_sub_depth, optional_arg_depth, optional_expr_depth, arg_depth, parts_depth}, Grammar.{level, IsMethodName, SpellsTag, SpellsComma, SpellsExpr, SpellsStep, SpellsSecond, SpellsBrackets, SpellsSub, SpellsBound, SpellsStride, SpellsArg, SpellsParts}},
 }
 use Rattle.script_syntax.specs.At as at
 
@@ -61,15 +61,21 @@ ReadsStride = Reads at.stride SpellsStride EndsSub optional_expr_depth
 abbrev ReadsArg : Arg → Type 0
 ReadsArg = Reads argument_at SpellsArg (Ends 0) arg_depth
 
-abbrev ReadsItems : ArgList → Type 0
-ReadsItems r = (room : ℕ) (close : Mark) (n : ℕ) (ts us : List Token) → Closes close → length ts ≤ n → SpellsItems r close ts us → list_depth r ≤ room → at.items room close n ts ≡ Some (r, us)
+abbrev ReadsParts : {by : Tagging} → Parts by → Type 0
+ReadsParts {by} r = (room : ℕ) (close : Mark) (after_name : Bool) (n : ℕ) (ts us : List Token) → Closes close → length ts ≤ n → SpellsParts r close ts us → FirstComes after_name r → parts_depth r ≤ room
+    → at.parts room by close after_name n ts ≡ Some (r, us)
 
-abbrev ReadsArgs : Args → Type 0
-ReadsArgs r = (room : ℕ) (after_name : Bool) (n : ℕ) (ts us : List Token) → length ts ≤ n → SpellsArgs r ts us → FirstFollows after_name r → args_depth r ≤ room
-    → at.arguments room after_name n ts ≡ Some (r, us)
+abbrev ReadsArgs : Parts named → Type 0
+ReadsArgs = Reads at.all_arguments (λ r. SpellsParts r close_paren) Any parts_depth
 
-abbrev ReadsPairs : ArgPairs → Type 0
-ReadsPairs r = (room n : ℕ) (ts us : List Token) → length ts ≤ n → SpellsPairs r ts us → pairs_depth r ≤ room → at.pairs room n ts ≡ Some (r, us)
+-- what stands first stands after nothing
+first : {by : Tagging} (r : Parts by) → FirstComes false r
+first no_parts = tt
+first (more_parts tag a r) = tt
+
+args_read : (r : Parts named) → ReadsParts r → ReadsArgs r
+unfolding all_arguments
+args_read r q room ts us s e d = q room close_paren false (length ts) ts us (inl refl) (omega arith) s (first r) d
 
 -- ---- loops that stop
 
@@ -126,13 +132,13 @@ len_steps : (x : Expr) → ReadsExpr x → (l : ℕ) → HasSteps l (len x)
 unfolding signed atom or_else and_then sign_at enclosed postfix len_at
 len_steps = grind (arith, reserved_is_none, word_no_mark, word_same, mark_ends, mark_same)
 
-call_is_read : (n : Text) (q : Args) (room : ℕ) (vs us : List Token) → IsMethodName n → ReadsArgs q → SpellsArgs q vs us → args_depth q ≤ room
+call_is_read : (n : Text) (q : Parts named) (room : ℕ) (vs us : List Token) → IsMethodName n → ReadsArgs q → SpellsParts q close_paren vs us → parts_depth q ≤ room
     → at.named_call room (mark dot ∷ word n ∷ mark open_paren ∷ vs) ≡ Some ((n, q), us)
-unfolding named_call and_then all_arguments call_at pick dotted_at word_at
+unfolding named_call and_then call_at pick dotted_at word_at
 call_is_read = grind (arith, mark_same, method_is)
 
-make_steps : (n : Text) (q : Args) → ReadsArgs q → (l : ℕ) → HasSteps l (make n q)
-unfolding signed atom or_else and_then sign_at all_arguments postfix maker_at call_at pick dotted_at word_at
+make_steps : (n : Text) (q : Parts named) → ReadsArgs q → (l : ℕ) → HasSteps l (make n q)
+unfolding signed atom or_else and_then sign_at postfix maker_at call_at pick dotted_at word_at
 make_steps = grind (arith, reserved_is_none, word_no_mark, no_len, word_same, mark_same, method_is)
 
 after_steps : (x : Expr) (p : Step) → ReadsExpr x → ReadsStep p → (l : ℕ) → HasSteps l (after x p)
@@ -206,53 +212,50 @@ as_argument (suc room) ts y e = go (as_argument room) _ refl
 expr_reads : (x : Expr) → ReadsExpr x → ReadsArg (expr x)
 expr_reads x r room ts us s e d = as_argument room ts (x, us) (r.whole room 0 ts us (omega arith) s e d)
 
-many_reads : (r : ArgList) → ReadsItems r → ReadsArg (many r)
+many_reads : (r : Parts bare) → ReadsParts r → ReadsArg (many r)
 unfolding argument_at argument_with and_then or_else after_mark pick
 many_reads r q zero ts us s e d = absurd (omega arith)
 many_reads r q (suc room) ts us (vs, f, s) e d =
-    rw (f, q room close_bracket (length vs) vs us (inr refl) (omega arith) s (omega arith)) refl
+    rw (f, q room close_bracket false (length vs) vs us (inr (inl refl)) (omega arith) s (first r) (omega arith)) refl
 
-table_reads : (r : ArgPairs) → ReadsPairs r → ReadsArg (table r)
+table_reads : (r : Parts keyed) → ReadsParts r → ReadsArg (table r)
 unfolding argument_at argument_with and_then or_else after_mark pick
 table_reads r q zero ts us s e d = absurd (omega arith)
 table_reads r q (suc room) ts us (vs, f, s) e d =
-    rw (f, q room (length vs) vs us (omega arith) s (omega arith)) refl
+    rw (f, q room close_brace false (length vs) vs us (inr (inr refl)) (omega arith) s (first r) (omega arith)) refl
 
 nothing_reads : ReadsArg nothing
 unfolding argument_at argument_with or_else
 nothing_reads = grind (arith, word_no_mark, word_same)
 
--- ---- lists
+-- ---- parts
 
--- what stands past a comma, or at the end of a list
-abbrev Goes : Mark → (List Token → Type 0) → List Token → Type 0
-Goes close Spells ts = (vs : List Token) × (past_comma close ts ≡ Some vs) × (length vs ≤ length ts) × Spells vs × Ends 0 ts
+-- what stands past a comma, or at the end of the parts
+record Goes {by : Tagging} (last : Tag by) (r : Parts by) (close : Mark) (ts us : List Token) : Type 0 where
+  past : past_comma close ts ≡ Some us
+  ends : Ends 0 ts
+  no_name : after_mark equals ts ≡ None
+  comes : FirstComes (has_name by last) r
 
-more_items : (r : ArgList) (close : Mark) (ts us : List Token) → Closes close → SpellsMoreItems r close ts us → Goes close (λ vs. SpellsItems r close vs us) ts
-unfolding begins_step operator_at
-more_items no_args = grind (arith, at_close_reads, past_comma_reads, mark_ends)
-more_items (more_args a r) = grind (arith, past_comma_reads, mark_ends)
-
-row_reads : (a : Arg) (rest : ArgList) → ReadsArg a → ReadsItems rest → ReadsArg (row (more_args a rest))
-unfolding argument_at argument_with opened or_else and_then after_mark pick
-row_reads a rest r q zero ts us s e d = absurd (omega arith)
-row_reads a rest r q (suc room) ts us (ws, f, (vs, i, s, t)) e d =
-    rw (f, r room ws (mark comma ∷ vs) s (mark_ends comma vs refl) (omega arith), item_yes a i, q room close_paren (length vs) vs us (inl refl) (omega arith) t (omega arith)) refl
-
--- ---- arguments with names
-
-more_arguments : (r : Args) (named : Bool) (ts us : List Token) → SpellsMoreArgs r named ts us
-    → Goes close_paren (λ vs. SpellsArgs r vs us × FirstFollows named r × (after_mark equals ts ≡ None)) ts
+comma_goes : {by : Tagging} (last : Tag by) (r : Parts by) (close : Mark) (ts us vs : List Token) → Closes close → SpellsComma last r ts us → SpellsParts r close us vs → Goes last r close ts us
 unfolding after_mark pick begins_step operator_at
-more_arguments no_named = grind (arith, at_close_reads, past_comma_reads, mark_ends)
-more_arguments (more_named n a r) = grind (arith, past_comma_reads, mark_ends)
+comma_goes last no_parts = grind (arith, at_close_reads, past_comma_reads, mark_ends)
+comma_goes last (more_parts tag a r) = grind (arith, past_comma_reads, mark_ends, may_come)
 
--- ---- the entries of a dict
+tag_reads : (by : Tagging) (after_name : Bool) (tag : Tag by) (a : Arg) (ts us vs : List Token) → SpellsTag by tag ts us → MayCome by after_name tag → SpellsArg a us vs → after_mark equals vs ≡ None
+    → tag_at by after_name ts ≡ Some (tag, us)
+unfolding tag_at keyword_for keyword_at may_follow key_at or_else and_then pick after_mark
+tag_reads named after_name tag = grind (arith, arg_no_target, target_reads)
+tag_reads by after_name tag = grind (arith, literal_reads)
 
-more_entries : (r : ArgPairs) (ts us : List Token) → SpellsMorePairs r ts us → Goes close_brace (λ vs. SpellsPairs r vs us) ts
-unfolding begins_step operator_at
-more_entries no_pairs = grind (arith, at_close_reads, past_comma_reads, mark_ends)
-more_entries (more_pairs k a r) = grind (arith, past_comma_reads, mark_ends)
+no_close : (close : Mark) (ts : List Token) → Closes close → StartsArg ts → after_mark close ts ≡ None
+no_close = grind (arith, arg_no_mark)
+
+row_reads : (tag : Tag bare) (a : Arg) (rest : Parts bare) → ReadsArg a → ReadsParts rest → ReadsArg (row (more_parts tag a rest))
+unfolding argument_at argument_with opened or_else and_then after_mark pick
+row_reads tag a rest r q zero ts us s e d = absurd (omega arith)
+row_reads tag a rest r q (suc room) ts us (ws, f, (vs, i, s, t)) e d =
+    rw (f, r room ws (mark comma ∷ vs) s (mark_ends comma vs refl) (omega arith), item_yes a i, q room close_paren false (length vs) vs us (inl refl) (omega arith) t (first rest) (omega arith)) refl
 
 -- ---- subscripts
 
@@ -267,12 +270,12 @@ second_ends (some_sub t) = grind arith
 
 -- ---- steps
 
-call_reads_as : (c : Call) (w : Text) (q : Args) (room : ℕ) (vs ws : List Token) → CallIs c w → ReadsArgs q → SpellsArgs q vs ws → args_depth q ≤ room
+call_reads_as : (c : Call) (w : Text) (q : Parts named) (room : ℕ) (vs ws : List Token) → CallIs c w → ReadsArgs q → SpellsParts q close_paren vs ws → parts_depth q ≤ room
     → at.step room (mark dot ∷ word w ∷ mark open_paren ∷ vs) ≡ called room (expr_at room) (argument_at room) c w q ws
-unfolding dotted call or_else and_then all_arguments step step_from brackets call_of pick dotted_at word_at
+unfolding dotted call or_else and_then step step_from brackets call_of pick dotted_at word_at
 call_reads_as = grind (arith, other_mark, mark_same, method_is)
 
-group_reads : (q : Args) (by : OptionalArg) (n : Text) (p : Args) → ReadsArgs q → ReadsOptional by → ReadsArgs p → ReadsStep (group q by n p)
+group_reads : (q : Parts named) (by : OptionalArg) (n : Text) (p : Parts named) → ReadsArgs q → ReadsOptional by → ReadsArgs p → ReadsStep (group q by n p)
 unfolding called and_then
 group_reads q by n p r b k room ts us (vs, ws, xs, e, s, t, ys, f, h, u) g d =
     rw (
@@ -283,12 +286,12 @@ group_reads q by n p r b k room ts us (vs, ws, xs, e, s, t, ys, f, h, u) g d =
       call_is_read n p room ys us h k u (omega arith),
     ) refl
 
-rolling_reads : (q : Args) (n : Text) (p : Args) → ReadsArgs q → ReadsArgs p → ReadsStep (rolling q n p)
+rolling_reads : (q : Parts named) (n : Text) (p : Parts named) → ReadsArgs q → ReadsArgs p → ReadsStep (rolling q n p)
 unfolding called and_then
 rolling_reads q n p r k room ts us (vs, ws, e, s, xs, f, h, t) g d =
     rw (e, call_reads_as rolled (codes "rolling") q room vs ws refl r s (omega arith), f, call_is_read n p room xs us h k t (omega arith)) refl
 
-expanding_reads : (q : Args) (n : Text) (p : Args) → ReadsArgs q → ReadsArgs p → ReadsStep (expanding q n p)
+expanding_reads : (q : Parts named) (n : Text) (p : Parts named) → ReadsArgs q → ReadsArgs p → ReadsStep (expanding q n p)
 unfolding called and_then
 expanding_reads q n p r k room ts us (vs, ws, e, s, xs, f, h, t) g d =
     rw (e, call_reads_as expanded (codes "expanding") q room vs ws refl r s (omega arith), f, call_is_read n p room xs us h k t (omega arith)) refl
@@ -296,7 +299,7 @@ expanding_reads q n p r k room ts us (vs, ws, e, s, xs, f, h, t) g d =
 -- ---- all of them
 
 mutual
-  unfolding or_else and_then pick word_at dotted_at after_mark ends_bound begins_step operator_at step step_from brackets bracketed dotted subscripts accessor_at called bound item_at sub_at sub_from span_after stride second items arguments named_at keyword_for keyword_at may_follow pairs entry_at key_at
+  unfolding or_else and_then pick word_at dotted_at after_mark ends_bound begins_step operator_at step step_from brackets bracketed dotted subscripts accessor_at called bound item_at sub_at sub_from span_after stride second parts part_at
 
   pub expr_is_read : (x : Expr) → ReadsExpr x
   expr_is_read (name n) = highest _ (name_steps n)
@@ -305,16 +308,16 @@ mutual
   expr_is_read (binary o x y) = binary_reads o x y (expr_is_read x) (expr_is_read y)
   expr_is_read (after x p) = highest _ (after_steps x p (expr_is_read x) (step_is_read p))
   expr_is_read (len x) = highest _ (len_steps x (expr_is_read x))
-  expr_is_read (make n r) = highest _ (make_steps n r (args_are_read r))
+  expr_is_read (make n r) = highest _ (make_steps n r (args_read r (parts_are_read r)))
   expr_is_read (paren x) = highest _ (paren_steps x (expr_is_read x))
 
   step_is_read : (p : Step) → ReadsStep p
   step_is_read (item a) = grind (arith, mark_ends, arg_is_read a)
   step_is_read (access by s t) = grind (arith, second_ends, sub_is_read s, second_is_read t)
-  step_is_read (method n q) = grind (arith, call_reads_as plain n q, args_are_read q)
-  step_is_read (group r by n q) = group_reads r by n q (args_are_read r) (optional_is_read by) (args_are_read q)
-  step_is_read (rolling r n q) = rolling_reads r n q (args_are_read r) (args_are_read q)
-  step_is_read (expanding r n q) = expanding_reads r n q (args_are_read r) (args_are_read q)
+  step_is_read (method n q) = grind (arith, call_reads_as plain n q, args_read q (parts_are_read q))
+  step_is_read (group r by n q) = group_reads r by n q (args_read r (parts_are_read r)) (optional_is_read by) (args_read q (parts_are_read q))
+  step_is_read (rolling r n q) = rolling_reads r n q (args_read r (parts_are_read r)) (args_read q (parts_are_read q))
+  step_is_read (expanding r n q) = expanding_reads r n q (args_read r (parts_are_read r)) (args_read q (parts_are_read q))
 
   sub_is_read : (s : Sub) → ReadsSub s
   sub_is_read (key a) = grind (arith, arg_no_mark, arg_starts, arg_is_read a)
@@ -334,23 +337,23 @@ mutual
 
   pub arg_is_read : (a : Arg) → ReadsArg a
   arg_is_read (expr x) = expr_reads x (expr_is_read x)
-  arg_is_read (many r) = many_reads r (items_are_read r)
-  arg_is_read (row no_args) = grind arith
-  arg_is_read (row (more_args a r)) = row_reads a r (arg_is_read a) (items_are_read r)
-  arg_is_read (table r) = table_reads r (pairs_are_read r)
+  arg_is_read (many r) = many_reads r (parts_are_read r)
+  arg_is_read (row no_parts) = grind arith
+  arg_is_read (row (more_parts tag a r)) = row_reads tag a r (arg_is_read a) (parts_are_read r)
+  arg_is_read (table r) = table_reads r (parts_are_read r)
   arg_is_read nothing = nothing_reads
 
-  items_are_read : (r : ArgList) → ReadsItems r
-  items_are_read no_args room close (suc n) = grind arith
-  items_are_read r room close zero = grind (arith, items_shorter r)
-  items_are_read (more_args a r) room close (suc n) = grind (arith, more_items, arg_no_mark, arg_starts, as_item_reads, arg_shorter, arg_is_read a, items_are_read r)
-
-  args_are_read : (r : Args) → ReadsArgs r
-  args_are_read no_named room after_name (suc n) = grind arith
-  args_are_read r room after_name zero = grind (arith, args_shorter r after_name)
-  args_are_read (more_named n a r) room after_name (suc k) = grind (arith, keyword_shorter, arg_shorter, more_arguments, is_some, arg_no_mark, arg_starts, arg_no_target, target_reads, arg_is_read a, args_are_read r)
-
-  pairs_are_read : (r : ArgPairs) → ReadsPairs r
-  pairs_are_read no_pairs room (suc n) = grind arith
-  pairs_are_read r room zero = grind (arith, pairs_shorter r)
-  pairs_are_read (more_pairs k a r) room (suc n) = grind (arith, literal_shorter, more_entries, arg_no_mark, as_arg, literal_reads, arg_shorter, arg_is_read a, pairs_are_read r)
+  parts_are_read : {by : Tagging} (r : Parts by) → ReadsParts r
+  parts_are_read no_parts room close after_name (suc n) ts us c le s f d = grind arith
+  parts_are_read r room close after_name zero ts us c le s f d = grind (arith, parts_shorter r)
+  parts_are_read {by} (more_parts tag a r) room close after_name (suc n) ts us c le (vs, ws, xs, t, i, s, e, m) f d =
+      let g = comma_goes tag r close ws xs us c e m in
+      let less : length xs ≤ n = omega (arith, le, tag_shorter by tag ts vs t, arg_shorter a vs ws s, comma_shorter tag r ws xs e) in
+      rw (
+        no_close close ts c (part_starts by tag a ts vs ws t s),
+        tag_reads by after_name tag a ts vs ws t f s g.no_name,
+        arg_is_read a room vs ws s g.ends (omega (arith, d)),
+        as_part_reads by a ws i,
+        g.past,
+        parts_are_read r room close (has_name by tag) n xs us c less m g.comes (omega (arith, d)),
+      ) refl

@@ -1,9 +1,5 @@
 -- What is read within a depth, by what is read one depth lower.
-use Rattle.{
-  meaning.proofs.Common.{◌≡◌, ℕ, suc, List, Option, None, Result, refl, arith, Bor},
-  script_tokens.specs.declared.token.Token.{Token},
-  script_syntax.specs.{declared.refusal.Refusal.{Refusal}, Found.{Finds}, Reading.{argument_with, expr_at, argument_at}},
-}
+use Rattle.{meaning.proofs.Common.{◌≡◌, ℕ, suc, List, Option, None, Result, refl, arith, Bor}, script_tokens.specs.declared.token.Token.{Token}, script_syntax.specs.{declared.refusal.Refusal.{Refusal}, Found.{Finds}, Reading.{expr_at, argument_at}}}
 use Rattle.language_meaning.specs.Token as spec
 use Rattle.script_syntax.specs.At as at
 

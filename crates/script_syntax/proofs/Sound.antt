@@ -1,9 +1,5 @@
 -- What is read is in the grammar, and no deeper than was allowed.
-use Rattle.{
-  meaning.proofs.Common.{◌≡◌, ℕ, zero, suc, ◌≤◌, Bool, true, false, List, ◌∷◌, length, Some, None, refl, arith, eqb_tells, Binary},
-  script_syntax.{proofs.{Starts.{as_arg, Closes, arg_starts, arg_no_mark}, Tools.{Only, Sound, guard_takes}, Takes.{mark_takes, word_takes, name_takes, dotted_takes, call_takes, len_takes, maker_takes, operator_takes, sign_takes, literal_takes, accessor_takes, call_of_takes, item_is, comma_takes, keyword_for_takes, key_takes, no_operator, no_tokens, level_small, mark_reads}, Shorter.{expr_shorter, lower}, Gives.{operator_reads}}, specs.Reading.{and_then, or_else, pick, as_item, operator_at, past_comma, item_at, bracketed, enclosed, items, named_at, arguments, entry_at, pairs, all_arguments, atom, bound, stride, span_after, sub_from, sub_at, second, subscripts, brackets, named_call, called, call, dotted, step_from, step, steps, postfix, signed, operators, expr_with, expr_from, unparted, opened, argument_with, expr_at, argument_at}},
-  language_meaning.specs.{Token.{Token, op, mark, Mark, close_paren, close_brace}, Tree.{binary, Expr, Step, Sub, Arg, ArgList, Args, ArgPairs, no_args, more_args, no_named, more_named, no_pairs, more_pairs}, Depth.{depth, step_depth, sub_depth, optional_sub_depth, optional_arg_depth, optional_expr_depth, arg_depth, list_depth, args_depth, pairs_depth}, Grammar.{level, left_level, IsItem, MayFollow, SpellsExpr, SpellsStep, SpellsSecond, SpellsBrackets, SpellsSub, SpellsBound, SpellsStride, SpellsArg, SpellsItems, SpellsMoreItems, SpellsArgs, SpellsMoreArgs, SpellsPairs, SpellsMorePairs}},
-}
+use Rattle.{meaning.proofs.Common.{◌≡◌, ℕ, zero, suc, ◌≤◌, Bool, List, ◌∷◌, length, Some, None, refl, arith, eqb_tells, Binary}, script_syntax.{proofs.{Starts.{Closes, part_starts}, Tools.{Only, Sound, guard_takes}, Takes.{mark_takes, word_takes, name_takes, dotted_takes, call_takes, len_takes, maker_takes, operator_takes, sign_takes, literal_takes, accessor_takes, call_of_takes, item_is, comma_takes, MayCome, may_come, tag_takes, part_takes, no_operator, no_tokens, level_small}, Shorter.{expr_shorter, lower}, Gives.{operator_reads}}, specs.Reading.{and_then, or_else, pick, as_item, operator_at, past_comma, item_at, bracketed, enclosed, has_name, part_at, parts, all_arguments, atom, bound, stride, span_after, sub_from, sub_at, second, subscripts, brackets, named_call, called, call, dotted, step_from, step, steps, postfix, signed, operators, expr_with, expr_from, unparted, opened, argument_with, expr_at, argument_at}}, language_meaning.specs.{Token.{Token, op, mark, Mark, close_paren}, Tree.{binary, Expr, Step, Sub, Tagging, Tag, Arg, Parts, no_parts, more_parts}, Depth.{depth, step_depth, sub_depth, optional_sub_depth, optional_arg_depth, optional_expr_depth, arg_depth, parts_depth}, Grammar.{level, left_level, IsItem, IsPart, SpellsTag, SpellsComma, SpellsExpr, SpellsStep, SpellsSecond, SpellsBrackets, SpellsSub, SpellsBound, SpellsStride, SpellsArg, SpellsParts}}}
 use Rattle.script_syntax.specs.At as at
 
 abbrev Is : {A : Type 0} → (A → List Token → List Token → Type 0) → (A → ℕ) → ℕ → List Token → A × List Token → Type 0
@@ -24,27 +20,21 @@ IsStep = Is SpellsStep step_depth
 abbrev IsSub : ℕ → List Token → Sub × List Token → Type 0
 IsSub = Is SpellsSub sub_depth
 
--- the name of the first argument may follow
-abbrev pub FirstFollows : Bool → Args → Type 0
-FirstFollows after_name no_named = Unit {0}
-FirstFollows after_name (more_named n a rest) = MayFollow after_name n
+-- what stands before the first part may stand there
+abbrev pub FirstComes : {by : Tagging} → Bool → Parts by → Type 0
+FirstComes after_name no_parts = Unit {0}
+FirstComes {by} after_name (more_parts tag a rest) = MayCome by after_name tag
 
-abbrev IsArgs : ℕ → List Token → Args × List Token → Type 0
-IsArgs = Is SpellsArgs args_depth
+abbrev IsParts : {by : Tagging} → Mark → ℕ → List Token → Parts by × List Token → Type 0
+IsParts close = Is (λ r. SpellsParts r close) parts_depth
 
--- ---- what stands past a comma, or at the end of a list
-
-items_more : (r : ArgList) (close : Mark) (ts us vs : List Token) → Closes close → past_comma close ts ≡ Some us → SpellsItems r close us vs → SpellsMoreItems r close ts vs
-items_more no_args = grind (arith, comma_takes)
-items_more (more_args a r) = grind (arith, comma_takes, arg_starts, arg_no_mark, mark_reads)
-
-args_more : (r : Args) (after_name : Bool) (ts us vs : List Token) → past_comma close_paren ts ≡ Some us → SpellsArgs r us vs → FirstFollows after_name r → SpellsMoreArgs r after_name ts vs
-args_more no_named = grind (arith, comma_takes)
-args_more (more_named n a r) = grind (arith, comma_takes, arg_starts, arg_no_mark, mark_reads)
-
-pairs_more : (r : ArgPairs) (ts us vs : List Token) → past_comma close_brace ts ≡ Some us → SpellsPairs r us vs → SpellsMorePairs r ts vs
-pairs_more no_pairs = grind (arith, comma_takes)
-pairs_more (more_pairs k a r) = grind (arith, comma_takes, arg_no_mark, as_arg, mark_reads)
+-- what stands past a comma, or at the end of the parts
+parts_comma : {by : Tagging} (last : Tag by) (r : Parts by) (close : Mark) (ts us vs : List Token) → Closes close → past_comma close ts ≡ Some us → SpellsParts r close us vs
+    → FirstComes (has_name by last) r → SpellsComma last r ts us
+parts_comma last no_parts close ts us vs c p s f = grind (arith, comma_takes)
+parts_comma {by} last (more_parts tag a r) close ts us vs c p (ws, xs, ys, t, i, q, e, s) f =
+    let starts = part_starts by tag a us ws xs t q in
+    (grind (arith, comma_takes, starts), (may_come by last tag).0 f)
 
 -- the level of what is read so far
 own_level : Expr → ℕ
@@ -73,24 +63,34 @@ module _ (room : ℕ) (inner_sound : (l : ℕ) (ts : List Token) → l ≤ 6 →
 
   -- ---- lists
 
-  items_sound : (close : Mark) (n : ℕ) → Closes close → Sound (at.items room close n) (Is (λ r. SpellsItems r close) list_depth room)
-  unfolding items and_then or_else
-  items_sound close zero = grind arith
-  items_sound close (suc n) = grind (arith, mark_takes, item_sound, items_more, items_sound close n)
+  IsPartAt : (by : Tagging) → Bool → List Token → (Tag by × Arg) × List Token → Type 0
+  IsPartAt by after_name ts p = (vs : List Token) × SpellsTag by (p.0).0 ts vs × IsPart by (p.0).1 × IsArg room vs ((p.0).1, p.1) × MayCome by after_name (p.0).0
 
-  arguments_sound : (after_name : Bool) (n : ℕ) → Sound (at.arguments room after_name n) (λ ts y. IsArgs room ts y × FirstFollows after_name y.0)
-  unfolding arguments named_at and_then or_else
-  arguments_sound after_name zero = grind arith
-  arguments_sound after_name (suc n) = grind (arith, mark_takes, keyword_for_takes, args_more, arguments_sound true n, arguments_sound false n)
+  part_sound : (by : Tagging) (after_name : Bool) → Sound (at.part_at room by after_name) (IsPartAt by after_name)
+  unfolding IsPartAt part_at and_then
+  part_sound by after_name = grind (arith, tag_takes, part_takes)
 
-  all_sound : Sound (at.all_arguments room) (IsArgs room)
-  unfolding all_arguments
-  all_sound = grind (arith, arguments_sound)
+  AreParts : (by : Tagging) → Mark → Bool → List Token → Parts by × List Token → Type 0
+  AreParts by close after_name ts y = IsParts close room ts y × FirstComes after_name y.0
 
-  pairs_sound : (n : ℕ) → Sound (at.pairs room n) (Is SpellsPairs pairs_depth room)
-  unfolding pairs entry_at and_then or_else
-  pairs_sound zero = grind arith
-  pairs_sound (suc n) = grind (arith, mark_takes, key_takes, pairs_more, pairs_sound n)
+  are_none : (by : Tagging) (close : Mark) (after_name : Bool) (ts us : List Token) → ts ≡ mark close ∷ us → AreParts by close after_name ts (no_parts, us)
+  unfolding AreParts
+  are_none by close after_name ts us e = ((e, omega arith), tt)
+
+  are_more : (by : Tagging) (close : Mark) (after_name : Bool) (ts us : List Token) (p : (Tag by × Arg) × List Token) (y : Parts by × List Token) → Closes close → IsPartAt by after_name ts p → past_comma close p.1 ≡ Some us
+      → AreParts by close (has_name by (p.0).0) us y → AreParts by close after_name ts (more_parts (p.0).0 (p.0).1 y.0, y.1)
+  unfolding AreParts IsPartAt
+  are_more by close after_name ts us p y c (vs, t, i, s, f) e ((u, d), g) =
+      (((vs, p.1, us, t, i, s.0, parts_comma (p.0).0 y.0 close p.1 us y.1 c e u g, u), omega (arith, s.1, d)), f)
+
+  parts_sound : (by : Tagging) (close : Mark) (n : ℕ) (after_name : Bool) → Closes close → Sound (at.parts room by close after_name n) (AreParts by close after_name)
+  unfolding parts and_then or_else
+  parts_sound by close zero after_name = grind arith
+  parts_sound by close (suc n) after_name = grind (arith, mark_takes, are_none, part_sound, are_more, parts_sound by close n)
+
+  all_sound : Sound (at.all_arguments room) (IsParts close_paren room)
+  unfolding all_arguments AreParts
+  all_sound = grind (arith, parts_sound)
 
   -- ---- atoms
 
@@ -154,8 +154,8 @@ module _ (room : ℕ) (inner_sound : (l : ℕ) (ts : List Token) → l ≤ 6 →
   -- ---- arguments
 
   argument_with_sound : Sound (at.argument_with room) (IsArg (suc room))
-  unfolding argument_with opened unparted expr_from and_then or_else pick
-  argument_with_sound ts = grind (arith, mark_takes, items_sound, item_is, pairs_sound, word_takes, expr_with_sound, sixth, no_operator, steps_sound ts, operators_sound 0 ts)
+  unfolding AreParts argument_with opened unparted expr_from and_then or_else pick
+  argument_with_sound ts = grind (arith, mark_takes, parts_sound, item_is, word_takes, expr_with_sound, sixth, no_operator, steps_sound ts, operators_sound 0 ts)
 
 mutual
   unfolding expr_at argument_at

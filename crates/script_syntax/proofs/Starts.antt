@@ -1,9 +1,5 @@
 -- What parts of a statement begin with, and what may follow them.
-use Rattle.{
-  meaning.proofs.Common.{arith, ◌≡◌, ◌⊎◌, ℕ, Bool, true, false, List, [], ◌∷◌, None, codes, list_any, same_text},
-  script_syntax.{proofs.Gives.{reserved_is_none, other_mark}, specs.Reading.{and_then, pick, after_mark, name_at, target_at, operator_at, begins_step, ends_bound, word_at}},
-  language_meaning.specs.{Token.{Token, word, mark, Mark, equals, dot, colon, tilde, open_paren, close_paren, open_bracket, close_bracket, open_brace}, Tree.{Expr, Step, OptionalExpr, Arg, binary, after, item, no_expr, some_expr, expr}, Grammar.{SpellsExpr, SpellsStep, SpellsStride, SpellsArg}},
-}
+use Rattle.{meaning.proofs.Common.{arith, ◌≡◌, ◌⊎◌, ℕ, Bool, true, false, List, [], ◌∷◌, None, codes, list_any, same_text}, script_syntax.{proofs.Gives.{reserved_is_none, other_mark}, specs.Reading.{and_then, pick, after_mark, name_at, target_at, operator_at, begins_step, ends_bound, word_at}}, language_meaning.specs.{Token.{Token, word, mark, Mark, equals, dot, colon, tilde, open_paren, close_paren, open_bracket, close_bracket, open_brace, close_brace}, Tree.{Expr, Step, OptionalExpr, Tagging, Tag, Arg, binary, after, item, no_expr, some_expr, expr}, Grammar.{SpellsTag, SpellsExpr, SpellsStep, SpellsStride, SpellsArg}}}
 
 -- ---- what an expression, an argument and a literal begin with
 
@@ -36,6 +32,9 @@ as_arg = grind arith
 pub arg_starts : (a : Arg) (ts us : List Token) → SpellsArg a ts us → StartsArg ts
 arg_starts (expr x) = grind (arith, as_arg, expr_starts)
 arg_starts _ = grind arith
+
+pub part_starts : (by : Tagging) (tag : Tag by) (a : Arg) (ts us vs : List Token) → SpellsTag by tag ts us → SpellsArg a us vs → StartsArg ts
+part_starts = grind (arith, arg_starts)
 
 pub arg_no_mark : (m : Mark) (ts : List Token) → opens_arg m ≡ false → StartsArg ts → after_mark m ts ≡ None
 unfolding after_mark
@@ -89,9 +88,9 @@ pub nil_ends : Ends 0 []
 unfolding begins_step operator_at
 nil_ends = search
 
--- what closes a list
+-- what closes parts
 abbrev pub Closes : Mark → Type 0
-Closes close = (close ≡ close_paren) ⊎ (close ≡ close_bracket)
+Closes close = (close ≡ close_paren) ⊎ (close ≡ close_bracket) ⊎ (close ≡ close_brace)
 
 -- what ends a subscript
 abbrev pub EndsBound : List Token → Type 0

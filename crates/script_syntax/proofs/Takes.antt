@@ -1,9 +1,5 @@
 -- What the small readers take.
-use Rattle.{
-  meaning.proofs.Common.{leb-true, ltb-true, eqb-true, eq-eqb, leb_tells, eqb_tells, ◌≡◌, ℕ, ◌≤◌, Bool, true, false, List, ◌∷◌, length, Some, None, refl, arith, ◌⊎◌, codes, nat_eq, Text, Binary},
-  language_meaning.specs.{Token.{Token, word, op, mark, Mark, equals, dot, comma, colon, tilde, open_paren}, Tree.{Unary, minus, invert, sub, Expr, Arg, after}, Grammar.{IsName, IsMethodName, accessor_word, level, begins_int, SpellsLiteral, IsItem, MayFollow, SpellsKeyword, IsTarget, SpellsEnd}},
-  script_syntax.{specs.Reading.{and_then, or_else, pick, after_mark, after_word, word_at, text_at, ended, is_reserved, is_method_name, name_at, target_at, dotted_at, call_at, len_at, maker_at, operator_at, sign_at, positive, negative, na_at, constant_at, negative_at, literal_at, accessor_at, Call, plain, grouped, rolled, expanded, call_of, is_item, past_comma, keyword_at, may_follow, keyword_for, key_at, is_target, split, closed, end_at}, proofs.Tools.{Only, Sound, text_is, text_tells}},
-}
+use Rattle.{meaning.proofs.Common.{leb-true, ltb-true, eqb-true, eq-eqb, leb_tells, eqb_tells, ◌≡◌, ◌↔◌, ℕ, ◌≤◌, Bool, true, false, List, ◌∷◌, length, Some, None, refl, arith, ◌⊎◌, codes, nat_eq, Text, Binary}, language_meaning.specs.{Token.{Token, word, op, mark, Mark, equals, dot, comma, tilde, open_paren}, Tree.{Unary, minus, invert, sub, Tagging, bare, named, keyed, Tag, Expr, Arg, after}, Grammar.{IsName, IsMethodName, accessor_word, level, begins_int, SpellsLiteral, IsItem, IsPart, MayFollow, SpellsTag, IsTarget, SpellsEnd}}, script_syntax.{specs.Reading.{and_then, or_else, pick, after_mark, after_word, word_at, text_at, ended, is_reserved, is_method_name, name_at, target_at, dotted_at, call_at, len_at, maker_at, operator_at, sign_at, positive, negative, na_at, constant_at, negative_at, literal_at, accessor_at, Call, plain, grouped, rolled, expanded, call_of, is_item, as_item, past_comma, keyword_at, may_follow, keyword_for, key_at, tag_at, has_name, as_part, is_target, split, closed, end_at}, proofs.Tools.{Only, Sound, text_is, text_tells}}}
 use Rattle.language_meaning.specs.Tree as tree
 
 pub mark_takes : (m : Mark) → Sound (after_mark m) (λ ts us. ts ≡ mark m ∷ us)
@@ -93,17 +89,33 @@ pub comma_takes : (close : Mark) → Sound (past_comma close) (λ ts us. (ts ≡
 unfolding past_comma and_then or_else
 comma_takes = grind (arith, mark_takes)
 
-pub keyword_takes : (ts : List Token) → SpellsKeyword (keyword_at ts).0 ts (keyword_at ts).1
+keyword_takes : (ts : List Token) → SpellsTag named (keyword_at ts).0 ts (keyword_at ts).1
 unfolding keyword_at or_else
 keyword_takes = grind (arith, target_takes)
 
-pub keyword_for_takes : (after_name : Bool) → Sound (keyword_for after_name) (λ ts y. SpellsKeyword y.0 ts y.1 × MayFollow after_name y.0)
-unfolding keyword_for may_follow pick
-keyword_for_takes = grind (arith, keyword_takes)
-
-pub key_takes : Sound key_at (λ ts y. SpellsLiteral y.0 ts (mark colon ∷ y.1))
+key_takes : Sound key_at (λ ts y. SpellsTag keyed y.0 ts y.1)
 unfolding key_at and_then
 key_takes = grind (arith, mark_takes, literal_takes)
+
+-- what may stand before a part, also after one with a name
+abbrev pub MayCome : (by : Tagging) → Bool → Tag by → Type 0
+MayCome by false tag = Unit {0}
+MayCome named true None = ⊥
+MayCome by true tag = Unit {0}
+
+pub may_come : (by : Tagging) (last tag : Tag by) → MayCome by (has_name by last) tag ↔ MayFollow by last tag
+unfolding has_name
+may_come named last tag = grind arith
+may_come by last tag = grind arith
+
+pub tag_takes : (by : Tagging) (after_name : Bool) → Sound (tag_at by after_name) (λ ts y. SpellsTag by y.0 ts y.1 × MayCome by after_name y.0)
+unfolding tag_at keyword_for may_follow pick
+tag_takes named after_name = grind (arith, keyword_takes)
+tag_takes by after_name = grind (arith, key_takes)
+
+pub part_takes : (by : Tagging) (a : Arg) (ts : List Token) → Only (λ y. (y ≡ (a, ts)) × IsPart by a) (as_part by a ts)
+unfolding as_part as_item pick
+part_takes = grind (arith, item_is)
 
 pub split_takes : (x : Expr) → Only (λ y. (x ≡ after y.0 y.1) × IsTarget y.1) (split x)
 unfolding split is_target pick

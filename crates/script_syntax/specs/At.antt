@@ -1,8 +1,8 @@
 -- Readers of what stands in forms of at most a depth.
-use Rattle.std.specs.Prelude.{ℕ, Bool, Option}
+use Rattle.std.specs.Prelude.{ℕ, Bool}
 use Rattle.meaning.specs.Text.{Text}
 use Rattle.language_meaning.specs.Token.{Mark}
-use Rattle.language_meaning.specs.Tree.{Accessor, Expr, Step, Sub, OptionalSub, OptionalArg, OptionalExpr, Arg, ArgList, Args, ArgPairs}
+use Rattle.language_meaning.specs.Tree.{Accessor, Expr, Step, Sub, OptionalSub, OptionalArg, OptionalExpr, Tagging, named, Tag, Arg, Parts}
 use Rattle.script_syntax.specs.Reading as reading
 use Rattle.script_syntax.specs.Reading.{Reader, expr_at, argument_at}
 
@@ -37,7 +37,7 @@ module _ (room : ℕ) where
   abbrev pub call : Text → Reader Step
   call = reading.call room (expr_at room) (argument_at room)
 
-  abbrev pub named_call : Reader (Text × Args)
+  abbrev pub named_call : Reader (Text × Parts named)
   named_call = reading.named_call room (expr_at room) (argument_at room)
 
   abbrev pub brackets : Reader OptionalArg
@@ -55,17 +55,14 @@ module _ (room : ℕ) where
   abbrev pub span_after : OptionalArg → Reader Sub
   span_after = reading.span_after room (expr_at room) (argument_at room)
 
-  abbrev pub items : Mark → ℕ → Reader ArgList
-  items = reading.items room (expr_at room) (argument_at room)
+  abbrev pub part_at : (by : Tagging) → Bool → Reader (Tag by × Arg)
+  part_at = reading.part_at room (expr_at room) (argument_at room)
 
-  abbrev pub arguments : Bool → ℕ → Reader Args
-  arguments = reading.arguments room (expr_at room) (argument_at room)
+  abbrev pub parts : (by : Tagging) → Mark → Bool → ℕ → Reader (Parts by)
+  parts = reading.parts room (expr_at room) (argument_at room)
 
-  abbrev pub all_arguments : Reader Args
+  abbrev pub all_arguments : Reader (Parts named)
   all_arguments = reading.all_arguments room (expr_at room) (argument_at room)
-
-  abbrev pub pairs : ℕ → Reader ArgPairs
-  pairs = reading.pairs room (expr_at room) (argument_at room)
 
   abbrev pub opened : Arg → Reader Arg
   opened = reading.opened room (expr_at room) (argument_at room)
@@ -78,9 +75,6 @@ module _ (room : ℕ) where
 
   abbrev pub unparted : Arg → Reader Arg
   unparted = reading.unparted room (expr_at room) (argument_at room)
-
-  abbrev pub named_at : Bool → Reader (Option Text × Arg)
-  named_at = reading.named_at room (expr_at room) (argument_at room)
 
   abbrev pub expr_with : ℕ → Reader Expr
   expr_with = reading.expr_with room (expr_at room) (argument_at room)

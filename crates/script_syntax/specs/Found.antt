@@ -4,7 +4,7 @@ use Rattle.std.specs.Borrow.{Bor}
 use Rattle.meaning.specs.Text.{Text}
 use Rattle.language_meaning.specs.Tree as tree
 use Rattle.language_meaning.specs.Token as spec
-use Rattle.language_meaning.specs.Depth.{depth, arg_depth, args_depth}
+use Rattle.language_meaning.specs.Depth.{depth, arg_depth, parts_depth}
 use Rattle.script_tree.specs.declared.literal.Unary.{Unary}
 use Rattle.script_tree.specs.declared.literal.Literal.{Literal}
 use Rattle.script_syntax.specs.declared.front.Call.{Call}
@@ -13,12 +13,9 @@ use Rattle.script_tokens.specs.declared.token.Binary.{Binary}
 use Rattle.script_tokens.specs.declared.token.Token.{Token}
 use Rattle.script_syntax.specs.declared.refusal.Refusal.{Refusal}
 use Rattle.script_syntax.specs.declared.refusal.Refusal.TheVariants as refusal
-use Rattle.script_tree.specs.View.{unary_of, literal_of, expr_of, sub_of, parts_of, named_parts_of, pair_parts_of}
+use Rattle.script_tree.specs.View.{unary_of, literal_of, expr_of, named_parts_of}
 use Rattle.script_tree.specs.declared.tree.Expr.{Expr}
-use Rattle.script_tree.specs.declared.tree.Sub.{Sub}
-use Rattle.script_tree.specs.declared.parts.ArgList.{ArgList}
 use Rattle.script_tree.specs.declared.parts.Args.{Args}
-use Rattle.script_tree.specs.declared.parts.ArgPairs.{ArgPairs}
 use Rattle.script_syntax.specs.Reading as reading
 use Rattle.script_tokens.specs.View.{binary_of, tokens_of}
 
@@ -50,50 +47,25 @@ call_of call.Group = reading.grouped
 call_of call.Rolling = reading.rolled
 call_of call.Expanding = reading.expanded
 
-abbrev pub items_of : ArgList → tree.ArgList
-items_of l = tree.arg_list (parts_of l)
-
-abbrev pub args_of : Args → tree.Args
-args_of l = tree.named_args (named_parts_of l)
-
-abbrev pub entries_of : ArgPairs → tree.ArgPairs
-entries_of l = tree.arg_pairs (pair_parts_of l)
-
 -- the name and the arguments of a call
-abbrev pub named_call_of : Text × Args → Text × tree.Args
-named_call_of c = (c.0, args_of c.1)
+abbrev pub named_call_of : Text × Args → Text × tree.Parts tree.named
+named_call_of c = (c.0, tree.parts (named_parts_of c.1))
 
-abbrev pub named_call_depth : Text × tree.Args → ℕ
-named_call_depth c = args_depth c.1
+abbrev pub named_call_depth : Text × tree.Parts tree.named → ℕ
+named_call_depth c = parts_depth c.1
 
-abbrev pub named_depth : Option Text × tree.Arg → ℕ
-named_depth a = arg_depth a.1
+abbrev pub part_depth : {T : Type 0} → T × tree.Arg → ℕ
+part_depth p = arg_depth p.1
 
 -- parts, and then these
-abbrev pub before_items : List tree.Arg → tree.ArgList → tree.ArgList
-before_items [] rest = rest
-before_items (a ∷ front) rest = tree.more_args a (before_items front rest)
-
-abbrev pub before_args : List (Option Text × tree.Arg) → tree.Args → tree.Args
-before_args [] rest = rest
-before_args (a ∷ front) rest = tree.more_named a.0 a.1 (before_args front rest)
-
-abbrev pub before_pairs : List (tree.Literal × tree.Arg) → tree.ArgPairs → tree.ArgPairs
-before_pairs [] rest = rest
-before_pairs (p ∷ front) rest = tree.more_pairs p.0 p.1 (before_pairs front rest)
+abbrev pub before_parts : {by : tree.Tagging} → List (tree.Tag by × tree.Arg) → tree.Parts by → tree.Parts by
+before_parts [] rest = rest
+before_parts (p ∷ front) rest = tree.more_parts p.0 p.1 (before_parts front rest)
 
 -- what a reader gives, after parts that were read before
-unfoldable pub after_items : List tree.Arg → Option (tree.ArgList × List spec.Token) → Option (tree.ArgList × List spec.Token)
-after_items front None = None
-after_items front (Some p) = Some (before_items front p.0, p.1)
-
-unfoldable pub after_args : List (Option Text × tree.Arg) → Option (tree.Args × List spec.Token) → Option (tree.Args × List spec.Token)
-after_args front None = None
-after_args front (Some p) = Some (before_args front p.0, p.1)
-
-unfoldable pub after_pairs : List (tree.Literal × tree.Arg) → Option (tree.ArgPairs × List spec.Token) → Option (tree.ArgPairs × List spec.Token)
-after_pairs front None = None
-after_pairs front (Some p) = Some (before_pairs front p.0, p.1)
+unfoldable pub after_parts : {by : tree.Tagging} → List (tree.Tag by × tree.Arg) → Option (tree.Parts by × List spec.Token) → Option (tree.Parts by × List spec.Token)
+after_parts front None = None
+after_parts front (Some p) = Some (before_parts front p.0, p.1)
 
 -- The reader gives nothing, unless memory ran out.
 abbrev pub Fails : {Y : Type 0} → Refusal → Option Y → Type 0

@@ -4,7 +4,7 @@ use Rattle.std.specs.List.{list_any}
 use Rattle.meaning.specs.Text.{Text, same_text}
 use Rattle.language_meaning.specs.Token.{Token, word, int, text, op, mark, Mark, equals, dot, comma, colon, tilde, open_paren, close_paren, open_bracket, close_bracket, open_brace, close_brace, byte_of}
 use Rattle.language_meaning.specs.Tree as tree
-use Rattle.language_meaning.specs.Tree.{Unary, minus, invert, Binary, sub, Accessor, loc, iloc, at, iat, Literal, Expr, Step, Sub, OptionalSub, OptionalArg, OptionalExpr, Arg, ArgList, Args, ArgPairs, Action, name, literal, unary, binary, after, len, make, paren, item, access, method, group, rolling, expanding, key, span, no_sub, some_sub, no_arg, some_arg, no_expr, some_expr, expr, many, row, table, nothing, no_args, more_args, no_named, more_named, no_pairs, more_pairs, import_pandas, bind, put, drop_name, drop_column, print}
+use Rattle.language_meaning.specs.Tree.{Unary, minus, invert, Binary, sub, Accessor, loc, iloc, at, iat, Literal, Expr, Step, Sub, OptionalSub, OptionalArg, OptionalExpr, Tagging, bare, named, keyed, Tag, Arg, Parts, Action, name, literal, unary, binary, after, len, make, paren, item, access, method, group, rolling, expanding, key, span, no_sub, some_sub, no_arg, some_arg, no_expr, some_expr, expr, many, row, table, nothing, no_parts, more_parts, import_pandas, bind, put, drop_name, drop_column, print}
 use Rattle.language_meaning.specs.Depth.{depth}
 use Rattle.language_meaning.specs.Grammar.{reserved_words, form_words, level, begins_int, begins_paren, begins_minus, most_depth}
 
@@ -179,7 +179,7 @@ keyword_at ts = or_else (target_at ts) (None, ts) (λ n. (Some n.0, n.1))
 
 unfoldable pub may_follow : Bool → Option Text → Bool
 may_follow true None = false
-may_follow named n = true
+may_follow after_name n = true
 
 -- the name of an argument, if it has one, where that may stand
 unfoldable pub keyword_for : Bool → Reader (Option Text)
@@ -188,6 +188,21 @@ keyword_for after_name ts = pick (may_follow after_name (keyword_at ts).0) (Some
 -- a key and its colon
 unfoldable pub key_at : Reader Literal
 key_at ts = literal_at ts >>= λ k. after_mark colon k.1 >>= λ us. Some (k.0, us)
+
+-- what stands before a part, where that may stand
+unfoldable pub tag_at : (by : Tagging) → Bool → Reader (Tag by)
+tag_at bare after_name ts = Some (tt, ts)
+tag_at named after_name ts = keyword_for after_name ts
+tag_at keyed after_name ts = key_at ts
+
+unfoldable pub has_name : (by : Tagging) → Tag by → Bool
+has_name named n = is_some n
+has_name by tag = false
+
+-- an argument that may be a part
+unfoldable pub as_part : Tagging → Arg → List Token → Read Arg
+as_part bare a ts = as_item a ts
+as_part by a ts = Some (a, ts)
 
 unfoldable pub is_target : Step → Bool
 is_target (item a) = true
@@ -217,42 +232,23 @@ module _ (room : ℕ) (inner : ℕ → Reader Expr) (argument : Reader Arg) wher
   unfoldable pub enclosed : Reader Expr
   enclosed ts = inner 0 ts >>= λ x. after_mark close_paren x.1 >>= λ us. Some (x.0, us)
 
-  -- items, and what closes them
-  unfoldable pub items : Mark → ℕ → Reader ArgList
-  items close zero ts = None
-  items close (suc n) ts =
+  -- a part, after what may stand before it
+  unfoldable pub part_at : (by : Tagging) → Bool → Reader (Tag by × Arg)
+  part_at by after_name ts = tag_at by after_name ts >>= λ t. argument t.1 >>= λ a. as_part by a.0 a.1 >>= λ b. Some ((t.0, b.0), b.1)
+
+  -- parts, and what closes them
+  unfoldable pub parts : (by : Tagging) → Mark → Bool → ℕ → Reader (Parts by)
+  parts by close after_name zero ts = None
+  parts by close after_name (suc n) ts =
       or_else (after_mark close ts)
-      (item_at ts >>= λ a. past_comma close a.1 >>= λ us. items close n us >>= λ r. Some (more_args a.0 r.0, r.1))
-      (λ us. Some (no_args, us))
+      (part_at by after_name ts >>= λ p. past_comma close p.1 >>= λ us. parts by close (has_name by (p.0).0) n us >>= λ r. Some (more_parts (p.0).0 (p.0).1 r.0, r.1))
+      (λ us. Some (no_parts, us))
 
-  -- an argument with its name, where that may stand
-  unfoldable pub named_at : Bool → Reader (Option Text × Arg)
-  named_at after_name ts = keyword_for after_name ts >>= λ k. argument k.1 >>= λ a. Some ((k.0, a.0), a.1)
-
-  -- arguments, and the parenthesis that closes them
-  unfoldable pub arguments : Bool → ℕ → Reader Args
-  arguments after_name zero ts = None
-  arguments after_name (suc n) ts =
-      or_else (after_mark close_paren ts)
-      (named_at after_name ts >>= λ a. past_comma close_paren a.1 >>= λ us. arguments (is_some (a.0).0) n us >>= λ r. Some (more_named (a.0).0 (a.0).1 r.0, r.1))
-      (λ us. Some (no_named, us))
-
-  unfoldable pub entry_at : Reader (Literal × Arg)
-  entry_at ts = key_at ts >>= λ k. argument k.1 >>= λ a. Some ((k.0, a.0), a.1)
-
-  -- the entries of a dict, and the brace that closes them
-  unfoldable pub pairs : ℕ → Reader ArgPairs
-  pairs zero ts = None
-  pairs (suc n) ts =
-      or_else (after_mark close_brace ts)
-      (entry_at ts >>= λ a. past_comma close_brace a.1 >>= λ us. pairs n us >>= λ r. Some (more_pairs (a.0).0 (a.0).1 r.0, r.1))
-      (λ us. Some (no_pairs, us))
-
-  unfoldable pub all_arguments : Reader Args
-  all_arguments ts = arguments false (length ts) ts
+  unfoldable pub all_arguments : Reader (Parts named)
+  all_arguments ts = parts named close_paren false (length ts) ts
 
   -- `.name(` with its arguments
-  unfoldable pub named_call : Reader (Text × Args)
+  unfoldable pub named_call : Reader (Text × Parts named)
   named_call ts = call_at ts >>= λ n. all_arguments n.1 >>= λ r. Some ((n.0, r.0), r.1)
 
   unfoldable pub atom : Reader Expr
@@ -301,7 +297,7 @@ module _ (room : ℕ) (inner : ℕ → Reader Expr) (argument : Reader Arg) wher
   brackets ts = or_else (after_mark open_bracket ts) (Some (no_arg, ts)) (λ us. bracketed us >>= λ a. Some (some_arg a.0, a.1))
 
   -- the rest of a step, after its first arguments
-  unfoldable pub called : Call → Text → Args → Reader Step
+  unfoldable pub called : Call → Text → Parts named → Reader Step
   called plain w r ts = Some (method w r, ts)
   called grouped w r ts = brackets ts >>= λ b. named_call b.1 >>= λ q. Some (group r b.0 (q.0).0 (q.0).1, q.1)
   called rolled w r ts = named_call ts >>= λ q. Some (rolling r (q.0).0 (q.0).1, q.1)
@@ -364,7 +360,7 @@ module _ (room : ℕ) (inner : ℕ → Reader Expr) (argument : Reader Arg) wher
   opened a ts =
       or_else (after_mark comma ts)
       (unparted a ts)
-      (λ us. pick (is_item a) (items close_paren (length us) us >>= λ r. Some (row (more_args a r.0), r.1)) None)
+      (λ us. pick (is_item a) (parts bare close_paren false (length us) us >>= λ r. Some (row (more_parts tt a r.0), r.1)) None)
 
   unfoldable pub argument_with : Reader Arg
   argument_with ts =
@@ -374,8 +370,8 @@ module _ (room : ℕ) (inner : ℕ → Reader Expr) (argument : Reader Arg) wher
       (or_else (after_word (codes "None") ts)
       (expr_with 0 ts >>= λ x. Some (expr x.0, x.1))
       (λ us. Some (nothing, us)))
-      (λ us. pairs (length us) us >>= λ r. Some (table r.0, r.1)))
-      (λ us. items close_bracket (length us) us >>= λ r. Some (many r.0, r.1)))
+      (λ us. parts keyed close_brace false (length us) us >>= λ r. Some (table r.0, r.1)))
+      (λ us. parts bare close_bracket false (length us) us >>= λ r. Some (many r.0, r.1)))
       (λ us. argument us >>= λ a. opened a.0 a.1)
 
 -- an expression, or an argument, of at most a depth

@@ -1,6 +1,5 @@
 // Statements.
 ghost use Rattle.std.specs.Prelude.{◌≡◌};
-ghost use Rattle.language_meaning.specs.Tree as tree;
 ghost use Rattle.script_tree.specs.View.{action_of, expr_of, step_of};
 ghost use Rattle.script_tokens.specs.View.{tokens_of};
 ghost use Rattle.script_syntax.specs.Found.{Gives};

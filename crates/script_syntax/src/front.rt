@@ -1,5 +1,5 @@
 // The front of the tokens that are left.
-ghost use Rattle.std.specs.Prelude.{◌≡◌, ◌≤◌, suc, option_map};
+ghost use Rattle.std.specs.Prelude.{◌≡◌, ◌≤◌, option_map};
 ghost use Rattle.std.specs.List.{list_any};
 ghost use Rattle.meaning.specs.Text.{same_text};
 ghost use Rattle.language_meaning.specs.Grammar as grammar;

@@ -21,6 +21,7 @@ mod front;
 mod grammar;
 mod laws;
 mod node;
+mod part_list;
 mod pieces;
 mod refusal;
 mod steps;

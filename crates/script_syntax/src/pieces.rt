@@ -1,5 +1,5 @@
 // Bytes to scripts.
-ghost use Rattle.std.specs.Prelude.{◌≡◌, ◌<◌, ◌≤◌, ◌^◌, ◌+◌, [], ◌∷◌, ◌++◌, length, Result, IfOk, IfErr};
+ghost use Rattle.std.specs.Prelude.{◌≡◌, ◌<◌, ◌≤◌, ◌^◌, ◌+◌, [], ◌∷◌, ◌++◌, length, Result, IfOk};
 ghost use Rattle.language_meaning.specs.Script.{most_bytes};
 ghost use Rattle.script_tree.specs.ScriptView.{statements_of};
 ghost use Rattle.script_syntax.specs.Parsed.{IsParsed};

@@ -2,6 +2,7 @@
 use Rattle.std.specs.Prelude.{List, map, Option, Some, None}
 use Rattle.meaning.specs.Text.{Text}
 use Rattle.language_meaning.specs.Tree as tree
+use Rattle.language_meaning.specs.Tree.{bare, named, keyed, Tag, Parts, no_parts, more_parts}
 use Rattle.script_tokens.specs.View.{binary_of}
 use Rattle.script_tree.specs.declared.literal.Literal.{Literal}
 use Rattle.script_tree.specs.declared.literal.Literal.TheVariants as literal
@@ -83,34 +84,37 @@ abbrev mutual
   arg_of (arg.Table' shape row) = tree.table (pairs_of_row row)
   arg_of arg.Nothing = tree.nothing
 
-  pub list_of_row : {m : _} → Row_of-Arg m → tree.ArgList
-  list_of_row end_of-Arg = tree.no_args
-  list_of_row (more_of-Arg a rest) = tree.more_args (arg_of a) (list_of_row rest)
+  pub list_of_row : {m : _} → Row_of-Arg m → Parts bare
+  list_of_row end_of-Arg = no_parts
+  list_of_row (more_of-Arg a rest) = more_parts tt (arg_of a) (list_of_row rest)
 
-  pub named_of_row : {m : _} → Row_of-Args-items-2 m → tree.Args
-  named_of_row end_of-Args-items-2 = tree.no_named
-  named_of_row (more_of-Args-items-2 n a rest) = tree.more_named n (arg_of a) (named_of_row rest)
+  pub named_of_row : {m : _} → Row_of-Args-items-2 m → Parts named
+  named_of_row end_of-Args-items-2 = no_parts
+  named_of_row (more_of-Args-items-2 n a rest) = more_parts n (arg_of a) (named_of_row rest)
 
-  pub pairs_of_row : {m : _} → Row_of-ArgPairs-items-2 m → tree.ArgPairs
-  pairs_of_row end_of-ArgPairs-items-2 = tree.no_pairs
-  pairs_of_row (more_of-ArgPairs-items-2 k a rest) = tree.more_pairs (literal_of k) (arg_of a) (pairs_of_row rest)
+  pub pairs_of_row : {m : _} → Row_of-ArgPairs-items-2 m → Parts keyed
+  pairs_of_row end_of-ArgPairs-items-2 = no_parts
+  pairs_of_row (more_of-ArgPairs-items-2 k a rest) = more_parts (literal_of k) (arg_of a) (pairs_of_row rest)
+
+abbrev pub part_of : Arg → Tag bare × tree.Arg
+part_of a = (tt, arg_of a)
 
 -- the parts of a list or a tuple
-abbrev pub parts_of : ArgList → List tree.Arg
-parts_of l = map arg_of l.items.items
+abbrev pub parts_of : ArgList → List (Tag bare × tree.Arg)
+parts_of l = map part_of l.items.items
 
-abbrev pub named_of : Option Text × Arg → Option Text × tree.Arg
+abbrev pub named_of : Option Text × Arg → Tag named × tree.Arg
 named_of a = (a.0, arg_of a.1)
 
 -- the arguments, each with its name where one is given
-abbrev pub named_parts_of : Args → List (Option Text × tree.Arg)
+abbrev pub named_parts_of : Args → List (Tag named × tree.Arg)
 named_parts_of l = map named_of l.items.items
 
-abbrev pub pair_of : Literal × Arg → tree.Literal × tree.Arg
+abbrev pub pair_of : Literal × Arg → Tag keyed × tree.Arg
 pair_of p = (literal_of p.0, arg_of p.1)
 
 -- the entries of a dictionary
-abbrev pub pair_parts_of : ArgPairs → List (tree.Literal × tree.Arg)
+abbrev pub pair_parts_of : ArgPairs → List (Tag keyed × tree.Arg)
 pair_parts_of l = map pair_of l.items.items
 
 abbrev pub action_of : Action → tree.Action

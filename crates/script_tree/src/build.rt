@@ -1,5 +1,5 @@
 // Trees that hold lists, made of their parts.
-ghost use Rattle.std.specs.Prelude.{◌≡◌, option_map};
+ghost use Rattle.std.specs.Prelude.{◌≡◌};
 ghost use Rattle.language_meaning.specs.Tree as tree;
 ghost use Rattle.script_tree.specs.View.{expr_of, step_of, arg_of, parts_of, named_parts_of, pair_parts_of, optional_arg, accessor_of, sub_of, optional_sub, optional_expr};
 
@@ -10,35 +10,35 @@ use cell_core::Words;
 
 /// The list of the parts.
 pub fn list_of(parts: ArgList) -> Arg
-    ensures { arg_of result ≡ tree.many (tree.arg_list (parts_of parts)) }
+    ensures { arg_of result ≡ tree.many (tree.parts (parts_of parts)) }
 {
     Arg::Many(parts)
 }
 
 /// The tuple of the parts.
 pub fn tuple_of(parts: ArgList) -> Arg
-    ensures { arg_of result ≡ tree.row (tree.arg_list (parts_of parts)) }
+    ensures { arg_of result ≡ tree.row (tree.parts (parts_of parts)) }
 {
     Arg::Row(parts)
 }
 
 /// The dictionary of the entries.
 pub fn table_of(entries: ArgPairs) -> Arg
-    ensures { arg_of result ≡ tree.table (tree.arg_pairs (pair_parts_of entries)) }
+    ensures { arg_of result ≡ tree.table (tree.parts (pair_parts_of entries)) }
 {
     Arg::Table(entries)
 }
 
 /// `pd.name(args)`
 pub fn make_of(name: Words, args: Args) -> Expr
-    ensures { expr_of result ≡ tree.make name (tree.named_args (named_parts_of args)) }
+    ensures { expr_of result ≡ tree.make name (tree.parts (named_parts_of args)) }
 {
     Expr::Make(name, args)
 }
 
 /// `.name(args)`
 pub fn method_of(name: Words, args: Args) -> Step
-    ensures { step_of result ≡ tree.method name (tree.named_args (named_parts_of args)) }
+    ensures { step_of result ≡ tree.method name (tree.parts (named_parts_of args)) }
 {
     Step::Method(name, args)
 }
@@ -46,8 +46,8 @@ pub fn method_of(name: Words, args: Args) -> Step
 /// `.groupby(keys)[selection].name(args)`
 pub fn group_of(keys: Args, selection: Option<Arg>, name: Words, args: Args) -> Step
     ensures { step_of result
-        ≡ tree.group (tree.named_args (named_parts_of keys)) (optional_arg selection) name
-        (tree.named_args (named_parts_of args)) }
+        ≡ tree.group (tree.parts (named_parts_of keys)) (optional_arg selection) name
+        (tree.parts (named_parts_of args)) }
 {
     Step::Group(keys, selection, name, args)
 }
@@ -55,8 +55,8 @@ pub fn group_of(keys: Args, selection: Option<Arg>, name: Words, args: Args) -> 
 /// `.rolling(window).name(args)`
 pub fn rolling_of(window: Args, name: Words, args: Args) -> Step
     ensures { step_of result
-        ≡ tree.rolling (tree.named_args (named_parts_of window)) name
-        (tree.named_args (named_parts_of args)) }
+        ≡ tree.rolling (tree.parts (named_parts_of window)) name
+        (tree.parts (named_parts_of args)) }
 {
     Step::Rolling(window, name, args)
 }
@@ -64,8 +64,8 @@ pub fn rolling_of(window: Args, name: Words, args: Args) -> Step
 /// `.expanding(window).name(args)`
 pub fn expanding_of(window: Args, name: Words, args: Args) -> Step
     ensures { step_of result
-        ≡ tree.expanding (tree.named_args (named_parts_of window)) name
-        (tree.named_args (named_parts_of args)) }
+        ≡ tree.expanding (tree.parts (named_parts_of window)) name
+        (tree.parts (named_parts_of args)) }
 {
     Step::Expanding(window, name, args)
 }

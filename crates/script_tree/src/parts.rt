@@ -1,6 +1,6 @@
 // Lists of parts of a tree.
 ghost use Rattle.std.specs.Prelude.{◌≡◌, ◌<◌, [], ◌∷◌, ◌++◌, length, slice_get, Some, OnOk, OnErr, MatchOption};
-ghost use Rattle.script_tree.specs.View.{arg_of, named_of, pair_of, literal_of};
+ghost use Rattle.script_tree.specs.View.{named_of, pair_of};
 
 use crate::literal::Literal;
 use crate::tree::Arg;
@@ -69,7 +69,7 @@ pub struct ArgList {
 }
 
 impl ArgList {
-    ghost use Rattle.script_tree.specs.View.{parts_of};
+    ghost use Rattle.script_tree.specs.View.{part_of, parts_of};
 
     /// No parts. Takes no memory.
     pub fn new(alloc: Global) -> ArgList
@@ -90,14 +90,14 @@ impl ArgList {
     /// The part at a place, counted from 0.
     pub fn at(&self, i: usize) -> &Arg
         requires { i < length (parts_of self.now) }
-        ensures { slice_get (parts_of self.now) i ≡ Some (arg_of result.now) }
+        ensures { slice_get (parts_of self.now) i ≡ Some (part_of result.now) }
     {
         &self.items[i]
     }
 
     /// Appends a part. `NoMemory` leaves the list as it was.
     pub fn push(&mut self, arg: Arg) -> Result<(), NoMemory>
-        ensures ok { OnOk result (parts_of self.new ≡ parts_of self.old ++ arg_of arg ∷ []) }
+        ensures ok { OnOk result (parts_of self.new ≡ parts_of self.old ++ part_of arg ∷ []) }
         ensures err { OnErr result (parts_of self.new ≡ parts_of self.old) }
     {
         self.items.push(arg)?;
@@ -107,7 +107,7 @@ impl ArgList {
     /// Takes the last part out; `None` exactly where there are none.
     pub fn pop(&mut self) -> Option<Arg>
         ensures { MatchOption result ((parts_of self.old ≡ []) × (parts_of self.new ≡ []))
-            (λ last. parts_of self.old ≡ parts_of self.new ++ arg_of last ∷ []) }
+            (λ last. parts_of self.old ≡ parts_of self.new ++ part_of last ∷ []) }
     {
         self.items.pop()
     }

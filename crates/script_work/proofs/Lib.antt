@@ -7,3 +7,4 @@ pub mod Fetching
 pub mod Printed
 pub mod Validity
 pub mod Hints
+pub mod Evaluations

@@ -1,6 +1,6 @@
 -- Readings one after the other, and how far they have come.
 use Rattle.{
-  form_parts.proofs.Common.{◌≡◌, ◌≤◌, ◌+◌, ℕ, Bool, List, Option, Some, None, ◌∙◌, arith, Result, Ok, Err, IfOk, IfErr, Code, Text, Contents, FaultValue, fault_of, Entry, Value, OpFault, World, entry_in, Forms},
+  form_parts.proofs.Common.{◌≡◌, ◌≤◌, ◌+◌, ℕ, Bool, List, Option, None, ◌∙◌, arith, Result, Ok, Err, IfOk, IfErr, Code, Text, Contents, FaultValue, fault_of, Entry, Value, OpFault, World, entry_in, Forms},
   meaning.proofs.Common.{option_map},
   outside_io.specs.Files.{FilesValue, Serves},
   script_meaning.specs.{Reading.{Files, Reading, Reads, at_once, gives, after, then_or, then_read}, Expression.{where_named, value_of_name}},
@@ -147,11 +147,6 @@ unknown_fault = grind (arith, goes_same, uncaused, spends_none)
 -- a name that stands for nothing
 pub unnamed_fault : (texts : List Text) (files : Files) (s : FilesValue) (bs : Bindings) (w : World) (n : Text) (f : EvalFault) → IsNoName f n (value_at bs n) → Halts Err texts files s s (at_once (value_of_name n (option_map (entry_in w) (value_at bs n)))) f
 unnamed_fault = grind (arith, goes_same, uncaused, spends_none)
-
--- the value of a name
-pub name_reads : (files : Files) (s : FilesValue) (bs : Bindings) (w : World) (n : Text) (r : Result Value EvalFault) → IfOk r (λ v. value_at bs n ≡ Some v) → IfErr r (λ f. IsNoName f n (value_at bs n))
-    → Reaches (entry_in w) w.texts files s s (at_once (value_of_name n (option_map (entry_in w) (value_at bs n)))) r
-name_reads = grind (arith, goes_same, unnamed_fault)
 
 -- what is made without a fetch, unless memory is refused
 pub made_reads : (files : Files) (s : FilesValue) (w : World) (e : Entry) (r : Result Value EvalFault) → IfOk r (λ v. entry_in w v ≡ e) → IfErr r (λ f. f ≡ NoMemory) → Reaches (entry_in w) w.texts files s s (gives e) r

@@ -3,3 +3,4 @@ pub mod Uses
 pub mod Reads
 pub mod Faults
 pub mod Work
+pub mod Evaluates

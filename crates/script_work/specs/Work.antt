@@ -2,6 +2,7 @@
 use Rattle.std.specs.Prelude.{◌≡◌, false, Option, IfSome, ⊤, Result}
 use Rattle.meaning.specs.Fault.{FaultValue}
 use Rattle.table_meaning.specs.Table.{Table}
+use Rattle.table_meaning.specs.Value.{Entry}
 use Rattle.frame_store.specs.Objects.{Tables, tables}
 use Rattle.frame_store.specs.declared.object.ObjId.{ObjId}
 use Rattle.frame_store.specs.declared.arguments.Value.{Value}
@@ -10,7 +11,7 @@ use Rattle.frame_store.specs.declared.arguments.Argument.{Argument}
 use Rattle.frame_store.specs.declared.arguments.Argument.TheVariants.{One}
 use Rattle.frame_store.specs.declared.fault.OpFault.{OpFault}
 use Rattle.script_meaning.specs.State.{State}
-use Rattle.frame_store.specs.World.{World, Sets}
+use Rattle.frame_store.specs.World.{World, Forms, Sets}
 use Rattle.settings.specs.Assigned.{without}
 use Rattle.script_work.specs.Bindings.{Bindings, bindings_of, is_named, state_over}
 use Rattle.script_work.specs.declared.work.Work.{Work}
@@ -31,8 +32,14 @@ state_in w = state_over (names_in w) (world_of w)
 abbrev pub IsUnnamedValue : Bindings → Argument → ObjId → Type 0
 IsUnnamedValue bs value id = (is_named bs id.0 ≡ false) × (value ≡ One (Object id))
 
+-- what a form answers, with the names as they were
+pub record FormsIn (r : Result Value OpFault) (meant : Result Entry FaultValue) (old new : Work) : Type 0 where
+  pub names : names_in new ≡ names_in old
+  pub answers : Forms r meant (world_of old) (world_of new)
+
 -- what a setting by a value does: the object of the value may end with it, if no name stands for it
-pub record SetsFrom (bs : Bindings) (value : Argument) (r : Result ⊤ OpFault) (on : Value) (meant : Result Table FaultValue) (old new : World) : Type 0 where
+pub record SetsFrom (value : Argument) (r : Result ⊤ OpFault) (on : Value) (meant : Result Table FaultValue) (old new : Work) : Type 0 where
+  pub names : names_in new ≡ names_in old
   pub spare : Option ObjId
-  pub unnamed : IfSome spare (IsUnnamedValue bs value)
-  pub sets : Sets r on meant (without r spare old) new
+  pub unnamed : IfSome spare (IsUnnamedValue (names_in old) value)
+  pub sets : Sets r on meant (without r spare (world_of old)) (world_of new)

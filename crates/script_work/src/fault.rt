@@ -45,9 +45,5 @@ impl From<OpFault> for EvalFault {
 pub fn evaluated(made: Result<Value, OpFault>) -> Result<Value, EvalFault>
     ensures { result ≡ evaluated made }
 {
-    match made {
-        Ok(value) => Ok(value),
-        Err(OpFault::Refused(code)) => Err(EvalFault::Refused(code)),
-        Err(OpFault::NoMemory) => Err(EvalFault::NoMemory),
-    }
+    Ok(made?)
 }

@@ -1,5 +1,5 @@
 // Calls of the functions of `pd`, and the files that they read.
-ghost use Rattle.std.specs.Prelude.{◌≡◌, ℕ, List, Result, IfOk};
+ghost use Rattle.std.specs.Prelude.{ℕ, List, Result};
 ghost use Rattle.meaning.specs.Text.{Text, Contents};
 ghost use Rattle.meaning.specs.Fault.{FaultValue};
 ghost use Rattle.table_meaning.specs.Value.{Entry};
@@ -7,10 +7,9 @@ ghost use Rattle.call_meaning.specs.declared.Function.TheVariants.{ReadCsv};
 ghost use Rattle.method_meaning.specs.Readers.{file_name_of, read_result};
 ghost use Rattle.script_meaning.specs.Reading.{at_once, then_read, of_file};
 ghost use Rattle.script_meaning.specs.Expression.{made};
-ghost use Rattle.frame_store.specs.World.{Keeps, IsKnownValue, AreKnownArguments, entry_in, arguments_in};
-ghost use Rattle.script_work.specs.Bindings.{IsOf};
+ghost use Rattle.frame_store.specs.World.{AreKnownArguments, entry_in, arguments_in};
 ghost use Rattle.outside_io.specs.Files.{Serves};
-ghost use Rattle.script_work.specs.Reads.{files_in, Reaches, ReachesBytes, RefusesLong};
+ghost use Rattle.script_work.specs.Reads.{files_in, ReachesBytes, RefusesLong};
 ghost use Rattle.script_work.specs.Faults.{IsNoFile};
 
 use crate::fault::{EvalFault, evaluated};
@@ -27,7 +26,8 @@ const MOST_BYTES: usize = 1 << 28;
 
 impl Work {
     ghost use Rattle.std.specs.Prelude.{None};
-    ghost use Rattle.script_work.specs.Work.{names_in, world_of};
+    ghost use Rattle.script_work.specs.Evaluates.{moment, IsValue, Evaluates};
+    ghost use Rattle.script_work.specs.Work.{world_of};
 
     /// What a function of `pd` gives. One that reads a file is asked for its name first, and the file is
     /// fetched then, once. The refusals are those of the function, in its order; a file that isn't there is a
@@ -39,18 +39,11 @@ impl Work {
         function: &Words,
         args: &NamedList,
     ) -> Result<Value, EvalFault>
-        requires { AreKnownArguments (world_of self.old) args.now.items.items }
-        ensures names { names_in self.new ≡ names_in self.old }
-        ensures kept { Keeps (world_of self.old) (world_of self.new) }
-        ensures reads { (held : Contents) →
-            Reaches (entry_in (world_of self.new)) (world_of self.new).texts
-            (files_in names.now held) (F.seen files.old) (F.seen files.new)
-            (made (files_in names.now held) function.now
-            (arguments_in (world_of self.old) args.now.items.items))
-            result }
-        ensures known { IfOk result (λ v. IsKnownValue (world_of self.new) v) }
-        ensures object { IfOk result (λ v. IsOf (names_in self.new) None v) }
-        ensures serves { Serves (F.seen files.old) (F.seen files.new) }
+        requires { AreKnownArguments (world_of self.old) args.now }
+        ensures { let at = moment F.seen in
+            Evaluates names.now (IsValue None) entry_in
+            (λ fs s. made fs function.now (arguments_in (world_of self.old) args.now))
+            (at self.old files.old) (at self.new files.new) result }
     {
         if !reads_file(function.as_str()) {
             return evaluated(self.make(function, args, None));
@@ -66,8 +59,8 @@ impl Work {
         names: &FileNames,
         args: &NamedList,
     ) -> Result<Bytes, EvalFault>
-        requires { AreKnownArguments (world_of self.now) args.now.items.items }
-        ensures reads { let given = arguments_in (world_of self.now) args.now.items.items in
+        requires { AreKnownArguments (world_of self.now) args.now }
+        ensures reads { let given = arguments_in (world_of self.now) args.now in
             (held : Contents) →
             ReachesBytes (λ bytes. read_result bytes given) (world_of self.now).texts
             (files_in names.now held) (F.seen files.old) (F.seen files.new)

@@ -23,7 +23,7 @@ ghost use Rattle.script_tokens.specs.View.{binary_of};
 ghost use Rattle.script_tree.specs.View.{literal_of, unary_of};
 ghost use Rattle.script_meaning.specs.Expression.{cell_of, is_minus};
 ghost use Rattle.frame_store.specs.World.{world, IsSettledWorld, entry_in, argument_in, arguments_in, subscript_in, Keeps, IsKnownValue, IsKnownArgument, AreKnownArguments, IsKnownSubscript, Forms, Sets};
-ghost use Rattle.script_work.specs.Bindings.{value_at, noted, is_spare, IsOf};
+ghost use Rattle.script_work.specs.Bindings.{value_at, noted, is_spare};
 ghost use Rattle.script_work.specs.Faults.{IsNoName, IsNoAttribute};
 
 use crate::fault::EvalFault;
@@ -32,8 +32,7 @@ use crate::names::find;
 use crate::work::Work;
 use cell_core::{Cell, Code, Grid, Label, TextDict, Words};
 use column_operators::Operator;
-use constructors::function_exists;
-use form_parts::label_of;
+use concat_forms::function_exists;
 use frame_methods::exists;
 use frame_store::{Argument, Chain, NamedList, ObjId, OpFault, Selector, Store, Subscript, Value};
 use script_tokens::Binary;
@@ -42,13 +41,13 @@ use settings::NewValue;
 use std::alloc::Global;
 
 impl Work {
-    ghost use Rattle.script_work.specs.Work.{names_in, tables_in, world_of, IsUnnamedValue, SetsFrom};
+    ghost use Rattle.script_work.specs.Evaluates.{IsValue};
+    ghost use Rattle.script_work.specs.Work.{names_in, tables_in, world_of, IsUnnamedValue, FormsIn, SetsFrom};
 
     /// The value of a name. A name without a value is a `NameError` that gives it; to say which may take
     /// memory, and want of it is the other refusal.
     pub fn named(&self, name: &Words) -> Result<Value, EvalFault>
-        ensures found { IfOk result (λ v. value_at (names_in self.now) name.now ≡ Some v) }
-        ensures known { IfOk result (λ v. IsKnownValue (world_of self.now) v) }
+        ensures found { IfOk result (IsValue (Some name.now) self.now) }
         ensures fault { IfErr result
             (λ f. IsNoName f name.now (value_at (names_in self.now) name.now)) }
     {
@@ -67,8 +66,7 @@ impl Work {
         ensures kept { Keeps (world_of self.old) (world_of self.new) }
         ensures value { IfOk result (λ v. entry_in (world_of self.new) v
             ≡ cell (cell_of (literal_of literal.now))) }
-        ensures object { IfOk result (λ v. IsOf (names_in self.new) None v) }
-        ensures known { IfOk result (λ v. IsKnownValue (world_of self.new) v) }
+        ensures found { IfOk result (IsValue None self.new) }
         ensures memory { IfErr result (λ f. f ≡ EvalFault.NoMemory) }
     {
         let cell = cell_of(&mut self.dict, literal)?;
@@ -85,7 +83,7 @@ impl Work {
         ensures memory { IfErr result (λ f. f ≡ EvalFault.NoMemory) }
     {
         let cell = cell_of(&mut self.dict, literal)?;
-        Ok(label_of(cell))
+        Ok(Label::from(cell))
     }
 
     /// An operator between two values: a new object, or a scalar. The refusals are those of
@@ -93,11 +91,10 @@ impl Work {
     pub fn infix(&mut self, op: Binary, a: Value, b: Value) -> Result<Value, OpFault>
         requires left { IsKnownValue (world_of self.old) a }
         requires right { IsKnownValue (world_of self.old) b }
-        ensures names { names_in self.new ≡ names_in self.old }
-        ensures answers { Forms result
+        ensures { FormsIn result
             (infix_result (binary_of op)
             (entry_in (world_of self.old) a) (entry_in (world_of self.old) b))
-            (world_of self.old) (world_of self.new) }
+            self.old self.new }
     {
         self.temps.reserve(1)?;
         let operator = operator_of(op);
@@ -110,10 +107,9 @@ impl Work {
     /// [`frame_ops::invert_or_negate`], in its order.
     pub fn sign(&mut self, op: Unary, a: Value) -> Result<Value, OpFault>
         requires { IsKnownValue (world_of self.old) a }
-        ensures names { names_in self.new ≡ names_in self.old }
-        ensures answers { Forms result
+        ensures { FormsIn result
             (sign_result (is_minus (unary_of op)) (entry_in (world_of self.old) a))
-            (world_of self.old) (world_of self.new) }
+            self.old self.new }
     {
         self.temps.reserve(1)?;
         let negate = is_minus(op);
@@ -135,11 +131,10 @@ impl Work {
         args: &NamedList,
         file: Option<&[u8]>,
     ) -> Result<Value, OpFault>
-        requires { AreKnownArguments (world_of self.old) args.now.items.items }
-        ensures names { names_in self.new ≡ names_in self.old }
-        ensures answers { Forms result (function_result (option_map (λ bytes. bytes.now) file.entry)
-            function.now (arguments_in (world_of self.old) args.now.items.items))
-            (world_of self.old) (world_of self.new) }
+        requires { AreKnownArguments (world_of self.old) args.now }
+        ensures { FormsIn result (function_result (option_map (λ bytes. bytes.now) file.entry)
+            function.now (arguments_in (world_of self.old) args.now))
+            self.old self.new }
     {
         self.temps.reserve(1)?;
         let name = function.as_str();
@@ -173,12 +168,11 @@ impl Work {
     pub fn method(&mut self, on: Value, chain: &Chain, args: &NamedList) -> Result<Value, OpFault>
         requires on { IsKnownValue (world_of self.old) on }
         requires before { IsKnownChain (world_of self.old) chain.now }
-        requires arguments { AreKnownArguments (world_of self.old) args.now.items.items }
-        ensures names { names_in self.new ≡ names_in self.old }
-        ensures answers { Forms result (call_result (entry_in (world_of self.old) on)
+        requires arguments { AreKnownArguments (world_of self.old) args.now }
+        ensures { FormsIn result (call_result (entry_in (world_of self.old) on)
             (chain_in (world_of self.old) chain.now)
-            (arguments_in (world_of self.old) args.now.items.items))
-            (world_of self.old) (world_of self.new) }
+            (arguments_in (world_of self.old) args.now))
+            self.old self.new }
     {
         self.temps.reserve(1)?;
         let made = chain_call(self.alloc, &mut self.store, &mut self.dict, on, chain, args)?;
@@ -198,11 +192,10 @@ impl Work {
         requires on { IsKnownValue (world_of self.old) on }
         requires first { IsKnownSubscript (world_of self.old) first.now }
         requires second { IfSome second.now (IsKnownSubscript (world_of self.old)) }
-        ensures names { names_in self.new ≡ names_in self.old }
-        ensures answers { Forms result (select_result (entry_in (world_of self.old) on) (way_of by)
+        ensures { FormsIn result (select_result (entry_in (world_of self.old) on) (way_of by)
             (subscript_in (world_of self.old) first.now)
             (option_map (subscript_in (world_of self.old)) second.now))
-            (world_of self.old) (world_of self.new) }
+            self.old self.new }
     {
         self.temps.reserve(1)?;
         let second = second.as_ref();
@@ -234,13 +227,12 @@ impl Work {
         requires first { IsKnownSubscript (world_of self.old) first.now }
         requires second { IfSome second.now (IsKnownSubscript (world_of self.old)) }
         requires value { IsKnownArgument (world_of self.old) value.now }
-        ensures names { names_in self.new ≡ names_in self.old }
-        ensures sets { SetsFrom (names_in self.old) value.now result on
+        ensures { SetsFrom value.now result on
             (assign_result (entry_in (world_of self.old) on) (way_of by)
             (subscript_in (world_of self.old) first.now)
             (option_map (subscript_in (world_of self.old)) second.now)
             (argument_in (world_of self.old) value.now))
-            (world_of self.old) (world_of self.new) }
+            self.old self.new }
     {
         let scalar = value.scalar();
         prove!(is_held(scalar));
@@ -303,8 +295,7 @@ impl Work {
     /// The number of rows. A scalar, which has none, is a `TypeError`.
     pub fn length(&self, on: Value) -> Result<Value, OpFault>
         requires { IsKnownValue (world_of self.now) on }
-        ensures { Forms result (length_result (entry_in (world_of self.now) on))
-            (world_of self.now) (world_of self.now) }
+        ensures { FormsIn result (length_result (entry_in (world_of self.now) on)) self.now self.now }
     {
         match on {
             Value::Object(id) => {
@@ -328,10 +319,10 @@ fn chain_call(
     requires live { IsLive (tables store.old) on }
     requires settled { IsSettledWorld (world store.old dict.old) }
     requires before { IsKnownChain (world store.old dict.old) chain.now }
-    requires arguments { AreKnownArguments (world store.old dict.old) args.now.items.items }
+    requires arguments { AreKnownArguments (world store.old dict.old) args.now }
     ensures { let w = world store.old dict.old in
         Forms result (call_result (entry_in w on) (chain_in w chain.now)
-        (arguments_in w args.now.items.items)) w (world store.new dict.new) }
+        (arguments_in w args.now)) w (world store.new dict.new) }
 {
     match chain {
         Chain::Plain(_) => merge_forms::method(alloc, store, dict, on, chain, args),

@@ -10,7 +10,7 @@ use Rattle.meaning.specs.Symbol.{Accessor, loc, iloc, at, iat}
 use Rattle.meaning.specs.Fault as fault
 use Rattle.meaning.specs.Fault.{FaultValue, wrong_kind, no_key, bad_value, repeated, argument, then_value}
 use Rattle.table_meaning.specs.Table.{Table, column_at, rows_of}
-use Rattle.table_meaning.specs.Value.{Entry, cell, table, Given, GivenList, GivenSub, no_given, more_given, nothing, one, row, many, entries, key_given, span_given, scalar_in}
+use Rattle.table_meaning.specs.Value.{cell, table, Given, GivenList, GivenSub, no_given, more_given, nothing, one, row, many, key_given, span_given, scalar_in}
 use Rattle.form_meaning.specs.Given.{each, is_scalar, is_frame, is_tuple_of, count_of, same_label}
 use Rattle.form_meaning.specs.Finish.{try_all, column_labels}
 use Rattle.form_meaning.specs.Infix.{same_tuple, is_boolean}

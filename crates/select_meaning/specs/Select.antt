@@ -10,10 +10,10 @@ use Rattle.meaning.specs.Operator.{cell_label}
 use Rattle.meaning.specs.Symbol.{Accessor, loc}
 use Rattle.meaning.specs.Fault.{FaultValue, wrong_kind, then_value}
 use Rattle.table_meaning.specs.Table.{ColumnOf, Table, column_at}
-use Rattle.table_meaning.specs.Value.{Entry, cell, table, Given, GivenList, GivenSub, nothing, one, row, many, entries, key_given, span_given}
+use Rattle.table_meaning.specs.Value.{Entry, cell, table, Given, GivenList, GivenSub, one, row, many, key_given}
 use Rattle.form_meaning.specs.Given.{each, is_scalar, is_truth}
 use Rattle.form_meaning.specs.Finish.{limited, finished, same_kind, across_columns}
-use Rattle.form_meaning.specs.Select.{column_place, column_places, heading_at, columns_frame, cells_of, labels_of}
+use Rattle.form_meaning.specs.Select.{column_place, column_places, columns_frame, cells_of, labels_of}
 use Rattle.pick_meaning.specs.Keys.{single_pick, listed_pick}
 use Rattle.select_meaning.specs.Keys.{Reach, reach_of, reach_by, mask_pick, all_rows_of, all_columns}
 

@@ -12,7 +12,7 @@ use Rattle.meaning.specs.Symbol.{Accessor, loc, iloc, at, iat}
 use Rattle.meaning.specs.Fault.{FaultValue, wrong_kind, bad_value, length_of, levels, no_columns, then_value}
 use Rattle.table_meaning.specs.Table.{ColumnOf, Table, column_at}
 use Rattle.table_meaning.specs.Change.{with_column, without_column, with_values}
-use Rattle.table_meaning.specs.Value.{Entry, cell, table, Given, GivenSub, nothing, one, row, many, entries, key_given, span_given}
+use Rattle.table_meaning.specs.Value.{Entry, cell, table, Given, GivenSub, one, row, many, key_given}
 use Rattle.form_meaning.specs.Given.{each, is_scalar, is_frame}
 use Rattle.form_meaning.specs.Finish.{limited_table, default_labels, missing_column, column_labels}
 use Rattle.form_meaning.specs.Infix.{same_tuple, same_tuples}

@@ -1,6 +1,7 @@
 -- Headings that are told apart by the numbers of their texts.
 use Rattle.{
-  form_parts.proofs.{Common.{◌≡◌, ◌<◌, ◌+◌, refl, ℕ, zero, suc, Bool, false, ◌||◌, cond, List, [], ◌∷◌, map, length, drop, slice_index_or, Option, Some, None, All, if◌then◌else◌, arith, rules, true, ◌++◌, ap, append_assoc, append-nil, Result, Ok, Err, ℤ, ◌-◌, ◌&&◌, take, drop_more, length-map, list_any-append, list_any_at, get_or_from_slice_get, slice_get_within, get_or-map, drop-cons, drop-length, ◌≢◌, IsSome, AllPairs, slice_get, Decides, list_any, position_from, list_all, lookup, option_map, Label, Cell, Na, Code, NoKey, AreDistinct, Text, label_datum, na_cell, LabelValue, datum, CellValue, fault_of, cell_label, FaultValue, then_value, IsSettled, heading_value, NumberedTable, Table, table_value, tuple_value, IsWhole, cell, table, GivenList, one, many, no_given, more_given, try_all, place_of_label, column_place, cells_of, same_by_number, heading_label, value_decides, label_of, headings_value, cells_value, Item, Tables, items_of}, LabelLaws.{label_given, label_one}},
+  form_parts.proofs.{Common.{◌≡◌, ◌<◌, ◌+◌, refl, ℕ, zero, suc, Bool, false, ◌||◌, cond, List, [], ◌∷◌, map, length, drop, slice_index_or, Option, Some, None, All, if◌then◌else◌, arith, rules, true, ◌++◌, ap, append_assoc, append-nil, Result, Ok, Err, ℤ, ◌-◌, ◌&&◌, take, drop_more, length-map, list_any-append, list_any_at, get_or_from_slice_get, slice_get_within, get_or-map, drop-cons, drop-length, ◌≢◌, IsSome, AllPairs, slice_get, Decides, list_any, list_all, lookup, option_map, Label, Cell, Na, Code, NoKey, AreDistinct, Text, label_datum, na_cell, LabelValue, datum, CellValue, fault_of, cell_label, FaultValue, then_value, IsSettled, heading_value, NumberedTable, Table, table_value, tuple_value, IsWhole, cell, table, GivenList, one, many, no_given, more_given, try_all, place_of_label, column_place, cells_of, same_by_number, heading_label, value_decides, label_of, headings_value, cells_value, Item, Tables, items_of}, LabelLaws.{label_given, label_one}},
+  meaning.proofs.Common.{position_from},
   indexmap.specs.IndexSet.{insert_key},
   cell_core.specs.declared.code.{Code.TheVariants.{BadValue}, Reason.TheVariants.{Repeated}},
   table_meaning.specs.Value.{nothing, row, entries},
@@ -224,26 +225,6 @@ after xs = take (length xs - 1) (drop 1 xs)
 -- scalars after those so far
 abbrev pub scalars_after : List Text → List Cell → Option (List CellValue) → Option (List CellValue)
 scalars_after texts made rest = option_map (λ cs. cells_value texts made ++ cs) rest
-
--- whether all cells from one on pass a test
-abbrev pub all_from : (CellValue → Bool) → List Text → List Cell → ℕ → Bool
-all_from test texts cells k = list_all test (cells_value texts (drop k cells))
-
-module _ (test : CellValue → Bool) (texts : List Text) (cells : List Cell) (k : ℕ) where
-  module _ (c : Cell) (b whole : Bool) (lt : k < length cells) (at : slice_get cells k ≡ Some c) (same : b ≡ test (datum texts c)) where
-    from_test : all_from test texts cells k ≡ (test (datum texts c) && all_from test texts cells (suc k))
-    from_test = cc (drop-cons cells k Na lt, get_or_from_slice_get cells k c Na at)
-
-    pub test_passed : b ≡ true → all_from test texts cells k ≡ whole → all_from test texts cells (k + 1) ≡ whole
-    test_passed is_so before =
-        let next : k + 1 ≡ suc k = omega arith in
-        cc from_test
-
-    pub test_failed : b ≡ false → all_from test texts cells k ≡ whole → false ≡ whole
-    test_failed other before = cc from_test
-
-  pub tests_done : (whole : Bool) → k ≡ length cells → all_from test texts cells k ≡ whole → true ≡ whole
-  tests_done _ end before = cc (drop-length cells)
 
 -- Lists of truth values.
 

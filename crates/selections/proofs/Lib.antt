@@ -3,7 +3,6 @@ pub mod AnswerLaws
 pub mod HeadingLaws
 pub mod RefusalLaws
 pub mod PlaceLaws
-pub mod SubscriptLaws
 pub mod TakeLaws
 pub mod KeyLaws
 pub mod SeenKeys

@@ -1,12 +1,12 @@
 -- Keys pick by texts what they pick by numbers, and a fault names a label whose text was given its number.
 use Rattle.{
-  form_parts.proofs.Common.{◌≡◌, ◌∙◌, refl, ap, sym, arith, ◌<◌, ℕ, ℤ, suc, ◌+◌, Bool, List, [], ◌∷◌, ◌++◌, map, All, Option, Some, None, Result, Ok, Err, pos, true, false, not, length, slice_index_or, unwrap_or, length-map, All-map, length-range_with_len, get_or-range_with_len, map-map, get_or-map, IfSome, IsSome, range_with_len, option_map, pointwise, Label, Cell, Boolean, Frame, AreDistinct, Text, LabelValue, label_datum, na_cell, datum, int, FaultValue, then_value, bad_value, Accessor, IsSettled, tuple_value, ColumnOf, NumberedTable, table_value, heading_value, column_at, row_of, GivenSub, same_label, same_tuple, column_labels, MakesBy, same_by_number, tuples_settled, tuple_by_number, same_number, as_it_is, OpFault, ObjId, Store, tables, object_value, world, IsSettledWorld, axis_of, headings_value, columns_value, labels_part, object_settled, CellColumn, AxisValue, HaveLevels},
+  form_parts.proofs.Common.{◌≡◌, ◌∙◌, refl, ap, sym, arith, ◌<◌, ℕ, ℤ, suc, ◌+◌, Bool, List, [], ◌∷◌, ◌++◌, map, All, Option, Some, None, Result, Ok, Err, pos, true, false, not, length, slice_index_or, unwrap_or, length-map, All-map, length-range_with_len, get_or-range_with_len, map-map, get_or-map, IfSome, IsSome, range_with_len, option_map, pointwise, Label, Cell, Boolean, Frame, AreDistinct, Text, LabelValue, label_datum, na_cell, datum, int, FaultValue, then_value, bad_value, Accessor, IsSettled, tuple_value, ColumnOf, NumberedTable, table_value, heading_value, column_at, row_of, GivenSub, same_label, same_tuple, column_labels, MakesBy, same_by_number, tuples_settled, tuple_by_number, as_it_is, OpFault, ObjId, Store, tables, object_value, world, IsSettledWorld, axis_of, headings_value, columns_value, labels_part, object_settled, CellColumn, AxisValue, HaveLevels},
   meaning.{proofs.Common.{Ordering, label_cmp}, specs.Fault.{repeated}},
   std.specs.Option.{is_some},
   indexers.specs.{Picks.{PicksBy, pick_of}, declared.keys.{PosKey.{PosKey}, Picked.{Picked}, LocKey.{LocKey}, KeyFault.{KeyFault}}, Keys.{label_key, place_key}, Masks.{is_true}},
   selections.{proofs.{HeadingLaws.{label_decides, head_settled, rest_settled}, CutLaws.{column_seen, list_is, listed_is}}, specs.Reaches.{label_key_value, tuples_value, pick_value, found_result, object_key, heading_tuple, columns_axis, is_row, is_series}},
   form_meaning.specs.Given.{is_frame},
-  index_core.specs.Labels.{order_in},
+  index_core.specs.Labels.{same_number, order_in},
   pick_meaning.{specs.{Faults.{PickFault, not_there, bound_not_unique, out_of_range, no_mask_label, step_zero, then_pick, pick_seen}, Positions.{row_or_fault, rows_at}, Leading.{leads, leading_cmp}, Labels.{unless_none, rows_of_key, rows_of_keys}, Slices.{slice_on}, Masks.{cell_or_fault, kept_by_label, masked_rows, is_kept}, Keys.{listed_pick, sliced_pick, key_pick, picked_by_label, PlaceKey, one_place, each_place, place_slice, picked_by_place, one_key, Pick}}, proofs.SeenLaws.{then_seen, rows_of_key-map, rows_of_keys-map, slice_on-map, masked_rows-map}},
   select_meaning.specs.Keys.{found_pick, found_labels, once},
 }

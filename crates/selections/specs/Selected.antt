@@ -1,14 +1,17 @@
 -- What stands before a subscript, and what is read of subscripts and lists.
-use Rattle.std.specs.Prelude.{ℕ, Bool, false, List, map, slice_index_or, Option, Some, None, if◌then◌else◌}
+use Rattle.std.specs.Prelude.{ℕ, Bool, false, List, map, slice_index_or, Option, Some, None, IfSome, option_map, if◌then◌else◌}
+use Rattle.std.specs.Borrow.{Bor}
 use Rattle.cell_core.specs.declared.cell.Label.{Label}
 use Rattle.meaning.specs.Text.{Text}
 use Rattle.meaning.specs.Cell.{CellValue}
 use Rattle.meaning.specs.Symbol.{loc, iloc, at, iat}
 use Rattle.table_meaning.specs.Table.{NumberedTable}
-use Rattle.table_meaning.specs.Value.{Given, GivenList, cell, one}
+use Rattle.table_meaning.specs.Value.{Given, GivenList, GivenSub, cell, one}
 use Rattle.form_meaning.specs.Given.{each, is_scalar, is_truth}
 use Rattle.form_meaning.specs.Select.{cells_of}
 use Rattle.select_meaning.specs.Select.{Way, plain, through}
+use Rattle.frame_store.specs.World.{World, subscript_in, IsKnownSubscript}
+use Rattle.frame_store.specs.declared.arguments.Subscript.{Subscript}
 use Rattle.frame_store.specs.declared.arguments.Selector.{Selector}
 use Rattle.frame_store.specs.declared.arguments.Selector.TheVariants as selector
 
@@ -18,6 +21,13 @@ way_of selector.Loc = through loc
 way_of selector.Iloc = through iloc
 way_of selector.At = through at
 way_of selector.Iat = through iat
+
+-- the second subscript, if there is one, and that it is known
+abbrev pub second_in : World → Option (Bor Subscript) → Option GivenSub
+second_in w second = option_map (λ key. subscript_in w key.now) second
+
+abbrev pub IsKnownSecond : World → Option (Bor Subscript) → Type 0
+IsKnownSecond w second = IfSome second (λ key. IsKnownSubscript w key.now)
 
 -- the scalars of a list of scalars alone
 abbrev pub scalars_in : GivenList → Option (List CellValue)

@@ -1,12 +1,12 @@
 // The forms of keys, which are tested before anything is looked up.
-ghost use Rattle.std.specs.Prelude.{◌≡◌, ◌≤◌, ◌∷◌, [], ℕ, List, map, take, length, IfOk, IfSome};
+ghost use Rattle.std.specs.Prelude.{◌≡◌, ◌≤◌, ◌∷◌, [], ℕ, List, take, length, IfOk, IfSome};
 ghost use Rattle.std.specs.Option.{option_map};
 ghost use Rattle.meaning.specs.Text.{Text as OneText};
 ghost use Rattle.meaning.specs.Cell.{datum};
 ghost use Rattle.table_meaning.specs.Table.{tuple_value};
 ghost use Rattle.form_meaning.specs.Finish.{try_all};
 ghost use Rattle.select_meaning.specs.Keys as meant;
-ghost use Rattle.form_parts.specs.Labels as labels;
+ghost use Rattle.cell_core.specs.Values as labels;
 ghost use Rattle.form_parts.specs.Makes.{MakesBy};
 ghost use Rattle.multi_index.specs.Axes.{HaveLevels, AreLeading};
 ghost use Rattle.indexers.specs.Keys.{FitsLevels};
@@ -16,9 +16,9 @@ ghost use Rattle.frame_store.specs.Arguments.{item_of, argument_of, subscript_of
 ghost use Rattle.selections.specs.Reaches.{accessor_of, label_key_value, bound_value, tuples_value, place_key_value, labels_in, scalar_tuple, label_alone, full_tuple, whole_or_fault};
 ghost use Rattle.selections.specs.Selected.{as_it_is};
 
-use crate::subscripts::scalars_of;
+use crate::subscripts::scalars_alone;
 use cell_core::{Cell, Cells, Label, Tuple, Tuples};
-use form_parts::{label_of, wrong_kind};
+use form_parts::wrong_kind;
 use frame_store::{Argument, Item, Items, OpFault, Selector, Subscript, Value};
 use indexers::{LocKey, PosKey, Positions};
 use std::alloc::Global;
@@ -27,7 +27,7 @@ use std::alloc::Global;
 fn single_label(alloc: Global, cell: Cell) -> Tuple
     ensures { result ≡ labels.label_of cell ∷ [] }
 {
-    Tuple::of(alloc, &[label_of(cell)])
+    Tuple::of(alloc, &[Label::from(cell)])
 }
 
 // The labels of scalars alone, in front of missing ones.
@@ -40,7 +40,7 @@ fn scalar_labels(items: &[Item]) -> Option<[Label; 4]>
     let mut labels = [Label::Na; 4];
     for k in 0..items.len() {
         match items[k].scalar() {
-            Some(cell) => labels[k] = label_of(cell),
+            Some(cell) => labels[k] = Label::from(cell),
             None => return None,
         }
     }
@@ -327,7 +327,7 @@ fn positions_of(alloc: Global, items: &[Item]) -> Result<Positions, OpFault>
     ensures { (live : Tables) (texts : List OneText) → MakesBy as_it_is texts result
         (meant.positions_in (items_of live texts items.now)) }
 {
-    match scalars_of(alloc, items)? {
+    match scalars_alone(alloc, items)? {
         Some(cells) => wholes_of(alloc, &cells),
         None => Err(wrong_kind()),
     }

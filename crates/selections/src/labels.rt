@@ -14,7 +14,7 @@ ghost use Rattle.selections.specs.Selected.{as_it_is, headings_at as meant_headi
 
 use crate::headings::first_places;
 use cell_core::{Cells, Code, Grid, Label, NoMemory, Places, TextDict, Tuple};
-use form_parts::{label_of, same_heading};
+use form_parts::same_heading;
 use frame_store::{ObjRef, OpFault};
 use std::alloc::Global;
 
@@ -87,7 +87,7 @@ pub fn column_places(
     let first = first_places(alloc, on)?;
     let mut places = Places::new(alloc);
     for k in 0..cells.len() {
-        let label = label_of(*cells.at(k));
+        let label = Label::from(*cells.at(k));
         let Some(place) = first.get(&Some(label)) else {
             return Err(missing(alloc, label));
         };

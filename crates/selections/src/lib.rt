@@ -33,5 +33,5 @@ pub use labels::{column_place, column_places, headings_at, place_of_label};
 pub use new_objects::{as_frame, copied, places_below, renamed};
 pub use reaching::{all_columns, columns_by, may_stand_alone, rows_by};
 pub use selecting::{columns_of, select, sliced};
-pub use subscripts::scalars_of;
+pub use subscripts::scalars_alone;
 pub use taking::{chosen_blocks, chosen_table};

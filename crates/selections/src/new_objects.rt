@@ -7,14 +7,14 @@ ghost use Rattle.table_meaning.specs.Table.{heading_value, table_value};
 ghost use Rattle.table_meaning.specs.Valid.{AreHeadings};
 ghost use Rattle.form_meaning.specs.Finish.{limited};
 ghost use Rattle.frame_store.specs.Objects.{tables, table_at};
-ghost use Rattle.frame_store.specs.Shown.{shown, headings_value, FormAnswers};
+ghost use Rattle.frame_store.specs.Shown.{headings_value};
+ghost use Rattle.frame_store.specs.World.{world, IsSettledWorld, Forms};
 ghost use Rattle.selections.specs.Picked.{headed_by as under_headings};
 
 use crate::planning::all_rows;
 use crate::selecting::cut_within;
 use cell_core::{Grid, NoMemory, Places, Shape, TextDict};
-use form_parts::headings_of;
-use frame_store::{Headings, ObjId, OpFault, Store, Value};
+use frame_store::{Headings, ObjId, OpFault, Store, Value, headings_of};
 use std::alloc::Global;
 
 /// The numbers below a count. `NoMemory` is the only refusal.
@@ -43,13 +43,12 @@ fn headed_by(
     requires live { IsSome (tables store.old on.0) }
     requires headed { length headings.labels ≡ length (table_at (tables store.old) on.0).headings }
     requires headings { AreHeadings shape headings.columns_name headings.labels }
-    requires settled { IsSettled shown dict.now (tables store.old) }
+    requires settled { IsSettledWorld (world store.old dict.now) }
     requires name { IsSettled heading_value dict.now headings.columns_name }
     requires labels { IsSettled headings_value dict.now headings.labels }
-    ensures settled { IsSettled shown dict.now (tables store.new) }
-    ensures answers { FormAnswers dict.now result (limited (table_value dict.now
+    ensures { Forms result (limited (table_value dict.now
         (under_headings shape headings (table_at (tables store.old) on.0))))
-        (shown dict.now (tables store.old)) (shown dict.now (tables store.new)) }
+        (world store.old dict.now) (world store.new dict.now) }
 {
     let source = store.read(on);
     let columns = places_below(alloc, source.columns())?;
@@ -70,11 +69,10 @@ pub fn copied(
     on: ObjId,
 ) -> Result<Value, OpFault>
     requires live { IsSome (tables store.old on.0) }
-    requires settled { IsSettled shown dict.now (tables store.old) }
-    ensures settled { IsSettled shown dict.now (tables store.new) }
-    ensures answers { FormAnswers dict.now result
+    requires settled { IsSettledWorld (world store.old dict.now) }
+    ensures { Forms result
         (limited (table_value dict.now (table_at (tables store.old) on.0)))
-        (shown dict.now (tables store.old)) (shown dict.now (tables store.new)) }
+        (world store.old dict.now) (world store.new dict.now) }
 {
     let source = store.read(on);
     let headings = headings_of(alloc, &source)?;
@@ -95,13 +93,12 @@ pub fn renamed(
     requires headed { length headings.labels ≡ length (table_at (tables store.old) on.0).headings }
     requires headings { AreHeadings (table_at (tables store.old) on.0).shape headings.columns_name
         headings.labels }
-    requires settled { IsSettled shown dict.now (tables store.old) }
+    requires settled { IsSettledWorld (world store.old dict.now) }
     requires name { IsSettled heading_value dict.now headings.columns_name }
     requires labels { IsSettled headings_value dict.now headings.labels }
-    ensures settled { IsSettled shown dict.now (tables store.new) }
-    ensures answers { FormAnswers dict.now result (limited (table_value dict.now (under_headings
+    ensures { Forms result (limited (table_value dict.now (under_headings
         (table_at (tables store.old) on.0).shape headings (table_at (tables store.old) on.0))))
-        (shown dict.now (tables store.old)) (shown dict.now (tables store.new)) }
+        (world store.old dict.now) (world store.new dict.now) }
 {
     let shape = store.read(on).shape();
     headed_by(alloc, store, dict, on, shape, headings)
@@ -119,13 +116,12 @@ pub fn as_frame(
     requires live { IsSome (tables store.old on.0) }
     requires headed { length headings.labels ≡ length (table_at (tables store.old) on.0).headings }
     requires headings { AreHeadings Frame headings.columns_name headings.labels }
-    requires settled { IsSettled shown dict.now (tables store.old) }
+    requires settled { IsSettledWorld (world store.old dict.now) }
     requires name { IsSettled heading_value dict.now headings.columns_name }
     requires labels { IsSettled headings_value dict.now headings.labels }
-    ensures settled { IsSettled shown dict.now (tables store.new) }
-    ensures answers { FormAnswers dict.now result (limited (table_value dict.now
+    ensures { Forms result (limited (table_value dict.now
         (under_headings Frame headings (table_at (tables store.old) on.0))))
-        (shown dict.now (tables store.old)) (shown dict.now (tables store.new)) }
+        (world store.old dict.now) (world store.new dict.now) }
 {
     headed_by(alloc, store, dict, on, Shape::Frame, headings)
 }

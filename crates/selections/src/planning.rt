@@ -1,6 +1,5 @@
 // Plans of selections: what they take from a table that is read.
-ghost use Rattle.std.specs.Prelude.{◌≡◌, ◌<◌, ◌∷◌, [], List, length, IfOk, IfSome};
-ghost use Rattle.std.specs.Option.{option_map};
+ghost use Rattle.std.specs.Prelude.{◌≡◌, ◌<◌, ◌∷◌, [], List, length, IfOk};
 ghost use Rattle.cell_core.specs.declared.grid.Shape.TheVariants.{Frame};
 ghost use Rattle.meaning.specs.Text.{Text as OneText};
 ghost use Rattle.table_meaning.specs.Settled.{IsSettled};
@@ -14,13 +13,13 @@ ghost use Rattle.frame_store.specs.Arguments.{object_value, items_of, subscript_
 ghost use Rattle.frame_store.specs.World.{world, entry_in, subscript_in, IsKnownValue, IsKnownSubscript, IsKnownTable, IsSettledWorld};
 ghost use Rattle.selections.specs.Plans.{rows_in, TakesPicked, TakesAll, has_single_row, has_single_column, reach_of_plan, IsPlanFor, PlansBy};
 ghost use Rattle.selections.specs.Reaches.{accessor_of, reach_value, PicksBelow, ReachesWithin};
-ghost use Rattle.selections.specs.Selected.{each_truth, way_of};
+ghost use Rattle.selections.specs.Selected.{IsKnownSecond, second_in, each_truth, way_of};
 
 use crate::labels::{column_place, column_places};
 use crate::reaching::{Reach, all_columns, mask_rows, reach_by};
-use crate::subscripts::scalars_of;
-use cell_core::{Cell, Grid, Places, Rows, Shape, TextDict};
-use form_parts::{label_of, wrong_kind};
+use crate::subscripts::scalars_alone;
+use cell_core::{Cell, Grid, Label, Places, Rows, Shape, TextDict};
+use form_parts::wrong_kind;
 use frame_store::{Argument, Item, ObjId, ObjRef, OpFault, Selector, Store, Subscript, Value};
 use indexers::Picked;
 use std::alloc::Global;
@@ -163,7 +162,7 @@ fn list_plan(
         (meant.list_reach (table_value dict.now on.now) (items_of live dict.now items.now)) }
     ensures whole { IfOk result (IsPlanFor on.now) }
 {
-    match scalars_of(alloc, items)? {
+    match scalars_alone(alloc, items)? {
         Some(cells) => {
             let places = column_places(alloc, dict, on, &cells)?;
             Ok(whole_columns(on, places, Extent::Frame))
@@ -214,7 +213,7 @@ fn value_plan(
 {
     match value {
         Value::Scalar(cell) => {
-            let place = column_place(alloc, dict, on, label_of(cell))?;
+            let place = column_place(alloc, dict, on, Label::from(cell))?;
             let mut columns = Places::new(alloc);
             columns.push(place)?;
             Ok(whole_columns(on, columns, Extent::Column))
@@ -286,10 +285,10 @@ fn access_plan(
     requires levels { HaveLevels (length on.now.level_names) on.now.labels }
     requires settled { IsSettledWorld (world store.now dict.now) }
     requires first { IsKnownSubscript (world store.now dict.now) first.now }
-    requires second { IfSome second (λ key. IsKnownSubscript (world store.now dict.now) key.now) }
+    requires second { IsKnownSecond (world store.now dict.now) second }
     ensures plan { PlansBy dict.now on.now result (reach_by on.now.shape (accessor_of by)
         (table_value dict.now on.now) (subscript_in (world store.now dict.now) first.now)
-        (option_map (λ key. subscript_in (world store.now dict.now) key.now) second.entry)) }
+        (second_in (world store.now dict.now) second.entry)) }
     ensures whole { IfOk result (IsPlanFor on.now) }
 {
     let reach = reach_by(alloc, store, dict, on, by, first, second)?;
@@ -309,10 +308,10 @@ fn plain_plan(
     requires levels { HaveLevels (length on.now.level_names) on.now.labels }
     requires settled { IsSettledWorld (world store.now dict.now) }
     requires first { IsKnownSubscript (world store.now dict.now) first.now }
-    requires second { IfSome second (λ key. IsKnownSubscript (world store.now dict.now) key.now) }
+    requires second { IsKnownSecond (world store.now dict.now) second }
     ensures plan { PlansBy dict.now on.now result (meant.way_reach meant.plain
         (table_value dict.now on.now) (subscript_in (world store.now dict.now) first.now)
-        (option_map (λ key. subscript_in (world store.now dict.now) key.now) second.entry)) }
+        (second_in (world store.now dict.now) second.entry)) }
     ensures whole { IfOk result (IsPlanFor on.now) }
 {
     if is_truth_list(first) {
@@ -339,10 +338,10 @@ pub(crate) fn plan_for(
     requires levels { HaveLevels (length on.now.level_names) on.now.labels }
     requires settled { IsSettledWorld (world store.now dict.now) }
     requires first { IsKnownSubscript (world store.now dict.now) first.now }
-    requires second { IfSome second (λ key. IsKnownSubscript (world store.now dict.now) key.now) }
+    requires second { IsKnownSecond (world store.now dict.now) second }
     ensures plan { PlansBy dict.now on.now result (meant.way_reach (way_of by)
         (table_value dict.now on.now) (subscript_in (world store.now dict.now) first.now)
-        (option_map (λ key. subscript_in (world store.now dict.now) key.now) second.entry)) }
+        (second_in (world store.now dict.now) second.entry)) }
     ensures whole { IfOk result (IsPlanFor on.now) }
 {
     match by {

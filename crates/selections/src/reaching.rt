@@ -1,5 +1,5 @@
 // The rows and columns that keys reach.
-ghost use Rattle.std.specs.Prelude.{◌≡◌, ◌<◌, ◌≤◌, List, length, map, All, Result, IfOk, IfSome, Some, None, not};
+ghost use Rattle.std.specs.Prelude.{◌≡◌, ◌<◌, ◌≤◌, List, length, All, Result, IfOk, IfSome, Some, None, not};
 ghost use Rattle.std.specs.List.{range_with_len};
 ghost use Rattle.std.specs.Option.{option_map, is_some};
 ghost use Rattle.cell_core.specs.declared.grid.Shape.TheVariants.{Series, Frame};
@@ -14,6 +14,7 @@ ghost use Rattle.table_meaning.specs.Settled.{IsSettled};
 ghost use Rattle.frame_store.specs.World.{world, subscript_in, IsKnownSubscript, IsSettledWorld};
 ghost use Rattle.indexers.specs.Keys.{FitsLevels};
 ghost use Rattle.selections.specs.Reaches.{label_key_value, tuples_value, accessor_of, pick_value, reach_value, refusal_of, found_result, columns_axis, object_key, PicksBelow, ReachesWithin, CanSelect, is_series, is_row};
+ghost use Rattle.selections.specs.Selected.{IsKnownSecond, second_in};
 
 use crate::keys::{joined_key, label_key, position_key, whole_key};
 use crate::new_objects::places_below;
@@ -401,11 +402,11 @@ pub(crate) fn reach_by(
     requires table { CanSelect dict.now on.now }
     requires settled { IsSettledWorld (world store.now dict.now) }
     requires first { IsKnownSubscript (world store.now dict.now) first.now }
-    requires second { IfSome second (λ key. IsKnownSubscript (world store.now dict.now) key.now) }
+    requires second { IsKnownSecond (world store.now dict.now) second }
     ensures reach { MakesBy reach_value dict.now result (meant.reach_by on.now.shape
         (accessor_of by) (table_value dict.now on.now)
         (subscript_in (world store.now dict.now) first.now)
-        (option_map (λ key. subscript_in (world store.now dict.now) key.now) second.entry)) }
+        (second_in (world store.now dict.now) second.entry)) }
     ensures within { IfOk result (ReachesWithin on.now) }
 {
     match (on.shape(), second) {

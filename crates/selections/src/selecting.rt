@@ -1,6 +1,5 @@
 // Selections: a plan of a table that is read, which one call of the store carries out.
-ghost use Rattle.std.specs.Prelude.{◌≡◌, ◌<◌, ◌^◌, ◌∷◌, [], true, false, List, length, slice_index_or, All, Some, None, IfOk, IfSome, OnErr};
-ghost use Rattle.std.specs.Option.{option_map};
+ghost use Rattle.std.specs.Prelude.{◌≡◌, ◌<◌, ◌^◌, ◌∷◌, [], true, false, List, length, slice_index_or, All, Some, None, IfOk, OnErr};
 ghost use Rattle.cell_core.specs.Grids.{AreRowsBelow, place_from, IsPlace};
 ghost use Rattle.cell_core.specs.declared.grid.Shape.TheVariants.{Frame};
 ghost use Rattle.meaning.specs.Text.{Text as OneText};
@@ -16,7 +15,7 @@ ghost use Rattle.frame_store.specs.Arguments.{object_value, shape_at, IsLiveObje
 ghost use Rattle.frame_store.specs.Shown.{Makes};
 ghost use Rattle.frame_store.specs.World.{world, entry_in, subscript_in, IsKnownValue, IsKnownSubscript, IsKnownTable, IsSettledWorld, Forms};
 ghost use Rattle.selections.specs.Plans.{taken_table, has_single_column, reach_of_plan, cut_by, IsPlanFor, CanTake};
-ghost use Rattle.selections.specs.Selected.{as_it_is, way_of};
+ghost use Rattle.selections.specs.Selected.{IsKnownSecond, second_in, as_it_is, way_of};
 ghost use Rattle.selections.specs.Chosen.{AreSettledHeadings};
 ghost use Rattle.selections.specs.Across.{HaveKind, cells_across};
 
@@ -28,9 +27,10 @@ use crate::reaching::columns_axis;
 use crate::taking::{chosen_table, table_under};
 use cell_core::{Code, Grid, Kind, Label, NoMemory, Places, Rows, Shape, TextDict};
 use column_core::Column;
-use form_parts::{headings_of, placed, within_limits, wrong_kind};
+use form_parts::{within_limits, wrong_kind};
 use frame_store::{
     Blocks, Headings, ObjId, ObjRef, OpFault, Selector, Store, Subscript, Table, Value,
+    headings_of, placed,
 };
 use multi_index::Axis;
 use std::alloc::Global;
@@ -377,10 +377,10 @@ pub fn select(
     requires on { IsKnownValue (world store.old dict.old) on }
     requires settled { IsSettledWorld (world store.old dict.old) }
     requires first { IsKnownSubscript (world store.old dict.old) first.now }
-    requires second { IfSome second (λ key. IsKnownSubscript (world store.old dict.old) key.now) }
+    requires second { IsKnownSecond (world store.old dict.old) second }
     ensures { Forms result (meant.select_result (entry_in (world store.old dict.old) on) (way_of by)
         (subscript_in (world store.old dict.old) first.now)
-        (option_map (λ key. subscript_in (world store.old dict.old) key.now) second.entry))
+        (second_in (world store.old dict.old) second.entry))
         (world store.old dict.old) (world store.new dict.new) }
 {
     let Value::Object(id) = on else {

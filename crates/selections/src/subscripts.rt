@@ -12,7 +12,7 @@ use frame_store::Item;
 use std::alloc::Global;
 
 /// The scalars of a list of scalars alone. `NoMemory` is the only refusal.
-pub fn scalars_of(alloc: Global, items: &[Item]) -> Result<Option<Cells>, NoMemory>
+pub fn scalars_alone(alloc: Global, items: &[Item]) -> Result<Option<Cells>, NoMemory>
     ensures { IfOk result (λ found. (live : Tables) (texts : List OneText)
         → option_map (cells_value texts) found ≡ scalars_in (items_of live texts items.now)) }
 {

@@ -1,9 +1,9 @@
 // Tables of rows that are taken from another table.
-ghost use Rattle.std.specs.Prelude.{◌≡◌, ◌<◌, ℕ, length, map, slice_index, All, Some, IfOk};
+ghost use Rattle.std.specs.Prelude.{◌≡◌, ◌<◌, length, map, slice_index, All, Some, IfOk};
 ghost use Rattle.column_core.specs.Columns.{column_with};
 ghost use Rattle.column_core.specs.Lanes.{lane_row};
 ghost use Rattle.column_core.specs.Moves.{picked_row, IsPlaceOf};
-ghost use Rattle.table_meaning.specs.Valid.{IsWhole, AreHeadings};
+ghost use Rattle.table_meaning.specs.Valid.{AreHeadings};
 ghost use Rattle.frame_store.specs.Parts.{block_column, IsSingle};
 ghost use Rattle.selections.specs.Chosen.{cells_by_place, columns_at, chosen, chosen_under};
 

@@ -1,9 +1,9 @@
 -- Values for the cells that a setting reaches.
 use Rattle.{
-  form_parts.proofs.Common.{slice_get_within, get_or_from_slice_get, drop_more, take_more, ◌≡◌, ℕ, ◌+◌, ◌<◌, ◌%◌, Bool, true, false, List, [], ◌∷◌, ◌++◌, length, take, drop, arith, Some, Result, Ok, drop-length, slice_get, slice_index, Cell, Na, Kind, Text, CellValue, datum, holds, FaultValue, then_value, ColumnOf, NumberedTable, Table, column_at, MakesBy, OpFault, cells_value},
+  form_parts.proofs.Common.{column_listed, slice_get_within, get_or_from_slice_get, drop_more, take_more, ◌≡◌, ℕ, ◌+◌, ◌<◌, ◌%◌, Bool, true, false, List, [], ◌∷◌, ◌++◌, length, take, drop, arith, Some, Result, Ok, drop-length, slice_get, slice_index, Cell, Na, Kind, Text, CellValue, datum, holds, FaultValue, then_value, ColumnOf, NumberedTable, Table, column_at, MakesBy, OpFault, cells_value},
   select_meaning.specs.Set.{fit_from},
   selections.specs.Selected.{as_it_is},
-  settings.specs.{Assigned.{column_listed}, Values.{kind_there, HasKinds}},
+  settings.specs.Values.{kind_there, HasKinds},
 }
 
 -- cells so far

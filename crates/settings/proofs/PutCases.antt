@@ -1,7 +1,7 @@
 -- Columns for the rows of a frame, and rows that a frame gets with a column.
 use Rattle.{
-  form_parts.proofs.Common.{length-map, All-replicate, length-map-range_with_len, nat_tests, ◌≡◌, ℕ, ◌<◌, true, List, [], ◌∷◌, length, replicate, arith, Option, Some, None, Result, Ok, IfOk, map-put_at, cell_given, cells_given, columns_given, columns_part, labels_value, headings_value, columns_value, Tables, OpFault, Cell, Na, Label, Series, taken, Text, CellValue, LabelValue, datum, label_datum, na_cell, IsGiven, AreGiven, AxisValue, range_axis, CellColumn, IsSettled, NumberedTable, table_value, column_at, no_column, with_column, IsWhole, default_labels, same_tuples, default_seen},
-  settings.{proofs.{CellLaws.{none_seen}, AlignLaws.{tuples_decide, own_column, taken_seen}, PutLaws.{put_by, put_settled, rows_seen, rows_settled}}, specs.{declared.values.SetValue.{SetValue, TheVariants.{Same, Listed}}, Values.{value_in}, Assigned.{table_column, column_seen, put_place, with_axis}}},
+  form_parts.proofs.Common.{column_seen, length-map, All-replicate, length-map-range_with_len, nat_tests, ◌≡◌, ℕ, ◌<◌, true, List, [], ◌∷◌, length, replicate, arith, Option, Some, None, Result, Ok, IfOk, map-put_at, cell_given, cells_given, columns_given, columns_part, labels_value, headings_value, columns_value, Tables, OpFault, Cell, Na, Label, Series, taken, Text, CellValue, LabelValue, datum, label_datum, na_cell, IsGiven, AreGiven, AxisValue, range_axis, CellColumn, IsSettled, NumberedTable, table_value, column_at, no_column, with_column, IsWhole, default_labels, same_tuples, default_seen},
+  settings.{proofs.{CellLaws.{none_seen}, AlignLaws.{tuples_decide, own_column, taken_seen}, PutLaws.{put_by, put_settled, rows_seen, rows_settled}}, specs.{declared.values.SetValue.{SetValue, TheVariants.{Same, Listed}}, Values.{value_in}, Assigned.{table_column, put_place, with_axis}}},
   selections.proofs.AnswerLaws.{column_seen as first_column},
   select_meaning.specs.Set.{put_result, with_rows, list_set, column_at_rows, series_set},
 }

@@ -1,9 +1,9 @@
 -- Columns that are put into a frame.
 use Rattle.{
-  form_parts.proofs.Common.{map-map, length-map, length-set, length-append, All-map, All-push, nat_tests, ◌≡◌, ℕ, ◌<◌, List, [], ◌∷◌, ◌++◌, length, map, refl, arith, All, Option, Some, None, Result, Ok, ◌≢◌, IsSome, IfSome, slice_index_or, unwrap_or, ColumnOf, NumberedTable, Table, table_value, tuple_value, IsSettled, put_at, with_column, AreHeadings, IsWhole, Cell, Na, Label, Shape, Frame, Text, CellValue, LabelValue, label_datum, AreGiven, FaultValue, then_value, AxisValue, CellColumn, missing_column, HeadingList, HaveRows, table_with, Tables, with_object, labels_value, headings_value, columns_value, map-put_at, table_settled, columns_name_part, headings_part, columns_part, column_settled},
+  form_parts.proofs.Common.{column_seen, map-map, length-map, length-set, length-append, All-map, All-push, nat_tests, ◌≡◌, ℕ, ◌<◌, List, [], ◌∷◌, ◌++◌, length, map, refl, arith, All, Option, Some, None, Result, Ok, ◌≢◌, IsSome, IfSome, slice_index_or, unwrap_or, ColumnOf, NumberedTable, Table, table_value, tuple_value, IsSettled, put_at, with_column, AreHeadings, IsWhole, Cell, Na, Label, Shape, Frame, Text, CellValue, LabelValue, label_datum, AreGiven, FaultValue, then_value, AxisValue, CellColumn, missing_column, HeadingList, HaveRows, table_with, Tables, with_object, labels_value, headings_value, columns_value, map-put_at, table_settled, columns_name_part, headings_part, columns_part, column_settled},
   meaning.proofs.Common.{set-get_or, all_pairs_push, IfNone},
   select_meaning.specs.Set.{put_result, with_rows},
-  settings.{specs.Assigned.{table_column, column_seen, put_place, missing_cells, with_axis}, proofs.ColumnLaws.{map-replicate, length-replicate}},
+  settings.{specs.Assigned.{table_column, put_place, missing_cells, with_axis}, proofs.ColumnLaws.{map-replicate, length-replicate}},
 }
 
 -- the headings that there are then

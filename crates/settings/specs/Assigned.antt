@@ -1,25 +1,21 @@
 -- What settings are made of.
-use Rattle.std.specs.Prelude.{◌≡◌, ◌≢◌, ℕ, ◌+◌, true, List, map, length, nat_lt, replicate, unwrap_or, Option, Some, None, option_map, Result, Ok, Err, ⊤, if◌then◌else◌}
-use Rattle.std.specs.Borrow.{Bor}
-use Rattle.std.specs.List.{list_all}
+use Rattle.std.specs.Prelude.{◌≢◌, ℕ, ◌+◌, List, map, length, nat_lt, replicate, unwrap_or, Option, Some, None, Result, Ok, Err, ⊤, if◌then◌else◌}
 use Rattle.cell_core.specs.declared.cell.Cell.{Cell}
 use Rattle.cell_core.specs.declared.cell.Cell.TheVariants.{Na}
-use Rattle.cell_core.specs.declared.cell.Kind.{Kind}
 use Rattle.meaning.specs.Text.{Text}
-use Rattle.meaning.specs.Cell.{CellValue, LabelValue, datum, holds}
+use Rattle.meaning.specs.Cell.{LabelValue}
 use Rattle.meaning.specs.Fault.{FaultValue, limit}
 use Rattle.multi_index.specs.Axes.{AxisValue}
 use Rattle.column_core.specs.Columns.{CellColumn}
 use Rattle.table_meaning.specs.Table.{ColumnOf, NumberedTable}
-use Rattle.table_meaning.specs.Value.{Given, GivenSub, one, table}
+use Rattle.table_meaning.specs.Value.{Given, one, table}
 use Rattle.form_meaning.specs.Finish.{within_limits}
 use Rattle.form_meaning.specs.Select.{place_of_label}
 use Rattle.frame_store.specs.Objects.{Tables}
 use Rattle.frame_store.specs.Arguments.{object_value, argument_of, IsLiveObject, IsLiveArgument}
-use Rattle.frame_store.specs.Shown.{cells_value, spent}
-use Rattle.frame_store.specs.World.{World, subscript_in, IsKnown}
+use Rattle.frame_store.specs.Shown.{spent}
+use Rattle.frame_store.specs.World.{World, IsKnown}
 use Rattle.frame_store.specs.declared.object.ObjId.{ObjId}
-use Rattle.frame_store.specs.declared.arguments.Subscript.{Subscript}
 use Rattle.frame_store.specs.declared.arguments.Value.{Value}
 use Rattle.frame_store.specs.declared.arguments.Value.TheVariants.{Object, Scalar}
 use Rattle.frame_store.specs.declared.fault.OpFault.{OpFault}
@@ -33,10 +29,6 @@ new_value tables texts (Moved id) = one (table (object_value tables texts id))
 
 abbrev pub new_value_in : World → NewValue → Given
 new_value_in w value = new_value w.tables w.texts value
-
--- the second subscript, if there is one
-abbrev pub second_in : World → Option (Bor Subscript) → Option GivenSub
-second_in w second = option_map (λ key. subscript_in w key.now) second
 
 -- the object that ends with the setting
 abbrev pub moved_object : NewValue → Option ObjId
@@ -60,20 +52,9 @@ IsKnownNew w value = IsKnown IsLiveNew new_value w value
 abbrev pub without : Result ⊤ OpFault → Option ObjId → World → World
 without r spare w = record { tables = spent r spare w.tables; texts = w.texts }
 
--- a column of the kind may have all the cells, whatever the texts are
-abbrev pub IsKindOf : List Cell → Kind → Type 0
-IsKindOf cells kind = (texts : List Text) → list_all (holds kind) (cells_value texts cells) ≡ true
-
--- a column of a kernel as a column of a table, and with texts
+-- a column of a kernel as a column of a table
 abbrev pub table_column : CellColumn → ColumnOf Cell
 table_column c = record { kind = c.kind; cells = c.cells }
-
-abbrev pub column_seen : List Text → CellColumn → ColumnOf CellValue
-column_seen texts c = record { kind = c.kind; cells = map (datum texts) c.cells }
-
--- the column of these cells, with texts
-abbrev pub column_listed : List Cell → List Text → Kind → ColumnOf CellValue
-column_listed cells texts kind = record { kind = kind; cells = map (datum texts) cells }
 
 -- how many columns there are after one was put at a place
 abbrev pub count_after : ℕ → ℕ → ℕ

@@ -10,8 +10,8 @@ ghost use Rattle.form_parts.specs.Makes.{MakesBy};
 ghost use Rattle.frame_store.specs.Objects.{tables};
 ghost use Rattle.frame_store.specs.World.{world, entry_in, subscript_in, IsKnownValue, IsKnownSubscript, IsKnownTable, IsSettledWorld, Sets};
 ghost use Rattle.selections.specs.Reaches.{accessor_of, CanSelect};
-ghost use Rattle.selections.specs.Selected.{as_it_is, way_of};
-ghost use Rattle.settings.specs.Assigned.{new_value_in, second_in, moved_object, IsKnownNew, IsOther, without};
+ghost use Rattle.selections.specs.Selected.{IsKnownSecond, second_in, as_it_is, way_of};
+ghost use Rattle.settings.specs.Assigned.{new_value_in, moved_object, IsKnownNew, IsOther, without};
 ghost use Rattle.settings.specs.Values.{value_in, target_value, kind_added, IsLiveSetValue, IsTargetOf};
 ghost use Rattle.settings.specs.Changes.{ChangesBy, SetsBy, IsChangeOf, IsSettingOf};
 
@@ -93,7 +93,7 @@ fn access_change(
     requires levels { HaveLevels (length on.now.level_names) on.now.labels }
     requires settled { IsSettledWorld (world store.now dict.now) }
     requires first { IsKnownSubscript (world store.now dict.now) first.now }
-    requires second { IfSome second (λ key. IsKnownSubscript (world store.now dict.now) key.now) }
+    requires second { IsKnownSecond (world store.now dict.now) second }
     requires value { IsKnownNew (world store.now dict.now) value }
     ensures change { ChangesBy dict.now on.now result
         (meant.access_set (accessor_of by) (table_value dict.now on.now)
@@ -156,7 +156,7 @@ fn setting_for(
     requires levels { HaveLevels (length on.now.level_names) on.now.labels }
     requires settled { IsSettledWorld (world store.now dict.now) }
     requires first { IsKnownSubscript (world store.now dict.now) first.now }
-    requires second { IfSome second (λ key. IsKnownSubscript (world store.now dict.now) key.now) }
+    requires second { IsKnownSecond (world store.now dict.now) second }
     requires value { IsKnownNew (world store.now dict.now) value }
     ensures setting { SetsBy (tables store.now) dict.now on.now result
         (meant.table_set (way_of by) (table_value dict.now on.now)
@@ -222,7 +222,7 @@ pub fn assign(
     requires on { IsKnownValue (world store.old dict.old) on }
     requires settled { IsSettledWorld (world store.old dict.old) }
     requires first { IsKnownSubscript (world store.old dict.old) first.now }
-    requires second { IfSome second (λ key. IsKnownSubscript (world store.old dict.old) key.now) }
+    requires second { IsKnownSecond (world store.old dict.old) second }
     requires value { IsKnownNew (world store.old dict.old) value }
     requires other { IfSome (moved_object value) (IsOther on) }
     ensures { Sets result on (meant.assign_result (entry_in (world store.old dict.old) on)

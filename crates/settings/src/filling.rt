@@ -1,5 +1,5 @@
 // The values for the cells that a setting reaches, and what is tested of them.
-ghost use Rattle.std.specs.Prelude.{◌≡◌, ◌<◌, ◌-◌, ◌*◌, ◌^◌, ◌⊎◌, min, ℕ, List, length, replicate, IfOk};
+ghost use Rattle.std.specs.Prelude.{◌≡◌, ◌<◌, ◌-◌, ◌*◌, ◌^◌, ◌⊎◌, min, List, length, replicate, IfOk};
 ghost use Rattle.cell_core.specs.declared.code.Code.TheVariants as code;
 ghost use Rattle.cell_core.specs.declared.code.Reason.TheVariants as reason;
 ghost use Rattle.cell_core.specs.declared.grid.Shape.TheVariants.{Series};
@@ -21,14 +21,13 @@ ghost use Rattle.settings.specs.Grown.{reached_tuples};
 ghost use Rattle.settings.specs.Values.{value_in, reached_value, target_value, AddsOnOne, IsLiveSetValue, IsReachedOf, IsTargetOf, Tests, TestsThat, cells_reached, kind_there, HasKinds, count_with, rows_after, columns_after};
 
 use crate::aligning::aligned_cells;
-use crate::columns::list_kind;
 use crate::targets::{Reached, Target};
 use crate::values::SetValue;
 use cell_core::{
     Cell, Cells, Code, Grid, Kind, Label, NoMemory, Places, Reason, TextDict, Tuple, Tuples,
 };
 use column_core::ColRef;
-use form_parts::{present_kind, within_limits, wrong_kind};
+use form_parts::{list_kind, present_kind, within_limits, wrong_kind};
 use frame_store::{ObjRef, OpFault, Selector, Store};
 use multi_index::Axis;
 use std::alloc::Global;

@@ -12,8 +12,7 @@ use crate::changes::Change;
 use crate::targets::{Reached, Target};
 use cell_core::{Cell, Cells, Grid, Kind, Label, NoMemory, Places, TextDict, Tuple, Tuples};
 use column_core::Block;
-use form_parts::headings_of;
-use frame_store::{Blocks, ObjRef, Table};
+use frame_store::{Blocks, ObjRef, Table, headings_of};
 use multi_index::Axis;
 use std::alloc::Global;
 

@@ -2,8 +2,8 @@
 ghost use Rattle.select_meaning.specs.Set as meant;
 ghost use Rattle.frame_store.specs.World.{world, entry_in, IsKnownValue, IsSettledWorld, Sets};
 
-use cell_core::{Grid, Shape, TextDict};
-use form_parts::{label_of, wrong_kind};
+use cell_core::{Grid, Label, Shape, TextDict};
+use form_parts::wrong_kind;
 use frame_store::{OpFault, Store, Value};
 use selections::column_place;
 use std::alloc::Global;
@@ -38,7 +38,7 @@ pub fn remove(
     if source.shape() == Shape::Series {
         return Err(wrong_kind());
     }
-    let place = column_place(alloc, dict, &source, label_of(cell))?;
+    let place = column_place(alloc, dict, &source, Label::from(cell))?;
     store.remove_column(id, place)?;
     Ok(())
 }

@@ -14,11 +14,11 @@ ghost use Rattle.frame_store.specs.Objects.{Tables};
 ghost use Rattle.frame_store.specs.Arguments.{subscript_of};
 ghost use Rattle.frame_store.specs.World.{world, subscript_in, IsKnownSubscript, IsSettledWorld};
 ghost use Rattle.selections.specs.Reaches.{accessor_of, pick_value, CanSelect, PicksBelow};
-ghost use Rattle.settings.specs.Assigned.{second_in};
 ghost use Rattle.settings.specs.Values.{reached_value, target_value, rows_of_pair, IsReachedOf, IsTargetOf, AddsOnOne, IsFreshIn, TellsAbsence};
+ghost use Rattle.selections.specs.Selected.{IsKnownSecond, second_in};
 
 use cell_core::{Code, Grid, Label, NoMemory, Places, Shape, TextDict};
-use form_parts::{label_of, wrong_kind};
+use form_parts::wrong_kind;
 use frame_store::{Argument, ObjRef, OpFault, Selector, Store, Subscript, Value};
 use indexers::Picked;
 use selections::{all_columns, columns_by, joined_key, may_stand_alone, rows_by};
@@ -70,7 +70,7 @@ pub(crate) fn label_to_add(by: Selector, key: &Subscript) -> Option<Label>
     match (by, key) {
         (Selector::Iloc, _) => None,
         (Selector::Iat, _) => None,
-        (_, Subscript::Key(Argument::One(Value::Scalar(cell)))) => Some(label_of(*cell)),
+        (_, Subscript::Key(Argument::One(Value::Scalar(cell)))) => Some(Label::from(*cell)),
         _ => None,
     }
 }
@@ -201,7 +201,7 @@ pub(crate) fn target_of(
     requires table { CanSelect dict.now on.now }
     requires settled { IsSettledWorld (world store.now dict.now) }
     requires first { IsKnownSubscript (world store.now dict.now) first.now }
-    requires second { IfSome second (λ key. IsKnownSubscript (world store.now dict.now) key.now) }
+    requires second { IsKnownSecond (world store.now dict.now) second }
     ensures target { MakesBy target_value dict.now result
         (meant.target_by on.now.shape (accessor_of by) (table_value dict.now on.now)
         (subscript_in (world store.now dict.now) first.now)

@@ -12,7 +12,7 @@ ghost use Rattle.settings.specs.Values.{value_in, IsLiveSetValue};
 use cell_core::{Cell, Cells, Grid, Shape};
 use form_parts::wrong_kind;
 use frame_store::{Argument, ObjId, OpFault, Store, Value};
-use selections::scalars_of;
+use selections::scalars_alone;
 use std::alloc::Global;
 
 /// What a place is set to.
@@ -66,7 +66,7 @@ fn argument_value(alloc: Global, store: &Store, value: &Argument) -> Result<SetV
     match value {
         Argument::One(Value::Scalar(cell)) => Ok(SetValue::Same(*cell)),
         Argument::One(Value::Object(id)) => object_value(store, *id),
-        Argument::Many(items) => match scalars_of(alloc, items.as_slice())? {
+        Argument::Many(items) => match scalars_alone(alloc, items.as_slice())? {
             Some(cells) => Ok(SetValue::Listed(cells)),
             None => Err(wrong_kind()),
         },

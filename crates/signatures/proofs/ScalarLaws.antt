@@ -1,6 +1,6 @@
 -- The scalars of a list are the same among any objects.
 use Rattle.{
-  meaning.proofs.Common.{arith, ◌≡◌, refl, ℕ, List, [], ◌∷◌, ◌++◌, Some, Text},
+  meaning.proofs.Common.{arith, ◌≡◌, ◌<◌, ◌+◌, refl, ℕ, List, [], ◌∷◌, ◌++◌, length, drop, get_or, drop-cons, Option, Some, option_map, Cell, Text, datum},
   table_meaning.specs.{Settled.{IsSettled}, Value.{Given, GivenList, more_given, scalar_in, list_in}},
   form_meaning.specs.Select.{cells_of},
   frame_store.specs.{declared.arguments.Item.{Item, One as OneItem}, Objects.{Tables}, Arguments.{item_of, items_of, arguments_of}},
@@ -9,6 +9,14 @@ use Rattle.{
 
 pub cells_of_more : (g : Given) (rest : GivenList) → cells_of (more_given g rest) ≡ with_cell (scalar_in g) (cells_of rest)
 cells_of_more = grind arith
+
+-- the scalars from a part on
+abbrev pub IsScalarOf : Option Cell → Item → Type 0
+IsScalarOf o item = (live : Tables) (texts : List Text) → option_map (datum texts) o ≡ scalar_in (item_of live texts item)
+
+pub scalars_from : (texts : List Text) (items : List Item) (i : ℕ) (item : Item) (o : Option Cell) → i < length items → item ≡ get_or items i item → IsScalarOf o item
+    → scalars texts (drop i items) ≡ with_cell (option_map (datum texts) o) (scalars texts (drop (i + 1) items))
+scalars_from = grind (arith, drop-cons, cells_of_more)
 
 scalar_same : (live other : Tables) (texts : List Text) (item : Item) → scalar_in (item_of live texts item) ≡ scalar_in (item_of other texts item)
 scalar_same live other texts (OneItem v) = grind arith

@@ -61,6 +61,9 @@ frame_sure = grind (arith, sure_at, frame_taken)
 pub list_sure : Sure accepted.Scalars list_in
 list_sure = grind (arith, sure_at)
 
+pub objects_sure : Sure accepted.Objects list_in
+objects_sure = grind (arith, sure_at)
+
 pub dict_sure : Sure accepted.Dict dict_in
 dict_sure = grind (arith, sure_at)
 

@@ -5,7 +5,7 @@
 //! that are listed. [`bind`] says whether a signature takes the arguments of a call, by Python's rules
 //! for positional and keyword arguments, and makes every refusal that all calls share. It gives the
 //! [`Bound`] arguments; what stands at a place of the signature is then read by a function for each
-//! form, as [`Bound::whole`]. Nothing here takes memory or changes anything.
+//! form, as [`Bound::whole`]. Nothing here changes anything, and [`scalars_of`] alone takes memory.
 //!
 //! The signatures are those of the pandas API reference, as far as this library has them; their
 //! definition is `specs/Signature.antt` of the crate `call_meaning`, and that of binding is
@@ -27,12 +27,14 @@ mod bound;
 mod forms;
 mod places;
 mod rule;
+mod scalars;
 mod table;
 
 pub use binding::{Unbound, bind, counted, goes_to};
 pub use bound::Bound;
 pub use forms::are_scalars;
 pub use rule::binds_by_place;
+pub use scalars::scalars_of;
 pub use table::{
     default_text, function_named, function_parameters, kind_named, method_named, parameters,
     spelled,

@@ -2,7 +2,8 @@
 ghost use Rattle.std.specs.Prelude.{◌≡◌, List, slice_get, is_some, Some};
 ghost use Rattle.std.specs.Option.{option_map};
 ghost use Rattle.meaning.specs.Text.{Text};
-ghost use Rattle.meaning.specs.Cell.{datum};
+ghost use Rattle.meaning.specs.Cell.{datum, IsGiven};
+ghost use Rattle.table_meaning.specs.Settled.{IsSettled};
 ghost use Rattle.table_meaning.specs.Value.{scalar_in, object_in, list_in, dict_in};
 ghost use Rattle.call_meaning.specs.Binding as plain;
 ghost use Rattle.form_meaning.specs.Make.{kind_given};
@@ -190,12 +191,14 @@ impl<'a> Bound<'a> {
         }
     }
 
-    /// The scalar that stands at a place, where the parameter always has one. Its default is no text.
-    /// Takes no memory.
+    /// The scalar that stands at a place, where the parameter always has one. Its default is no text; a
+    /// text that it holds was given. Takes no memory.
     pub fn scalar(&self, place: usize) -> Cell
         requires sure { accepted_at self.now place ≡ Some accepted.Scalar }
         requires no_text { plain.HasNoText (slice_get self.now.parameters.now place) }
-        ensures { Tells self.now place scalar_in (λ _ texts. Some (datum texts result)) }
+        ensures told { Tells self.now place scalar_in (λ _ texts. Some (datum texts result)) }
+        ensures given { (live : Tables) (texts : List Text)
+            → IsSettled (arguments_of live) texts self.now.args.now → IsGiven texts result }
     {
         self.scalar_or_none(place).unwrap()
     }
@@ -295,6 +298,18 @@ impl<'a> Bound<'a> {
     /// no memory.
     pub fn list(&self, place: usize) -> &'a [Item]
         requires { accepted_at self.now place ≡ Some accepted.Scalars }
+        ensures value { Tells self.now place list_in
+            (λ live texts. Some (items_of live texts result.now)) }
+        ensures live { (live : Tables) → AreLive live self.now.args.now
+            → AreLiveItems live result.now }
+    {
+        self.list_or_none(place).unwrap()
+    }
+
+    /// The parts of the list of Series and frames that stands at a place, where the parameter always has one.
+    /// Takes no memory.
+    pub fn objects(&self, place: usize) -> &'a [Item]
+        requires { accepted_at self.now place ≡ Some accepted.Objects }
         ensures value { Tells self.now place list_in
             (λ live texts. Some (items_of live texts result.now)) }
         ensures live { (live : Tables) → AreLive live self.now.args.now

@@ -1,13 +1,14 @@
 -- Calls behind values and calls of functions of `pd` make valid tables of valid values and arguments.
 use Rattle.{
-  meaning.proofs.Common.{rules, ◌≡◌, refl, ℕ, List, ◌<◌, [], ◌∷◌, length, map, length-append, arith, eqb-true, length-map, All-nil, All-append, true, Option, Some, None, IfOk, nat_eq, slice_get, codes, IsSome, IfSome, All, position_or_len, Text, Int64},
+  meaning.proofs.Common.{◌≡◌, refl, ℕ, List, ◌<◌, [], ◌∷◌, length, map, length-append, arith, eqb-true, length-map, All-nil, All-append, true, Option, Some, None, IfOk, nat_eq, slice_get, codes, IsSome, IfSome, All, position_or_len, Text, Int64},
   table_meaning.{specs.{Table.{Table, column_at}, Value.{Entry, cell, table, NamedGiven, Given, object_in}, Valid.{IsValid}}, proofs.KindLaws.{kind_is}},
-  call_meaning.{specs.{declared.{Method.{Method, TheVariants.{Other}}, OtherMethod.TheVariants.{Merge}}, Signature.{method_names, fits_shape, parameters_of}, Binding.{argument_at, text_in}}, proofs.ShapeLaws.{named_fits, of_frame}},
+  call_meaning.{specs.{declared.{Function.{Function}, Method.{Method, TheVariants.{Other}}, OtherMethod.TheVariants.{Merge}}, Signature.{method_names, fits_shape, parameters_of}, Binding.{argument_at, text_in}}, proofs.ShapeLaws.{named_fits, of_frame}},
   form_meaning.specs.{Finish.{finished}, Select.{heading_at}},
-  method_meaning.specs.{Calls.{ChainValue, plain, is_merge, plain_result, call_result, merge_call}, Functions.{function_result}, Rows.{all_places}, Merge.{MergeKeys, kinds_at, are_same_kinds, keys_of_merge, suffixed_heading, right_places, left_heading, right_heading, column_of_side, key_cell, joined_key_column, right_key, joined_or_left, left_column, merged, merged_rows, merge_result}},
-  table_laws.{specs.Validity.{IsValidObject, IsValidEntry, AreValidArguments}, proofs.{ListLaws.{if_keeps, all_made, all_mapped, at_or, then_keeps, on_keeps, on_some_keeps}, Words.{Keeps, IsFrame, Name, Below}, TableLaws.{shaped, IsShaped}, MethodLaws.{method_result_keeps, chain_result_keeps}, CsvLaws.{make_with_keeps}, ConcatLaws.{concat_call_keeps}, ColumnLaws.{IsColumn, Held}, ReachLaws.{below_all, some_below}, InfixLaws.{gap_held}, GroupLaws.{AreLabels, frame_keeps}, SetLaws.{length_default, default_levels}, ArgumentLaws.{argument_valid, object_valid, frame_at, bound_taken}}},
+  method_meaning.specs.{Calls.{ChainValue, plain, is_merge, plain_result, call_result, merge_call}, Functions.{made_by, made_named, function_result}, Rows.{all_places}, Merge.{MergeKeys, kinds_at, are_same_kinds, keys_of_merge, suffixed_heading, right_places, left_heading, right_heading, column_of_side, key_cell, joined_key_column, right_key, joined_or_left, left_column, merged, merged_rows, merge_result}},
+  table_laws.{specs.Validity.{IsValidObject, IsValidEntry, AreValidArguments}, proofs.{ListLaws.{if_keeps, all_made, all_mapped, at_or, then_keeps, on_keeps, on_some_keeps}, Words.{Keeps, IsFrame, Name, Below}, TableLaws.{shaped, IsShaped}, MethodLaws.{method_result_keeps, chain_result_keeps}, CsvLaws.{read_result_keeps}, MakeLaws.{series_call_keeps, frame_call_keeps}, ConcatLaws.{concat_call_keeps}, ColumnLaws.{IsColumn, Held}, ReachLaws.{below_all, some_below}, InfixLaws.{gap_held}, GroupLaws.{AreLabels, frame_keeps}, SetLaws.{length_default, default_levels}, ArgumentLaws.{argument_valid, object_valid, frame_at, bound_taken}}},
   join_meaning.specs.{declared.{How.{How}, Validate.{Validate}}, Pairs.{Pair}},
 }
+use Rattle.call_meaning.specs.declared.Function.TheVariants as function
 use Rattle.call_meaning.specs.declared.Method.TheVariants as method
 use Rattle.call_meaning.specs.declared.OtherMethod.TheVariants as other_method
 
@@ -116,5 +117,16 @@ call_result_keeps v (plain name) gs h k = plain_result_keeps v _ gs h k
 call_result_keeps v _ gs h k = search chain_result_keeps
 
 -- any function of `pd`
+made_by_keeps : (f : Function) (file : Option (List ℕ)) (gs : List NamedGiven) → AreValidArguments gs → IfOk (made_by f file gs) IsValidEntry
+made_by_keeps function.Series _ gs k = series_call_keeps gs
+made_by_keeps function.DataFrame _ gs k = frame_call_keeps gs
+made_by_keeps function.ReadCsv None _ k = tt
+made_by_keeps function.ReadCsv (Some bytes) gs k = read_result_keeps bytes gs
+made_by_keeps function.Concat _ gs k = concat_call_keeps gs k
+
+made_named_keeps : (f : Option Function) (file : Option (List ℕ)) (name : Text) (gs : List NamedGiven) → AreValidArguments gs → IfOk (made_named f file name gs) IsValidEntry
+made_named_keeps None _ _ _ k = tt
+made_named_keeps (Some f) file _ gs k = made_by_keeps f file gs k
+
 pub function_result_keeps : (file : Option (List ℕ)) (name : Text) (gs : List NamedGiven) → AreValidArguments gs → IfOk (function_result file name gs) IsValidEntry
-function_result_keeps file name gs k = search (rules, concat_call_keeps, make_with_keeps)
+function_result_keeps file name gs k = made_named_keeps _ file name gs k

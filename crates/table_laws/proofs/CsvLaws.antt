@@ -1,11 +1,11 @@
 -- A file of comma-separated values reads as a valid frame.
 use Rattle.{
-  meaning.proofs.Common.{◌≡◌, ◌≢◌, refl, ap, ℕ, suc, List, [], ◌∷◌, length, map, arith, nat_tests, length-map, All-nil, AllPairs-cons, bytes_eq-Decides, Bool, true, false, if◌then◌else◌, slice_get, unwrap_or, Option, Some, None, IsSome, IfSome, Result, IfOk, All, AllPairs, IsDistinct, AllByRecursion, with_text, Text, same_text, CellValue, na_cell, text_cell, LabelValue, text, Kind, cast_cell},
+  meaning.proofs.Common.{◌≡◌, ◌≢◌, refl, ap, ℕ, suc, List, [], ◌∷◌, length, map, arith, nat_tests, length-map, All-nil, AllPairs-cons, bytes_eq-Decides, Bool, true, false, if◌then◌else◌, slice_get, unwrap_or, Option, Some, IsSome, IfSome, Result, IfOk, All, AllPairs, IsDistinct, AllByRecursion, with_text, Text, same_text, CellValue, na_cell, text_cell, LabelValue, text, Kind, cast_cell},
   std.proofs.lemmas.Map.Keys.{IsDistinct-head, IsDistinct-tail},
   table_meaning.specs.Value.{NamedGiven},
   csv_meaning.{specs.CsvRead.{CsvValue, CsvRefusal, is_missing, cell_of_field, column_of_fields, columns_from, labels_after, labels_of, labelled_columns, columns_of_rows, columns_of_records, columns_of_file}, proofs.DifferentLaws.{labels_differ}},
-  method_meaning.specs.Readers.{frame_of_columns, frame_or_fault, read_result, make_with},
-  table_laws.{specs.Validity.{IsValidEntry}, proofs.{ListLaws.{both_true, both_ways, all_mapped, if_keeps}, ColumnLaws.{IsColumn, Held, cast_held}, TableLaws.{IsShaped, valid, frame_headings}, SetLaws.{length_default, default_levels}, MakeLaws.{make_result_keeps}}},
+  method_meaning.specs.Readers.{frame_of_columns, frame_or_fault, read_result},
+  table_laws.{specs.Validity.{IsValidEntry}, proofs.{ListLaws.{both_true, both_ways, all_mapped}, ColumnLaws.{IsColumn, Held, cast_held}, TableLaws.{IsShaped, valid, frame_headings}, SetLaws.{length_default, default_levels}}},
 }
 
 -- fields
@@ -84,8 +84,3 @@ module _ (bytes : List ℕ) where
   -- a file that is read
   pub read_result_keeps : (gs : List NamedGiven) → IfOk (read_result bytes gs) IsValidEntry
   read_result_keeps = grind (arith, file_read)
-
--- a function of `pd`, with the file that it reads
-pub make_with_keeps : (file : Option (List ℕ)) (name : Text) (gs : List NamedGiven) → IfOk (make_with file name gs) IsValidEntry
-make_with_keeps None name gs = make_result_keeps name gs
-make_with_keeps (Some bytes) name gs = search (if_keeps, read_result_keeps, make_result_keeps)

@@ -1,8 +1,8 @@
 -- The constructors make valid tables.
 use Rattle.{
-  meaning.proofs.Common.{◌≡◌, ◌≢◌, refl, sym, subst, ℕ, ◌≤◌, List, [], ◌∷◌, length, map, arith, nat_tests, length-map, length-replicate, All-nil, All-tail, AllPairs-cons, Option, Some, None, Result, IfOk, All, Text, LabelValue, Kind, FaultValue},
+  meaning.proofs.Common.{◌≡◌, ◌≢◌, refl, sym, subst, ℕ, ◌≤◌, List, [], ◌∷◌, length, map, arith, nat_tests, length-map, length-replicate, All-nil, All-tail, AllPairs-cons, Option, Some, None, Result, IfOk, All, LabelValue, Kind, FaultValue},
   table_meaning.specs.Value.{Entry, Given, GivenList, GivenPairs, NamedGiven, no_entries, more_entries, list_in},
-  call_meaning.{specs.{Signature.{function_parameters}, Binding.{Bound, bound, argument_at, bound_of, on_bound}, Functions.{constructed, make_result}}, proofs.{BoundLaws.{bound_list}, IndexLaws.{GivesAlike, index_taken}}},
+  call_meaning.{specs.{Signature.{function_parameters}, Binding.{Bound, bound, argument_at, on_bound}, Functions.{series_call, frame_call}}, proofs.{BoundLaws.{bound_list}, IndexLaws.{GivesAlike, index_taken}}},
   form_meaning.specs.{Finish.{limited}, Select.{cells_of}, Set.{list_column}, Make.{index_labels, level_count, nameless, AreAlike, few_levels, with_index, series_table, frame_table, series_of, series_result, with_pair, pairs_onto, cells_given, all_of_length, labels_given, frame_with, frame_of, frame_result}},
   table_laws.{specs.Validity.{IsValidEntry}, proofs.{Words.{Keeps, Column, Name, Tuple, Apart, Levelled}, ListLaws.{all_made, all_mapped, then_keeps, try_keeps, of_length_keeps, on_keeps}, ColumnLaws.{IsColumn, list_keeps, cast_to_keeps}, TableLaws.{IsShaped, limited_keeps, frame_headings, label_decides}, SetLaws.{length_default, default_levels}}},
 }
@@ -123,20 +123,16 @@ bound_keeps : (b : Bound) (go : List Given → Result Entry FaultValue) → ((l 
 bound_keeps = grind arith
 
 module _ (gs : List NamedGiven) where
-  series_keeps : Keeps (on_bound (bound_of (function_parameters function.Series) gs) (constructed function.Series))
-  series_keeps =
+  pub series_call_keeps : Keeps (series_call gs)
+  series_call_keeps =
       let ps = function_parameters function.Series in
       bound_keeps _ _
       (λ l is. subst (λ l. Keeps (series_result l)) (sym (bound_list ps gs l is))
       (series_result_keeps (argument_at ps gs 0) _ _ _ (index_taken ps gs 1 _ l is refl refl)))
 
-  frame_keeps : Keeps (on_bound (bound_of (function_parameters function.DataFrame) gs) (constructed function.DataFrame))
-  frame_keeps =
+  pub frame_call_keeps : Keeps (frame_call gs)
+  frame_call_keeps =
       let ps = function_parameters function.DataFrame in
       bound_keeps _ _
       (λ l is. subst (λ l. Keeps (frame_result l)) (sym (bound_list ps gs l is))
       (frame_result_keeps (argument_at ps gs 0) _ (index_taken ps gs 1 _ l is refl refl)))
-
--- a function of `pd`
-pub make_result_keeps : (name : Text) (gs : List NamedGiven) → Keeps (make_result name gs)
-make_result_keeps = grind (arith, series_keeps, frame_keeps)

@@ -1,7 +1,7 @@
 -- What keys reach lies in the table.
 use Rattle.{
   meaning.proofs.Common.{rules, Bool, filter, ◌≡◌, ℕ, ◌<◌, ◌≤◌, List, [], ◌∷◌, length, arith, ◌∙◌, refl, ap, sym, ◌-◌, drop, map, nat_tests, length-map, length-drop, All-filter, get_or-range_with_len, length-range_with_len, true, Option, Some, None, Result, Ok, IfOk, false, slice_index_or, All, range_with_len, list_all, as_long, Shape, Series, Frame, Kind, LabelValue, na_cell, Accessor, FaultValue, then_value},
-  table_meaning.{specs.{Table.{Table, column_at}, Value.{Entry, cell, table, GivenSub, one, row, key_given}, Valid.{AreHeadings}}, proofs.KindLaws.{kind_is}},
+  table_meaning.{specs.{Table.{Table, column_at}, Value.{Entry, cell, table, GivenSub, one, key_given}, Valid.{AreHeadings}}, proofs.KindLaws.{kind_is}},
   form_meaning.specs.{Finish.{column_labels, same_kind}, Infix.{same_tuple}, Select.{heading_at, length_result}},
   pick_meaning.{specs.{Faults.{PickFault, then_pick}, Keys.{LabelKey, one_key, Pick, key_pick, listed_pick}, Masks.{masked_rows}}, proofs.{InsideLaws.{ok_same, went_on, mask_inside}, KeyLaws.{picked_inside, placed_inside}}},
   select_meaning.specs.{Keys.{found_pick, found_labels, label_key, whole_key, label_pick, marks_of, mask_pick, loc_rows, loc_columns, once, at_rows, rows_by, columns_by, reach_of, reach_by, Reach}, Select.{column_reach, columns_reach, item_reach, Way, way_reach, select_result, rows_taken, without_leading, cut, as_series, first_cell, kind_across, row_series, row_result, shown_as, picked_result}},

@@ -1,10 +1,9 @@
 -- A statement leaves a valid state of a valid one.
 use Rattle.{
   meaning.proofs.Common.{arith, ℕ, List, All-nil, All-cons, Bool, if◌then◌else◌, codes, is_some, Option, Some, None, IfSome, Result, Ok, Err, IfOk, All, Text, Contents, FaultValue},
-  language_meaning.specs.Tree.{Expr, Step, Arg, ArgList, Args, Action},
+  language_meaning.specs.Tree.{Expr, Step, Arg, Parts, bare, named, Action},
   table_meaning.specs.{Table.{Table}, Valid.{IsValid}, Value.{Entry, NamedGiven}},
   call_meaning.specs.Signature.{function_named},
-  select_meaning.specs.Select.{plain},
   method_meaning.specs.{Calls.{has_method}, Concat.{tables_of}, Readers.{read_result}},
   script_meaning.specs.{State.{State, without_name}, Reading.{Files, Reading, Reads, then_read, of_bytes, of_path}, Expression.{target_of, value_of_name, where_named, made, value_of, stepped, brackets_of, given_of, part_of, parts_of, named_of}, Statement.{Answer, then_answer, with_value, set_answer, statement_result}},
   table_laws.{specs.Validity.{IsValidObject, IsValidEntry, IsValidGiven, IsValidArgument, AreValidArguments, IsValidState, LeavesValid, HasHeldLiterals, IsHeldArgument, IsHeldAction}, proofs.{Words.{Keeps}, InfixLaws.{infix_result_keeps, sign_result_keeps}, ReachLaws.{select_result_keeps, length_result_keeps}, SetLaws.{assign_result_keeps, removal_result_keeps}, MethodLaws.{chain_result_keeps}, CsvLaws.{read_result_keeps}, ArgumentLaws.{more_valid}, CallLaws.{call_result_keeps, function_result_keeps}}},
@@ -104,15 +103,15 @@ module _ (files : Files) (s : State) (valid : IsValidState s) where
     part_valid (tree.table pairs) = tt
     part_valid tree.nothing = tt
 
-    parts_valid : (parts : ArgList) → IfOk (parts_of files s parts).answer (λ gs. All IsValid (tables_of gs))
-    parts_valid tree.no_args = All-nil IsValid
-    parts_valid (tree.more_args a rest) =
+    parts_valid : (parts : Parts bare) → IfOk (parts_of files s parts).answer (λ gs. All IsValid (tables_of gs))
+    parts_valid tree.no_parts = All-nil IsValid
+    parts_valid (tree.more_parts tag a rest) =
         read_keeps IsValidArgument (λ gs. All IsValid (tables_of gs)) (part_of files s a) _ (part_valid a)
         (λ g h. read_keeps (λ gs. All IsValid (tables_of gs)) (λ gs. All IsValid (tables_of gs)) (parts_of files s rest) _ (parts_valid rest) (λ gs k. more_valid g gs h k))
 
-    arguments_valid : (args : Args) → IfOk (named_of files s args).answer AreValidArguments
-    arguments_valid tree.no_named = All-nil (λ (g : NamedGiven). IsValidArgument g.value)
-    arguments_valid (tree.more_named n a rest) =
+    arguments_valid : (args : Parts named) → IfOk (named_of files s args).answer AreValidArguments
+    arguments_valid tree.no_parts = All-nil (λ (g : NamedGiven). IsValidArgument g.value)
+    arguments_valid (tree.more_parts n a rest) =
         read_keeps IsValidArgument AreValidArguments (given_of files s a) _ (argument_valid a)
         (λ g h. read_keeps AreValidArguments AreValidArguments (named_of files s rest) _ (arguments_valid rest)
         (λ gs k. All-cons (λ (g : NamedGiven). IsValidArgument g.value) record { name = n; value = g } gs h k))

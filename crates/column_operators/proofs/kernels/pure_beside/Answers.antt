@@ -2,13 +2,13 @@ use Rattle.nullable_array.proofs.ColumnAnswers.{given_at}
 use Rattle.column_operators.proofs.kernels.pure_beside.Goals as goal
 
 pub returns-in-Ints-Int-clause-given : goal.returns-in-Ints-Int-clause-given
-returns-in-Ints-Int-clause-given c = given_at _ _ c.numbers_beside.ensures.given
+returns-in-Ints-Int-clause-given c = given_at _ _ c.beside_lane.ensures.given
 
 pub returns-in-Ints-Na-clause-given : goal.returns-in-Ints-Na-clause-given
-returns-in-Ints-Na-clause-given c = given_at _ _ c.numbers_beside-in-Ints-Na.ensures.given
+returns-in-Ints-Na-clause-given c = given_at _ _ c.beside_lane-in-Ints-Na.ensures.given
 
 pub returns-in-Truths-Bool-clause-given : goal.returns-in-Truths-Bool-clause-given
-returns-in-Truths-Bool-clause-given c = given_at _ _ c.truths_beside.ensures.given
+returns-in-Truths-Bool-clause-given c = given_at _ _ c.beside_lane-in-Truths-Bool.ensures.given
 
 pub returns-in-Truths-Na-clause-given : goal.returns-in-Truths-Na-clause-given
-returns-in-Truths-Na-clause-given c = given_at _ _ c.truths_beside-in-Truths-Na.ensures.given
+returns-in-Truths-Na-clause-given c = given_at _ _ c.beside_lane-in-Truths-Na.ensures.given

@@ -5,14 +5,14 @@ use Rattle.{
 }
 use Rattle.column_operators.proofs.kernels.sums.Goals as goal
 
-pub numbers-requires : goal.numbers-requires
-numbers-requires = grind (arith, length-tabulate)
+pub on_lanes-requires : goal.on_lanes-requires
+on_lanes-requires = grind (arith, length-tabulate)
 
 pub joined-requires-clause-same : goal.joined-requires-clause-same
 joined-requires-clause-same = grind (arith, length-tabulate)
 
 pub returns-in-Ints-Ints-clause-given : goal.returns-in-Ints-Ints-clause-given
-returns-in-Ints-Ints-clause-given c = given_at _ _ c.numbers.ensures.given
+returns-in-Ints-Ints-clause-given c = given_at _ _ c.on_lanes.ensures.given
 
 pub joined-requires-clause-a : goal.joined-requires-clause-a
 joined-requires-clause-a c = λ k lt.

@@ -12,8 +12,7 @@ asked_given : (w : World) (args : List Named) (b : BoundArguments) → IsBound w
 asked_given = grind arith
 
 pub parts_of-requires : goal.parts_of-requires
-parts_of-requires c =
-    subst (λ o. IfSome o (AreLiveLentItems (tables c.args.store.now))) c.in-Some.is (grind arith)
+parts_of-requires c = c.objects.ensures.live _ (grind arith)
 
 pub concatenated-requires-clause-known : goal.concatenated-requires-clause-known
 concatenated-requires-clause-known c = rw c.deref.ensures.value (c.in_ok-parts.ensures.known _ c.requires.settled)

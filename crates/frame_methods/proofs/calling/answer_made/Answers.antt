@@ -1,5 +1,6 @@
 use Rattle.{
-  form_parts.proofs.Common.{arith, kept_settled},
+  form_parts.proofs.Common.{arith},
+  frame_store.proofs.ObjectMade.{kept_settled},
   frame_methods.proofs.CallLaws.{refused_made, table_meant, scalar_answered},
 }
 use Rattle.frame_methods.proofs.calling.answer_made.Goals as goal

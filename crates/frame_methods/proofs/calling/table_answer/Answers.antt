@@ -36,11 +36,14 @@ returns-in-RenameSeries c =
     forms_so _ _ _ _ _
     (ap (λ o. limited (renamed_series t o)) (c.name_of-name.ensures w.texts ∙ ap (option_map _) (c.scalar_or_none.ensures w.tables w.texts))
     ∙ answer_by w _ _ c.args.bound.now t (λ a. limited (renamed_series t (option_map cell_label (scalar_in (a 0))))) (ap method.Table c.in-RenameSeries.is) c.requires.call.parameters refl)
-    (c.rename_series.ensures.answers, longer_self _, c.rename_series.ensures.settled)
+    c.rename_series.ensures
 
 -- labels of columns
 pub rename_frame-requires-clause-given : goal.rename_frame-requires-clause-given
 rename_frame-requires-clause-given c = search pairs_settled
+
+pub returns-in-RenameFrame : goal.returns-in-RenameFrame
+returns-in-RenameFrame c = forms_so _ _ _ _ _ (grind (arith, answer_by)) (c.rename_frame.ensures (tables c.args.store.now))
 
 -- a text
 pub returns-in-ToCsv : goal.returns-in-ToCsv

@@ -1,5 +1,5 @@
 use Rattle.{
-  form_parts.proofs.Common.{ap, sym, err_from_is_err_and, table_or, object_settled, columns_name_part},
+  form_parts.proofs.Common.{ap, sym, err_from_is_err_and, table_or, object_settled, columns_name_part, longer_self},
   frame_methods.proofs.RenameLaws.{frame_refused},
 }
 use Rattle.frame_methods.proofs.renaming.rename_frame.Goals as goal
@@ -7,11 +7,14 @@ use Rattle.frame_methods.proofs.renaming.rename_frame.Goals as goal
 pub renamed_headings-requires-clause-settled : goal.renamed_headings-requires-clause-settled
 renamed_headings-requires-clause-settled c = search object_settled
 
-pub returns-in_err-headings-clause-answers : goal.returns-in_err-headings-clause-answers
-returns-in_err-headings-clause-answers c = λ live.
+pub returns-in_err-headings : goal.returns-in_err-headings
+returns-in_err-headings c = λ live.
     let p = err_from_is_err_and c.from_residual.result c.from_residual.ensures.1 in
-    rw (p.1, p.2) (frame_refused _ _ c.args.pairs.now _ _ _ _
-    (sym (ap table_or c.read.ensures.table)) c.in_err-headings.ensures.answer)
+    rw (p.1, p.2) (
+      frame_refused _ _ c.args.pairs.now _ _ _ _ (sym (ap table_or c.read.ensures.table)) c.in_err-headings.ensures.answer,
+      longer_self _,
+      c.requires.settled,
+    )
 
 pub renamed-requires-clause-name : goal.renamed-requires-clause-name
 renamed-requires-clause-name c =

@@ -10,3 +10,6 @@ as_frame-requires-clause-labels c =
     let one : source.headings ≡ slice_index_or source.headings 0 None ∷ [] = grind (arith, one_item) in
     let settled = headings_part c.args.dict.now source (search object_settled) in
     grind (arith, named_settled, frame_heading, label_seen, heading_list)
+
+pub returns : goal.returns
+returns = grind (arith, frame_heading, label_seen, heading_list, one_item)

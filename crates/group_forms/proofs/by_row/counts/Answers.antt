@@ -5,7 +5,7 @@ use Rattle.{
 use Rattle.group_forms.proofs.by_row.counts.Goals as goal
 
 pub returns-in_err-headings : goal.returns-in_err-headings
-returns-in_err-headings c =
+returns-in_err-headings c = λ _.
     let p = err_from_is_err_and c.from_residual-in_err-headings.result c.from_residual-in_err-headings.ensures.1 in
     rw (p.1, p.2) (refused_is _ _ _ _ _ refl (c.in_err-headings.ensures.may (counts_table c.args.dict.now c.args.on.now c.args.grouping.now) (grind (arith, length-map))))
 
@@ -17,7 +17,7 @@ new_table-requires-clause-rows c =
     rw (ap (λ a. length a.tuples) (c.in_ok-axis.ensures ∙ c.axis.ensures)) boxed.filled
 
 pub returns : goal.returns
-returns c =
+returns c = λ _.
     let dict = c.args.dict.now in
     let t = c.args.on.now in
     let g = c.args.grouping.now in

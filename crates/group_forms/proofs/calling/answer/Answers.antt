@@ -38,4 +38,7 @@ pub returns-in-Cumcount : goal.returns-in-Cumcount
 returns-in-Cumcount c =
     let dict = c.args.dict.now in
     let at : c.read-in-Cumcount.result ≡ table_or (tables c.args.store.now c.args.on.0) = grind arith in
-    rw (answer_at dict (grouping_seen dict c.args.grouping.now) (values_seen dict c.args.values.now) at (ap call_of (sym c.in-Cumcount.is))) at (c.placed-in-Cumcount.ensures.answers dict _ (longer_self _) c.requires.settled c.counts-table.ensures)
+    rw (answer_at dict (grouping_seen dict c.args.grouping.now) (values_seen dict c.args.values.now) at (ap call_of (sym c.in-Cumcount.is))) at (c.placed-in-Cumcount.ensures.answers dict _ (longer_self _) c.requires.settled (c.counts-table.ensures (values_seen dict c.args.values.now)))
+
+pub returns-in-Size : goal.returns-in-Size
+returns-in-Size c = rw c.in-Size.is (c.sizes_placed.ensures (values_seen c.args.dict.now c.args.values.now))

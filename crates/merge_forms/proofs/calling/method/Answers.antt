@@ -13,7 +13,7 @@ pub returns-in-Some : goal.returns-in-Some
 returns-in-Some c =
     let w = world c.args.store.now c.args.dict.now in
     forms_so _ _ _ w _
-    (cc (c.as_slice.ensures, merge_called w c.args.on c.args.chain.now (arguments_in w c.args.args.now.items.items) _ (sym c.merge_of.ensures ∙ c.in-Some.is))) c.merge_call.ensures
+    (cc (c.as_slice.ensures, merge_called w c.args.on c.args.chain.now (arguments_in w c.args.args.now) _ (sym c.merge_of.ensures ∙ c.in-Some.is))) c.merge_call.ensures
 
 pub returns-in-None : goal.returns-in-None
 returns-in-None c =

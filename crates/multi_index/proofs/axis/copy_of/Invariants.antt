@@ -1,5 +1,5 @@
 use Rattle.meaning.proofs.Common.{◌≡◌, take}
 use Rattle.multi_index.proofs.axis.copy_of.Given as goal
 
-abbrev pub invariant-loop-row : goal.invariant-loop-row
-invariant-loop-row l = l.copied ≡ take l.row l.tuples
+abbrev pub invariant-loop-tuple : goal.invariant-loop-tuple
+invariant-loop-tuple l = l.copied ≡ take l.tuple-index l.tuple-items

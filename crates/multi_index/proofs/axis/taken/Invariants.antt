@@ -4,5 +4,5 @@ use Rattle.{
 }
 use Rattle.multi_index.proofs.axis.taken.Given as goal
 
-abbrev pub invariant-loop-k : goal.invariant-loop-k
-invariant-loop-k l = l.taken ≡ tuples_at l.tuples (take l.k l.places)
+abbrev pub invariant-loop-place : goal.invariant-loop-place
+invariant-loop-place l = l.taken ≡ tuples_at l.tuples (take l.place-index l.place-items)

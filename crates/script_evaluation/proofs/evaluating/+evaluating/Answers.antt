@@ -1,16 +1,16 @@
 use Rattle.{
   meaning.proofs.Common.{refl, length, ◌≡◌, sym, ◌∙◌, ap, subst, Some, None, arith, Option, append-nil, List, is_some, IfSome, Text, Words},
-  language_meaning.specs.{Tree.{arg_list, named_args, arg_pairs}, Depth.{depth, step_depth, arg_depth, list_depth, args_depth, pairs_depth}},
+  language_meaning.specs.{Tree.{bare, named, keyed}, Depth.{depth, step_depth}},
   table_meaning.specs.Value.{Entry, one, entries, Given, NamedGiven},
   call_meaning.specs.Signature.{function_named},
   select_meaning.specs.Select.{plain, through},
   method_meaning.specs.Calls.{has_method, call_result},
-  frame_store.{proofs.RowLaws.{item_of-Row, argument_of-Table}, specs.{declared.arguments.{Named.{Named}, Argument.{Argument}, NamedList.{NamedList}}, World.{World, entry_in, IsKnownArgument, AreKnownArguments}}},
+  frame_store.{proofs.RowLaws.{item_of-Row, argument_of-Table}, specs.{declared.arguments.{Named.{Named}, Argument.{Argument}}, World.{World, arguments_in, entry_in, subscript_in, IsKnownArgument, AreKnownArguments}}},
   script_tokens.specs.View.{binary_of},
   script_meaning.specs.{Reading.{Reads, at_once, gives, then_read}, Expression.{where_named}},
   script_tree.{specs.View.{expr_of, step_of, arg_of, parts_of, named_parts_of, pair_parts_of, sub_of as view_sub}, proofs.Rows.{expr_of-Make, step_of-Method, step_of-Group, step_of-Rolling, step_of-Expanding, arg_of-Many, arg_of-Row, arg_of-Table}},
-  script_evaluation.{specs.{Parts.{brackets_in}, Evaluates.{arguments_in, subscript_in}, Links.{link_name, chain_behind, chain_meant}, declared.link.Link.{Link}}, proofs.{Evaluations.{evaluates_by, apart, flat, spent, known_after, seen_after, stops, goes_on, adds, makes, stays, forms, knows_none, names_value, writes_out, value_if}, Gathering.{gathered, gathers_next, gathers_none}, Parts.{reads_items, reads_pairs, reads_arguments, parts_end, pairs_end, items_push, pairs_push, arguments_push, items_known, pairs_known, arguments_known, key_known, span_known, row_known, table_known}, Trees.{part_depth, sub_of-Span, step_of-Access}}},
-  script_work.{specs.Work.{world_of}, proofs.{Worlds.{of_value, of_items, of_argument, of_pairs, of_arguments, of_subscript, seen_kept, keeps_both, brackets_seen, brackets_kept}, Rides.{then_gives}}},
+  script_evaluation.{specs.{Parts.{brackets_in}, Links.{link_name, chain_behind, chain_meant}, declared.link.Link.{Link}}, proofs.{Gathering.{gathered, gathers_next, gathers_none}, Parts.{reads_items, reads_pairs, reads_arguments, parts_end, pairs_end, items_push, pairs_push, arguments_push, items_known, pairs_known, arguments_known, key_known, span_known, row_known, table_known}, Trees.{part_depth, sub_of-Span, step_of-Access}}},
+  script_work.{specs.Work.{world_of}, proofs.{Evaluations.{evaluates_by, apart, flat, spent, known_after, seen_after, stops, goes_on, adds, makes, stays, forms, knows_none, names_value, writes_out}, Worlds.{of_value, of_items, of_argument, of_pairs, of_arguments, of_subscript, seen_kept, keeps_both, brackets_seen, brackets_kept}, Rides.{then_gives}}},
   fault_laws.proofs.{FormFaults.{sign_result_fault, infix_result_fault, length_result_fault}, SelectFaults.{select_result_fault}, CallFaults.{call_result_fault}},
   label_methods.specs.Chains.{chain_in, IsKnownChain},
 }
@@ -19,12 +19,12 @@ use Rattle.language_meaning.specs.Tree as tree
 use Rattle.script_evaluation.proofs.evaluating.+evaluating.Goals as goal
 
 pub evaluate-returns-in-Name : goal.evaluate-returns-in-Name
-evaluate-returns-in-Name g t c = rw c.in-Name.is (names_value _ _ _ c.named.ensures.found c.named.ensures.known c.named.ensures.fault)
+evaluate-returns-in-Name g t c = rw c.in-Name.is (names_value _ _ _ c.named.ensures.found c.named.ensures.fault)
 
 pub evaluate-returns-in-Literal : goal.evaluate-returns-in-Literal
 evaluate-returns-in-Literal g t c =
     let x = c.literal.ensures in
-    rw c.in-Literal.is (writes_out c.args.work.now _ _ _ x.names x.kept x.value x.known x.object x.memory)
+    rw c.in-Literal.is (writes_out c.args.work.now _ _ _ x.names x.kept x.value x.found x.memory)
 
 pub evaluate-returns-in-Paren : goal.evaluate-returns-in-Paren
 evaluate-returns-in-Paren g t c = rw (c.in-Paren.is, ← c.deref-in-Paren.ensures) c.evaluate-in-Paren.ensures
@@ -34,7 +34,7 @@ evaluate-returns-in_err-value-in-Unary g t c = rw (c.in-Unary.is, ← c.deref.en
 
 pub evaluate-returns-in_ok-value-in-Unary : goal.evaluate-returns-in_ok-value-in-Unary
 evaluate-returns-in_ok-value-in-Unary g t c =
-    rw (c.in-Unary.is, ← c.deref.ensures) (goes_on _ c.in_ok-value-in-Unary.ensures (forms _ (search sign_result_fault) (search) c.evaluated.ensures (search)))
+    rw (c.in-Unary.is, ← c.deref.ensures) (goes_on _ c.in_ok-value-in-Unary.ensures (forms _ (search sign_result_fault) c.evaluated.ensures (search)))
 
 pub evaluate-returns-in_err-a-in-Infix : goal.evaluate-returns-in_err-a-in-Infix
 evaluate-returns-in_err-a-in-Infix g t c = rw (c.in-Infix.is, ← c.deref-in-Infix.ensures) (stops _ c.in_err-a-in-Infix.ensures (search))
@@ -53,7 +53,7 @@ evaluate-returns-in_ok-b-in-Infix g t c =
     let x = c.in_ok-a-in-Infix.ensures in
     let y = c.in_ok-b-in-Infix.ensures in
     rw (c.in-Infix.is, ← c.deref-in-Infix.ensures, ← c.deref-in-Infix-2.ensures) (goes_on _ x (goes_on _ y (rw (← seen_after y of_value x.found.known)
-    (forms _ (infix_result_fault (binary_of c.in-Infix.op) _ (entry_in (world_of c.evaluate-in-Infix-2.new.work) c.in_ok-b-in-Infix.b)) (search) c.evaluated-in-Infix.ensures (search)))))
+    (forms _ (infix_result_fault (binary_of c.in-Infix.op) _ (entry_in (world_of c.evaluate-in-Infix-2.new.work) c.in_ok-b-in-Infix.b)) c.evaluated-in-Infix.ensures (search)))))
 
 pub evaluate-returns-in_err-on-in-After : goal.evaluate-returns-in_err-on-in-After
 evaluate-returns-in_err-on-in-After g t c = rw (c.in-After.is, ← c.deref-in-After.ensures) (stops _ c.in_err-on-in-After.ensures (search))
@@ -67,7 +67,7 @@ evaluate-returns-in_err-value-in-Len g t c = rw (c.in-Len.is, ← c.deref-in-Len
 
 pub evaluate-returns-in_ok-value-in-Len : goal.evaluate-returns-in_ok-value-in-Len
 evaluate-returns-in_ok-value-in-Len g t c =
-    rw (c.in-Len.is, ← c.deref-in-Len.ensures) (goes_on _ c.in_ok-value-in-Len.ensures (forms _ (search length_result_fault) refl c.evaluated-in-Len.ensures c.length.ensures))
+    rw (c.in-Len.is, ← c.deref-in-Len.ensures) (goes_on _ c.in_ok-value-in-Len.ensures (forms _ (search length_result_fault) c.evaluated-in-Len.ensures c.length.ensures))
 
 pub evaluate-arguments-requires : goal.evaluate-arguments-requires
 evaluate-arguments-requires g t c =
@@ -84,9 +84,7 @@ evaluate-returns-in_err-args-in-Make g t c =
 
 pub evaluate-returns-in_ok-args-in-Make : goal.evaluate-returns-in_ok-args-in-Make
 evaluate-returns-in_ok-args-in-Make g t c =
-    let y = c.call.ensures in
-    rw (ap expr_of c.in-Make.is ∙ expr_of-Make _ _, rw c.as_str.ensures at c.in_ok-expect_function-in-Make.ensures.known) (goes_on _ c.in_ok-args-in-Make.ensures
-    record { names = y.names; kept = y.kept; serves = y.serves; reads = y.reads; found = value_if _ _ y.known y.object })
+    rw (ap expr_of c.in-Make.is ∙ expr_of-Make _ _, rw c.as_str.ensures at c.in_ok-expect_function-in-Make.ensures.known) (goes_on _ c.in_ok-args-in-Make.ensures c.call.ensures)
 
 pub after-returns-in_err-key-in-Item : goal.after-returns-in_err-key-in-Item
 after-returns-in_err-key-in-Item g t c = rw c.in-Item.is (stops _ c.in_err-key-in-Item.ensures (search))
@@ -99,7 +97,7 @@ after-select-requires g t c =
 pub after-returns-in_ok-key-in-Item : goal.after-returns-in_ok-key-in-Item
 after-returns-in_ok-key-in-Item g t c =
     let x = c.in_ok-key-in-Item.ensures in
-    rw (c.in-Item.is, ← seen_after x of_value c.requires) (goes_on _ x (forms _ (select_result_fault (entry_in (world_of c.given.new.work) c.args.on) _ _ _) (search) c.evaluated.ensures (search)))
+    rw (c.in-Item.is, ← seen_after x of_value c.requires) (goes_on _ x (forms _ (select_result_fault (entry_in (world_of c.given.new.work) c.args.on) _ _ _) c.evaluated.ensures (search)))
 
 pub after-returns-in_err-first-in-Access : goal.after-returns-in_err-first-in-Access
 after-returns-in_err-first-in-Access g t c =
@@ -114,7 +112,7 @@ pub after-returns-in_ok-first-in-Access : goal.after-returns-in_ok-first-in-Acce
 after-returns-in_ok-first-in-Access g t c =
     let x = c.in_ok-first-in-Access.ensures in
     rw (ap step_of c.in-Access.is ∙ step_of-Access _ _ _, ← c.selector_of.ensures, ← seen_after x of_value c.requires) (apart _ _ _ (goes_on _ x
-    (forms _ (select_result_fault (entry_in (world_of c.subscripts.new.work) c.args.on) _ _ _) (search) c.evaluated-in-Access.ensures (search))))
+    (forms _ (select_result_fault (entry_in (world_of c.subscripts.new.work) c.args.on) _ _ _) c.evaluated-in-Access.ensures (search))))
 
 pub after-arguments-requires : goal.after-arguments-requires
 after-arguments-requires g t c =
@@ -144,14 +142,14 @@ after-returns-in_ok-name-in-Method g t c =
     let x = c.in_ok-args-in-Method.ensures in
     rw (ap step_of c.in-Method.is ∙ step_of-Method _ _, rw c.as_str.ensures at (c.in_ok-expect_method-in-Method.ensures.known c.args.work.now.dict))
     (rw (← seen_after x of_value c.requires, ← c.as_str-in-Method.ensures, ← c.in_ok-name-in-Method.ensures) (goes_on _ x
-    (forms _ (call_result_fault (entry_in (world_of c.arguments.new.work) c.args.on) (calls.plain c.in_ok-name-in-Method.name) _) (search) c.evaluated-in-Method.ensures (search))))
+    (forms _ (call_result_fault (entry_in (world_of c.arguments.new.work) c.args.on) (calls.plain c.in_ok-name-in-Method.name) _) c.evaluated-in-Method.ensures (search))))
 
 -- what a chain is seen as
-chain_seen : (w : World) (link : Link) (args : NamedList) (by : Option Argument) (name : Words) → chain_in w (chain_behind link args by name) ≡ chain_meant link (arguments_in w args) (brackets_in w by) name
+chain_seen : (w : World) (link : Link) (args : List Named) (by : Option Argument) (name : Words) → chain_in w (chain_behind link args by name) ≡ chain_meant link (arguments_in w args) (brackets_in w by) name
 chain_seen = grind arith
 
 -- its arguments and brackets are known
-chain_known : (w : World) (link : Link) (args : NamedList) (by : Option Argument) (name : Words) → AreKnownArguments w args.items.items → IfSome by (IsKnownArgument w) → IsKnownChain w (chain_behind link args by name)
+chain_known : (w : World) (link : Link) (args : List Named) (by : Option Argument) (name : Words) → AreKnownArguments w args → IfSome by (IsKnownArgument w) → IsKnownChain w (chain_behind link args by name)
 chain_known = grind arith
 
 -- a call without brackets reads nothing in their place
@@ -233,7 +231,7 @@ through-returns g t c =
     let named = c.in_ok-name.ensures ∙ c.as_str.ensures in
     let chained = ap (chain_in (world_of w)) c.chain.ensures ∙ chain_seen _ _ _ _ _ ∙ (λ i. chain_meant c.args.call.link (args i) (by i) (named i)) in
     rw (rw c.name.ensures at (c.in_ok-expect_method.ensures.known c.args.work.now.dict)) (goes_on _ x (goes_on _ y (goes_on _ z (rw (← on, ← chained)
-    (forms _ (call_result_fault (entry_in (world_of w) c.args.on) (chain_in (world_of w) c.chain.result) _) (search) c.evaluated.ensures (search))))))
+    (forms _ (call_result_fault (entry_in (world_of w) c.args.on) (chain_in (world_of w) c.chain.result) _) c.evaluated.ensures (search))))))
 
 pub subscripts-returns-in_err-first : goal.subscripts-returns-in_err-first
 subscripts-returns-in_err-first g t c = stops _ c.in_err-first.ensures (search)
@@ -348,7 +346,7 @@ item-returns-in_ok-items-in-Row g t c =
 
 pub arguments-given-requires : goal.arguments-given-requires
 arguments-given-requires g t c =
-    let deep = part_depth (λ (a : Option Text × tree.Arg). arg_depth a.1) (λ xs. args_depth (named_args xs)) (λ a xs. refl) (named_parts_of c.args.args.now) _ _ c.at.ensures in
+    let deep = part_depth named (named_parts_of c.args.args.now) _ _ c.at.ensures in
     grind arith
 
 pub arguments-returns-in_err-value : goal.arguments-returns-in_err-value
@@ -365,7 +363,7 @@ arguments-loop-i-preserved g t c =
     let inv = c.loop-i.invariant in
     let u = c.given.new.work in
     let x = c.in_ok-value.ensures in
-    let args = c.loop-i.arguments.items.items in
+    let args = c.loop-i.arguments in
     let one : Named = record { name = c.in_ok-name.name; value = c.in_ok-value.value } in
     let push = c.in_ok-push.ensures.ok in
     record {
@@ -380,7 +378,7 @@ arguments-returns g t c =
 
 pub items-item-requires : goal.items-item-requires
 items-item-requires g t c =
-    let deep = part_depth arg_depth (λ xs. list_depth (arg_list xs)) (λ a xs. refl) (parts_of c.args.parts.now) _ _ c.at.ensures in
+    let deep = part_depth bare (parts_of c.args.parts.now) _ _ c.at.ensures in
     grind arith
 
 pub items-returns-in_err-item : goal.items-returns-in_err-item
@@ -408,7 +406,7 @@ items-returns g t c =
 
 pub entries-given-requires : goal.entries-given-requires
 entries-given-requires g t c =
-    let deep = part_depth (λ (a : tree.Literal × tree.Arg). arg_depth a.1) (λ xs. pairs_depth (arg_pairs xs)) (λ a xs. refl) (pair_parts_of c.args.pairs.now) _ _ c.at.ensures in
+    let deep = part_depth keyed (pair_parts_of c.args.pairs.now) _ _ c.at.ensures in
     grind arith
 
 pub entries-returns-in_err-value : goal.entries-returns-in_err-value

@@ -1,7 +1,8 @@
 use Rattle.{
   meaning.proofs.Common.{refl, ◌∙◌, ap},
   script_tree.specs.View.{step_of},
-  script_evaluation.proofs.{Evaluations.{apart, stops, makes}, Parts.{key_known}, Trees.{step_of-Access}},
+  script_evaluation.proofs.{Parts.{key_known}, Trees.{step_of-Access}},
+  script_work.proofs.Evaluations.{apart, stops, makes},
 }
 use Rattle.script_evaluation.proofs.target.last_step.Goals as goal
 

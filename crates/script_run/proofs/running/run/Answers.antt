@@ -9,8 +9,9 @@ use Rattle.script_run.proofs.running.run.Goals as goal
 
 pub returns-in_default-clause-told : goal.returns-in_default-clause-told
 returns-in_default-clause-told g c =
-    let old = outside (g.F.Files.seen _) (g.O.Sink.seen _) (g.E.Sink.seen _) in
-    let new = outside (g.F.Files.seen _) (g.O.Sink.seen _) (g.E.Sink.seen _) in
+    let at = outside g.F.Files.seen g.O.Sink.seen g.E.Sink.seen in
+    let old = at _ _ _ in
+    let new = at _ _ _ in
     some-always _ _ (λ held.
     subst (λ run. Ends (IsWordsResult run held) c.end_usage.result old new) (sym c.in_default.ensures) (ends_with_line old new usage _ _ refl refl c.end_usage.ensures.ended))
 
@@ -27,12 +28,13 @@ returns-in-Ok-clause-told g c =
 
 pub returns-in-Ok-clause-complete : goal.returns-in-Ok-clause-complete
 returns-in-Ok-clause-complete g c =
-    complete_run _ _ _ _ _ _ _ _ (returns-in-Ok-clause-told g c) c.run_file.ensures.input c.run_file.ensures.output
+    complete_run _ _ _ _ _ _ _ _ (returns-in-Ok-clause-told g c) c.run_file.ensures.cause.input c.run_file.ensures.cause.output
 
 pub returns-in-Err-Usage-clause-told : goal.returns-in-Err-Usage-clause-told
 returns-in-Err-Usage-clause-told g c =
-    let old = outside (g.F.Files.seen _) (g.O.Sink.seen _) (g.E.Sink.seen _) in
-    let new = outside (g.F.Files.seen _) (g.O.Sink.seen _) (g.E.Sink.seen _) in
+    let at = outside g.F.Files.seen g.O.Sink.seen g.E.Sink.seen in
+    let old = at _ _ _ in
+    let new = at _ _ _ in
     some-always _ _ (λ held.
     subst (λ run. Ends (IsWordsResult run held) c.end_usage-in-Err-Usage.result old new) (sym (c.in-Some.ensures ∙ ap (with_script c.in-Some.script.now) (c.in-Err-Usage.ensures.usage (cc)))) (ends_with_line old new usage _ _ refl refl c.end_usage-in-Err-Usage.ensures.ended))
 
@@ -45,12 +47,12 @@ returns-in-Err-Usage-clause-complete g c =
 
 pub returns-in-Err-NoMemory-clause-told : goal.returns-in-Err-NoMemory-clause-told
 returns-in-Err-NoMemory-clause-told g c =
-    let old = outside (g.F.Files.seen c.args.files.now) (g.O.Sink.seen _) (g.E.Sink.seen _) in
+    let old = outside g.F.Files.seen g.O.Sink.seen g.E.Sink.seen c.args.files.now _ _ in
     some-always _ _ (λ held. ends_unbegun _ old old (run_one (map _ c.args.words.now.items) _) refl refl)
 
 pub returns-in-Err-NoMemory-clause-words : goal.returns-in-Err-NoMemory-clause-words
 returns-in-Err-NoMemory-clause-words g c =
-    let old = outside (g.F.Files.seen c.args.files.now) (g.O.Sink.seen _) (g.E.Sink.seen _) in
+    let old = outside g.F.Files.seen g.O.Sink.seen g.E.Sink.seen c.args.files.now _ _ in
     none-always _ _ (early_none old old (Is (with_line usage_line usage)) _ refl refl refl)
 
 -- what is left on the errors by a run in these words

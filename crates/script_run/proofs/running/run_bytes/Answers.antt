@@ -7,5 +7,5 @@ use Rattle.script_run.proofs.running.run_bytes.Goals as goal
 
 pub returns-in-Err-NoMemory-clause-told : goal.returns-in-Err-NoMemory-clause-told
 returns-in-Err-NoMemory-clause-told g c =
-    let old = outside (g.F.Files.seen c.args.files.now) (g.O.Sink.seen _) (g.E.Sink.seen _) in
+    let old = outside g.F.Files.seen g.O.Sink.seen g.E.Sink.seen c.args.files.now _ _ in
     some-always _ _ (λ held. ends_unbegun _ old old (script_one _ _) refl refl)

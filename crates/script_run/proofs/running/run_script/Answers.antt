@@ -10,11 +10,12 @@ use Rattle.script_run.proofs.running.run_script.Goals as goal
 
 pub returns-in-Err-clause-told : goal.returns-in-Err-clause-told
 returns-in-Err-clause-told g c =
+    let at = outside g.F.Files.seen g.O.Sink.seen g.E.Sink.seen in
     let ss = statements_of c.args.script.now in
     let i = c.loop-i.i in
-    let old = outside (g.F.Files.seen c.args.files.now) (g.O.Sink.seen c.args.out.now) (g.E.Sink.seen c.args.err.now) in
-    let mid = outside (g.F.Files.seen c.loop-i.files) (g.O.Sink.seen c.loop-i.out) (g.E.Sink.seen c.loop-i.err) in
-    let new = outside (g.F.Files.seen _) (g.O.Sink.seen _) (g.E.Sink.seen _) in
+    let old = at c.args.files.now c.args.out.now c.args.err.now in
+    let mid = at c.loop-i.files c.loop-i.out c.loop-i.err in
+    let new = at _ _ _ in
     let status = c.in-Err.status in
     let line = c.statement-statement.result.now.line in
     let whole : Contents → RunResult = λ held. statements_result (files_in c.args.names.now held) no_names ss in
@@ -27,11 +28,12 @@ returns-in-Err-clause-told g c =
 
 pub loop-i-preserved : goal.loop-i-preserved
 loop-i-preserved g c =
+    let at = outside g.F.Files.seen g.O.Sink.seen g.E.Sink.seen in
     let ss = statements_of c.args.script.now in
     let i = c.loop-i.i in
-    let old = outside (g.F.Files.seen c.args.files.now) (g.O.Sink.seen c.args.out.now) (g.E.Sink.seen c.args.err.now) in
-    let mid = outside (g.F.Files.seen c.loop-i.files) (g.O.Sink.seen c.loop-i.out) (g.E.Sink.seen c.loop-i.err) in
-    let new = outside (g.F.Files.seen c.advance.new.files) (g.O.Sink.seen c.advance.new.out) (g.E.Sink.seen c.advance.new.err) in
+    let old = at c.args.files.now c.args.out.now c.args.err.now in
+    let mid = at c.loop-i.files c.loop-i.out c.loop-i.err in
+    let new = at c.advance.new.files c.advance.new.out c.advance.new.err in
     let state = state_of c.advance.new.session in
     let whole : Contents → RunResult = λ held. statements_result (files_in c.args.names.now held) no_names ss in
     let rest : Contents → RunResult = λ held. statements_result (files_in c.args.names.now held) (state_of c.loop-i.session) (drop i ss) in
@@ -49,10 +51,11 @@ loop-i-preserved g c =
 
 pub returns-clause-told : goal.returns-clause-told
 returns-clause-told g c =
+    let at = outside g.F.Files.seen g.O.Sink.seen g.E.Sink.seen in
     let ss = statements_of c.args.script.now in
     let whole : Contents → RunResult = λ held. statements_result (files_in c.args.names.now held) no_names ss in
     some-weaker _ _ _ c.loop-i.invariant.told (λ held come.
-    ends_done (whole held) (files_in c.args.names.now held) ss c.loop-i.i (state_of c.loop-i.session) (outside (g.F.Files.seen c.args.files.now) (g.O.Sink.seen c.args.out.now) (g.E.Sink.seen c.args.err.now)) (outside (g.F.Files.seen c.loop-i.files) (g.O.Sink.seen c.loop-i.out) (g.E.Sink.seen c.loop-i.err)) (omega (arith, c.len-i-end.ensures, c.loop-i-test.false)) come)
+    ends_done (whole held) (files_in c.args.names.now held) ss c.loop-i.i (state_of c.loop-i.session) (at c.args.files.now c.args.out.now c.args.err.now) (at c.loop-i.files c.loop-i.out c.loop-i.err) (omega (arith, c.len-i-end.ensures, c.loop-i-test.false)) come)
 
 pub returns-in-Err-clause-errors : goal.returns-in-Err-clause-errors
 returns-in-Err-clause-errors g c =

@@ -12,9 +12,10 @@ use Rattle.script_run.proofs.running.run_script.Given as goal
 -- the steps that were done, and then those of the statements that are left, are the steps of all statements
 abbrev pub invariant-loop-i : goal.invariant-loop-i
 invariant-loop-i g l =
+    let at = outside g.F.Files.seen g.O.Sink.seen g.E.Sink.seen in
     record {
       told : IfSome (g.F.Files.seen l.fn.files).contents (λ held. ComesTo (statements_result (files_in l.names held) no_names (statements_of l.script)) (statements_result (files_in l.names held) (state_of l.session) (drop l.i (statements_of l.script)))
-          (outside (g.F.Files.seen l.fn.files) (g.O.Sink.seen l.fn.out) (g.E.Sink.seen l.fn.err)) (outside (g.F.Files.seen l.files) (g.O.Sink.seen l.out) (g.E.Sink.seen l.err)));
+          (at l.fn.files l.fn.out l.fn.err) (at l.files l.out l.err));
       warned : Warns (g.E.Sink.seen l.fn.err).written (g.E.Sink.seen l.err).written;
       serves : Serves (g.F.Files.seen l.fn.files) (g.F.Files.seen l.files);
       out_faults : (g.O.Sink.seen l.fn.out).faults ≤ (g.O.Sink.seen l.out).faults;

@@ -16,8 +16,9 @@ returns-in_err-warn-in-Err-Refused-clause-stops g c =
 
 pub returns-in_ok-warn-in-Ok-clause-on : goal.returns-in_ok-warn-in-Ok-clause-on
 returns-in_ok-warn-in-Ok-clause-on g c =
+    let at = outside g.F.Files.seen g.O.Sink.seen g.E.Sink.seen in
     on_ok_weaker c.show.result
-    (λ shown. goes_on c.in-Ok.ensures.answers _ (outside (g.F.Files.seen c.args.files.now) (g.O.Sink.seen c.args.out.now) (g.E.Sink.seen c.args.err.now)) (outside (g.F.Files.seen c.step.new.files) (g.O.Sink.seen c.show.new.out) (g.E.Sink.seen c.warn.new.err)) c.in_ok-warn-in-Ok.ensures.shown refl refl (rw c.as_str.ensures at shown) c.show.ensures.faults c.in_ok-warn-in-Ok.ensures.faults)
+    (λ shown. goes_on c.in-Ok.ensures.answers _ (at c.args.files.now c.args.out.now c.args.err.now) (at c.step.new.files c.show.new.out c.warn.new.err) c.in_ok-warn-in-Ok.ensures.shown refl refl (rw c.as_str.ensures at shown) c.show.ensures.faults c.in_ok-warn-in-Ok.ensures.faults)
     c.show.ensures.shown
 
 pub returns-in_ok-warn-in-Ok-clause-stops : goal.returns-in_ok-warn-in-Ok-clause-stops
@@ -30,7 +31,9 @@ returns-in_ok-warn-in-Err-Refused-clause-stops g c =
     stops_refused (λ held. (answers held).0) _ _ _ _ _ refl refl refl c.in_ok-warn-in-Err-Refused.ensures.shown (rw c.texts.ensures at c.end_at_fault.ensures.ended)
 
 pub returns-in-Err-Input-clause-stops : goal.returns-in-Err-Input-clause-stops
-returns-in-Err-Input-clause-stops g c = stops_input _ _ _ (rw c.in-Err-Input.field-0-is at c.in-Err-Input.ensures.answers) refl refl refl c.say_unread.ensures.front c.say_unread.ensures.whole
+returns-in-Err-Input-clause-stops g c =
+    let at = outside g.F.Files.seen g.O.Sink.seen g.E.Sink.seen in
+    stops_input _ (at c.args.files.now c.args.out.now c.args.err.now) (at c.step.new.files c.args.out.now c.say_unread.new.err) (rw c.in-Err-Input.field-0-is at c.in-Err-Input.ensures.answers) refl refl refl c.say_unread.ensures.front c.say_unread.ensures.whole
 
 pub returns-in-Err-Input-clause-input : goal.returns-in-Err-Input-clause-input
 returns-in-Err-Input-clause-input g c =
@@ -38,7 +41,7 @@ returns-in-Err-Input-clause-input g c =
     λ is. (answers empty).risen
 
 pub returns-in-Err-NoMemory-clause-stops : goal.returns-in-Err-NoMemory-clause-stops
-returns-in-Err-NoMemory-clause-stops g c = stops_memory _ _ _ (outside (g.F.Files.seen c.args.files.now) (g.O.Sink.seen c.args.out.now) (g.E.Sink.seen c.args.err.now))
+returns-in-Err-NoMemory-clause-stops g c = stops_memory _ _ _ (outside g.F.Files.seen g.O.Sink.seen g.E.Sink.seen c.args.files.now c.args.out.now c.args.err.now)
 
 pub returns-in_ok-warn-in-Err-Refused-clause-errors : goal.returns-in_ok-warn-in-Err-Refused-clause-errors
 returns-in_ok-warn-in-Err-Refused-clause-errors g c =

@@ -1,8 +1,8 @@
 use Rattle.{
   form_parts.proofs.Common.{arith, err_from_is_err_and, tables, entry_of, subscript_of, world, object_settled},
   select_meaning.specs.Set.{assign_result},
-  selections.specs.Selected.{way_of},
-  settings.{specs.Assigned.{new_value, second_in}, proofs.SetLaws.{assign_set, set_left}},
+  selections.specs.Selected.{second_in, way_of},
+  settings.{specs.Assigned.{new_value}, proofs.SetLaws.{assign_set, set_left}},
 }
 use Rattle.settings.proofs.assigning.assign.Goals as goal
 

@@ -1,6 +1,6 @@
 use Rattle.{
-  form_parts.proofs.Common.{sym, subst, err_from_is_err_and, AreGiven, object_settled},
-  settings.{specs.Assigned.{column_seen}, proofs.{PutCases.{filled_given, listed_given, same_settled}, SetLaws.{part_refused}}},
+  form_parts.proofs.Common.{column_seen, sym, subst, err_from_is_err_and, AreGiven, object_settled},
+  settings.proofs.{PutCases.{filled_given, listed_given, same_settled}, SetLaws.{part_refused}},
 }
 use Rattle.settings.proofs.putting.column_change.Goals as goal
 

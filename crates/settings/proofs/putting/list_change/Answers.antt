@@ -1,6 +1,6 @@
 use Rattle.{
-  form_parts.proofs.Common.{nat_tests, err_from_is_err_and, length-map, None, ◌∷◌, [], ◌≡◌, ◌<◌, sym, arith, length, label_datum, table_value, default_labels},
-  settings.{proofs.{CellLaws.{none_seen}, PutCases.{default_count, list_rows, range_count, range_names, range_seen, rows_given, rows_meant}, PutLaws.{put_by, put_there}, SetLaws.{part_refused}, putting.list_change.Goals.{else-rows-eq0-via-then-rows-eq0+else-count-gt0}}, specs.Assigned.{column_seen}},
+  form_parts.proofs.Common.{column_seen, nat_tests, err_from_is_err_and, length-map, None, ◌∷◌, [], ◌≡◌, ◌<◌, sym, arith, length, label_datum, table_value, default_labels},
+  settings.proofs.{CellLaws.{none_seen}, PutCases.{default_count, list_rows, range_count, range_names, range_seen, rows_given, rows_meant}, PutLaws.{put_by, put_there}, SetLaws.{part_refused}, putting.list_change.Goals.{else-rows-eq0-via-then-rows-eq0+else-count-gt0}},
   select_meaning.specs.Set.{with_rows},
 }
 use Rattle.settings.proofs.putting.list_change.Goals as goal

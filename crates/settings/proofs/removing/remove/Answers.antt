@@ -22,4 +22,4 @@ pub returns : goal.returns
 returns c =
     let frame : c.read-source.result.shape ≡ Frame = search rules in
     removal_set _ _ _ _ _ _ _ _ _ _
-    c.in-Object-Scalar.is-0 c.in-Object-Scalar.is-1 c.read-source.ensures.table frame (c.label_of.ensures.seen _) c.requires.settled c.in_ok-place.ensures.answer c.in_ok-remove_column.ensures.ok
+    c.in-Object-Scalar.is-0 c.in-Object-Scalar.is-1 c.read-source.ensures.table frame (c.from.ensures.1 _) c.requires.settled c.in_ok-place.ensures.answer c.in_ok-remove_column.ensures.ok

@@ -4,5 +4,5 @@ use Rattle.{
 }
 use Rattle.index_core.proofs.index.Index.take.Given as goal
 
-abbrev pub invariant-loop-k : goal.invariant-loop-k
-invariant-loop-k l = l.taken.items ≡ labels_at l.self (take l.k l.places)
+abbrev pub invariant-loop-place : goal.invariant-loop-place
+invariant-loop-place l = l.taken.items ≡ labels_at l.self (take l.place-index l.place-items)

@@ -9,7 +9,7 @@ use Rattle.script_work.proofs.work.Work.file_of.Goals as goal
 pub returns-in-Ok-clause-reads : goal.returns-in-Ok-clause-reads
 returns-in-Ok-clause-reads g c =
     let w = world_of c.args.self.now in
-    let given = arguments_of w.tables w.texts c.args.args.now.items.items in
+    let given = arguments_of w.tables w.texts c.args.args.now in
     let is = c.in-Ok.ensures.0 in
     λ held.
     let fs = files_in c.args.names.now held in

@@ -4,7 +4,7 @@ use Rattle.{
 }
 use Rattle.script_work.proofs.work.Work.named.Goals as goal
 
-pub returns-in-Some-clause-known : goal.returns-in-Some-clause-known
-returns-in-Some-clause-known c =
+pub returns-in-Some-clause-found : goal.returns-in-Some-clause-found
+returns-in-Some-clause-found c =
     let s = c.args.self.now in
-    named_known _ _ c.args.name.now _ s.live s.given s.settled (search rules)
+    record { known = named_known _ _ c.args.name.now _ s.live s.given s.settled (search rules); object = search rules }

@@ -1,5 +1,0 @@
-use Rattle.form_parts.proofs.Common.{◌≡◌, take}
-use Rattle.form_parts.proofs.parts.headings_named.Given as goal
-
-abbrev pub invariant-loop-column : goal.invariant-loop-column
-invariant-loop-column l = l.headings ≡ record { columns_name = l.fn.columns_name; labels = take l.column l.on.headings }

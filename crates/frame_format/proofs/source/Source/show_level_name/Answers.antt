@@ -1,8 +1,0 @@
-use Rattle.{
-  meaning.proofs.Common.{sym},
-  frame_format.proofs.ToldLaws.{level_name_seen},
-}
-use Rattle.frame_format.proofs.source.Source.show_level_name.Goals as goal
-
-pub returns : goal.returns
-returns g c = rw (← level_name_seen _ c.self.inside.dict.now _ (sym c.self.view_is) _ _ c.requires c.level_name.ensures) c.show_name.ensures

@@ -1,9 +1,0 @@
-use Rattle.{
-  form_parts.proofs.Common.{◌≡◌, List, ◌++◌, drop, Text, cells_value},
-  signatures.specs.Scalars.{scalars},
-}
-use Rattle.label_methods.proofs.named_columns.scalars_of.Given as goal
-
--- the scalars so far, before the others
-abbrev pub invariant-loop-item : goal.invariant-loop-item
-invariant-loop-item l = (texts : List Text) → cells_value texts l.cells ++ scalars texts (drop l.item-index l.items) ≡ scalars texts l.items

@@ -1,0 +1,10 @@
+use Rattle.{
+  meaning.proofs.Common.{◌≡◌, List, ◌++◌, drop, Text},
+  frame_store.specs.Shown.{cells_value},
+  signatures.specs.Scalars.{scalars},
+}
+use Rattle.signatures.proofs.scalars.scalars_of.Given as goal
+
+-- the scalars so far, before the others
+abbrev pub invariant-loop-item : goal.invariant-loop-item
+invariant-loop-item l = (texts : List Text) → cells_value texts l.cells ++ scalars texts (drop l.item-index l.items) ≡ scalars texts l.items
