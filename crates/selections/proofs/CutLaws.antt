@@ -2,7 +2,7 @@
 use Rattle.{
   form_parts.proofs.Common.{◌≡◌, ℕ, List, arith, Option, Some, None, Result, Ok, take, ◌∙◌, suc, zero, ◌+◌, ◌<◌, pos, [], ◌∷◌, length, map, refl, ap, All, ◌++◌, sym, true, drop, Bool, false, ◌&&◌, Err, if◌then◌else◌, unwrap_or, subst, get_or-map, drop-cons, drop-length, get_or_from_slice_get, slice_get_within, map_more, length-map, map-append, get_or-range_with_len, length-range_with_len, fill_by_all, All-map, All-push, list_all-map, map-map, IsSome, slice_index_or, slice_get, slice_index, ◌≢◌, range_with_len, list_all, Cell, Na, Label, Kind, Int64, Rows, Shape, Series, Frame, AreDistinct, Text, FaultValue, then_value, wrong_kind, limit, LabelValue, datum, CellValue, label_datum, int, na_cell, tabulate, fault_of, IsSettled, ColumnOf, NumberedTable, table_value, heading_value, column_value, column_at, Table, no_column, tuple_value, Entry, GivenSub, IsWhole, AreHeadings, kind_itself, Value, Object, Scalar, ObjId, Store, OpFault, Refused, NoMemory, HeadingList, block_column, IsSingle, table_with, axis_of, Tables, with_object, table_or, tables, shown, headings_value, columns_value, FormAnswers, Makes, world, IsSettledWorld, Forms, World, entry_in, object_value, object_settled, columns_name_part, longer_self, table_settled, level_names_part, labels_part, columns_part, settled_by, headings_part, AxisValue, taken_axis, CellColumn, CellBlock, get_or-tabulate, limited, within_limits, same_kind, unless_repeated, finished, heading_at, MakesBy},
   meaning.proofs.Common.{map-id, get_or-map as get_or-map_at, drop-map, option_and_then},
-  std.proofs.lemmas.List.Folds.{map_fixed},
+  std.proofs.lemmas.{List.Folds.{map_fixed}, Option.{slice_get-get_or}},
   table_meaning.specs.Change.{cut_columns},
   indexers.proofs.SpanLaws.{all_listed},
   pick_meaning.specs.Rows.{rows_of},
@@ -123,11 +123,11 @@ pub place_inside : (places : List ℕ) (count k place : ℕ) → All (λ p. p < 
 place_inside = grind (arith, get_or_from_slice_get)
 
 -- one more column
-pub one_more_chosen : (t : NumberedTable) (rows columns : List ℕ) (k place : ℕ) (source made : CellColumn) (block : CellBlock) (blocks blocks' : List CellBlock) → slice_get columns k ≡ Some place
-    → column_at t.columns place ≡ record { kind = source.kind; cells = source.cells } → made ≡ cells_by_place rows source → block ≡ record { kind = made.kind; rows = length made.cells; columns = made.cells ∷ [] }
+pub one_more_chosen : (t : NumberedTable) (rows columns : List ℕ) (k : ℕ) (source made : CellColumn) (block : CellBlock) (blocks blocks' : List CellBlock) → k < length columns
+    → column_at t.columns (slice_index_or columns k 0) ≡ record { kind = source.kind; cells = source.cells } → made ≡ cells_by_place rows source → block ≡ record { kind = made.kind; rows = length made.cells; columns = made.cells ∷ [] }
     → blocks' ≡ blocks ++ block ∷ [] → map block_column blocks ≡ columns_at rows (take k columns) t → map block_column blocks' ≡ columns_at rows (take (k + 1) columns) t
-one_more_chosen t rows _ _ _ _ _ block blocks _ at here is boxed pushed before =
-    mapped_more (λ p. cells_at rows (column_at t.columns p)) _ _ _ (block_column block) _ _ (slice_get_within _ _ _ at) at (grind arith) before (ap (map _) pushed ∙ map-append _ blocks (block ∷ []))
+one_more_chosen t rows _ _ _ _ block blocks _ inside here is boxed pushed before =
+    mapped_more (λ p. cells_at rows (column_at t.columns p)) _ _ _ (block_column block) _ _ inside (slice_get-get_or _ _ 0 inside) (grind arith) before (ap (map _) pushed ∙ map-append _ blocks (block ∷ []))
 
 pub one_more_single : (made : CellColumn) (block : CellBlock) (blocks blocks' : List CellBlock) → block ≡ record { kind = made.kind; rows = length made.cells; columns = made.cells ∷ [] } → blocks' ≡ blocks ++ block ∷ []
     → All IsSingle blocks → All IsSingle blocks'

@@ -137,8 +137,8 @@ pub fn listed_keys(alloc: Global, levels: usize, items: &[Item]) -> Result<Tuple
     ensures full { IfOk result (HaveLevels levels) }
 {
     let mut made = Tuples::new(alloc);
-    for k in 0..items.len() {
-        made.push(whole_item(alloc, levels, &items[k])?)?;
+    for item in items {
+        made.push(whole_item(alloc, levels, item)?)?;
     }
     Ok(made)
 }

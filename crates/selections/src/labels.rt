@@ -106,8 +106,8 @@ pub fn headings_at(
     ensures { IfOk result (λ made. made.items ≡ meant_headings on.now places.now) }
 {
     let mut headings = Vec::new(alloc);
-    for k in 0..places.len() {
-        headings.push(on.heading(*places.at(k)))?;
+    for place in places.as_slice() {
+        headings.push(on.heading(*place))?;
     }
     Ok(headings)
 }

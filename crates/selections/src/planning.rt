@@ -7,12 +7,11 @@ ghost use Rattle.table_meaning.specs.Table.{NumberedTable, table_value};
 ghost use Rattle.table_meaning.specs.Value.{one, key_given};
 ghost use Rattle.select_meaning.specs.Keys.{reach_by};
 ghost use Rattle.select_meaning.specs.Select as meant;
-ghost use Rattle.multi_index.specs.Axes.{HaveLevels};
 ghost use Rattle.frame_store.specs.Objects.{Tables, tables};
 ghost use Rattle.frame_store.specs.Arguments.{object_value, items_of, subscript_of, IsLiveObject};
 ghost use Rattle.frame_store.specs.World.{world, entry_in, subscript_in, IsKnownValue, IsKnownSubscript, IsKnownTable, IsSettledWorld};
 ghost use Rattle.selections.specs.Plans.{rows_in, TakesPicked, TakesAll, has_single_row, has_single_column, reach_of_plan, IsPlanFor, PlansBy};
-ghost use Rattle.selections.specs.Reaches.{accessor_of, reach_value, PicksBelow, ReachesWithin};
+ghost use Rattle.selections.specs.Reaches.{accessor_of, reach_value, PicksBelow, ReachesWithin, CanSelect};
 ghost use Rattle.selections.specs.Selected.{IsKnownSecond, second_in, each_truth, way_of};
 
 use crate::labels::{column_place, column_places};
@@ -179,8 +178,7 @@ fn mask_plan(
     on: &ObjRef<'_>,
     mask: ObjId,
 ) -> Result<Plan, OpFault>
-    requires known { IsKnownTable dict.now on.now }
-    requires levels { HaveLevels (length on.now.level_names) on.now.labels }
+    requires table { CanSelect dict.now on.now }
     requires settled { IsSettledWorld (world store.now dict.now) }
     requires shape { on.now.shape ≡ Frame }
     requires mask { IsLiveObject (tables store.now) mask }
@@ -202,8 +200,7 @@ fn value_plan(
     on: &ObjRef<'_>,
     value: Value,
 ) -> Result<Plan, OpFault>
-    requires known { IsKnownTable dict.now on.now }
-    requires levels { HaveLevels (length on.now.level_names) on.now.labels }
+    requires table { CanSelect dict.now on.now }
     requires settled { IsSettledWorld (world store.now dict.now) }
     requires shape { on.now.shape ≡ Frame }
     requires value { IsKnownValue (world store.now dict.now) value }
@@ -230,8 +227,7 @@ fn frame_plan(
     on: &ObjRef<'_>,
     key: &Subscript,
 ) -> Result<Plan, OpFault>
-    requires known { IsKnownTable dict.now on.now }
-    requires levels { HaveLevels (length on.now.level_names) on.now.labels }
+    requires table { CanSelect dict.now on.now }
     requires settled { IsSettledWorld (world store.now dict.now) }
     requires shape { on.now.shape ≡ Frame }
     requires key { IsKnownSubscript (world store.now dict.now) key.now }
@@ -281,8 +277,7 @@ fn access_plan(
     first: &Subscript,
     second: Option<&Subscript>,
 ) -> Result<Plan, OpFault>
-    requires known { IsKnownTable dict.now on.now }
-    requires levels { HaveLevels (length on.now.level_names) on.now.labels }
+    requires table { CanSelect dict.now on.now }
     requires settled { IsSettledWorld (world store.now dict.now) }
     requires first { IsKnownSubscript (world store.now dict.now) first.now }
     requires second { IsKnownSecond (world store.now dict.now) second }
@@ -304,8 +299,7 @@ fn plain_plan(
     first: &Subscript,
     second: Option<&Subscript>,
 ) -> Result<Plan, OpFault>
-    requires known { IsKnownTable dict.now on.now }
-    requires levels { HaveLevels (length on.now.level_names) on.now.labels }
+    requires table { CanSelect dict.now on.now }
     requires settled { IsSettledWorld (world store.now dict.now) }
     requires first { IsKnownSubscript (world store.now dict.now) first.now }
     requires second { IsKnownSecond (world store.now dict.now) second }
@@ -334,8 +328,7 @@ pub(crate) fn plan_for(
     first: &Subscript,
     second: Option<&Subscript>,
 ) -> Result<Plan, OpFault>
-    requires known { IsKnownTable dict.now on.now }
-    requires levels { HaveLevels (length on.now.level_names) on.now.labels }
+    requires table { CanSelect dict.now on.now }
     requires settled { IsSettledWorld (world store.now dict.now) }
     requires first { IsKnownSubscript (world store.now dict.now) first.now }
     requires second { IsKnownSecond (world store.now dict.now) second }

@@ -243,9 +243,9 @@ pub(crate) fn columns_axis(
     ensures { IfOk result (λ axis. axis ≡ columns_axis on.now places.now) }
 {
     let mut labels = Tuples::new(alloc);
-    for k in 0..places.len() {
+    for place in places.as_slice() {
         // A frame's columns have labels.
-        if let Some(label) = on.heading(*places.at(k)) {
+        if let Some(label) = on.heading(*place) {
             labels.push(Tuple::of(alloc, &[label]))?;
         }
     }

@@ -67,8 +67,8 @@ fn row_cells(
     ensures { IfOk result (λ made. made ≡ cells_across kind row on.now columns.now) }
 {
     let mut cells = Column::new(alloc, kind);
-    for k in 0..columns.len() {
-        cells.push(on.column(*columns.at(k)).cell(row))?;
+    for place in columns.as_slice() {
+        cells.push(on.column(*place).cell(row))?;
     }
     Ok(cells)
 }

@@ -128,8 +128,8 @@ pub fn chosen_blocks(
     ensures single { IfOk result (λ made. All IsSingle made) }
 {
     let mut blocks = Blocks::new(alloc);
-    for k in 0..columns.len() {
-        let column = chosen_column(alloc, on.column(*columns.at(k)), rows)?;
+    for place in columns.as_slice() {
+        let column = chosen_column(alloc, on.column(*place), rows)?;
         blocks.push(column.into_block())?;
     }
     Ok(blocks)

@@ -104,8 +104,8 @@ fn cells_at(alloc: Global, column: ColRef<'_>, rows: &Gaps) -> Result<Cells, NoM
     ensures { IfOk result (λ cells. cells ≡ taken Na column.entry.cells rows.now) }
 {
     let mut cells = Cells::new(alloc);
-    for k in 0..rows.len() {
-        cells.push(cell_or_na(&column, *rows.at(k)))?;
+    for row in rows.as_slice() {
+        cells.push(cell_or_na(&column, *row))?;
     }
     Ok(cells)
 }

@@ -2,7 +2,6 @@
 ghost use Rattle.std.specs.Prelude.{◌≡◌, [], List, length, IfOk, IfSome};
 ghost use Rattle.cell_core.specs.declared.grid.Shape.TheVariants.{Frame};
 ghost use Rattle.meaning.specs.Text.{Text as OneText};
-ghost use Rattle.multi_index.specs.Axes.{HaveLevels};
 ghost use Rattle.table_meaning.specs.Settled.{IsSettled};
 ghost use Rattle.table_meaning.specs.Table.{table_value};
 ghost use Rattle.select_meaning.specs.Set as meant;
@@ -89,8 +88,7 @@ fn access_change(
     second: Option<&Subscript>,
     value: NewValue<'_>,
 ) -> Result<Change, OpFault>
-    requires known { IsKnownTable dict.now on.now }
-    requires levels { HaveLevels (length on.now.level_names) on.now.labels }
+    requires table { CanSelect dict.now on.now }
     requires settled { IsSettledWorld (world store.now dict.now) }
     requires first { IsKnownSubscript (world store.now dict.now) first.now }
     requires second { IsKnownSecond (world store.now dict.now) second }
@@ -152,8 +150,7 @@ fn setting_for(
     second: Option<&Subscript>,
     value: NewValue<'_>,
 ) -> Result<Setting, OpFault>
-    requires known { IsKnownTable dict.now on.now }
-    requires levels { HaveLevels (length on.now.level_names) on.now.labels }
+    requires table { CanSelect dict.now on.now }
     requires settled { IsSettledWorld (world store.now dict.now) }
     requires first { IsKnownSubscript (world store.now dict.now) first.now }
     requires second { IsKnownSecond (world store.now dict.now) second }

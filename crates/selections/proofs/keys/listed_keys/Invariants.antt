@@ -6,8 +6,8 @@ use Rattle.{
 use Rattle.selections.proofs.keys.listed_keys.Given as goal
 
 -- the keys so far, before those of the other items
-abbrev pub invariant-loop-k : goal.invariant-loop-k
-invariant-loop-k l = record {
-  keys : (live : Tables) (texts : List Text) → keys_after texts l.made (whole_items l.levels (items_of live texts (drop l.k l.items))) ≡ whole_items l.levels (items_of live texts l.items);
+abbrev pub invariant-loop-item : goal.invariant-loop-item
+invariant-loop-item l = record {
+  keys : (live : Tables) (texts : List Text) → keys_after texts l.made (whole_items l.levels (items_of live texts (drop l.item-index l.items))) ≡ whole_items l.levels (items_of live texts l.items);
   full : HaveLevels l.levels l.made;
 }

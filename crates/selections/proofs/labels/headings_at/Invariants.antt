@@ -5,5 +5,5 @@ use Rattle.{
 use Rattle.selections.proofs.labels.headings_at.Given as goal
 
 -- the headings so far
-abbrev pub invariant-loop-k : goal.invariant-loop-k
-invariant-loop-k l = l.headings.items ≡ headings_at l.on (take l.k l.places)
+abbrev pub invariant-loop-place : goal.invariant-loop-place
+invariant-loop-place l = l.headings.items ≡ headings_at l.on (take l.place-index l.place-items)

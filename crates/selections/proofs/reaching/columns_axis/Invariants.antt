@@ -5,5 +5,5 @@ use Rattle.{
 use Rattle.selections.proofs.reaching.columns_axis.Given as goal
 
 -- the labels so far
-abbrev pub invariant-loop-k : goal.invariant-loop-k
-invariant-loop-k l = l.labels ≡ heading_tuples l.on.headings (take l.k l.places)
+abbrev pub invariant-loop-place : goal.invariant-loop-place
+invariant-loop-place l = l.labels ≡ heading_tuples l.on.headings (take l.place-index l.place-items)

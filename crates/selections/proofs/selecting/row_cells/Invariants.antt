@@ -5,5 +5,5 @@ use Rattle.{
 use Rattle.selections.proofs.selecting.row_cells.Given as goal
 
 -- the cells so far
-abbrev pub invariant-loop-k : goal.invariant-loop-k
-invariant-loop-k l = l.cells ≡ cells_across l.fn.kind l.fn.row l.on (take l.k l.columns)
+abbrev pub invariant-loop-place : goal.invariant-loop-place
+invariant-loop-place l = l.cells ≡ cells_across l.fn.kind l.fn.row l.on (take l.place-index l.place-items)

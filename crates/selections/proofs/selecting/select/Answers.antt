@@ -5,8 +5,8 @@ use Rattle.{
 }
 use Rattle.selections.proofs.selecting.select.Goals as goal
 
-pub plan_for-requires-clause-known : goal.plan_for-requires-clause-known
-plan_for-requires-clause-known c = search object_settled
+pub plan_for-requires-clause-table : goal.plan_for-requires-clause-table
+plan_for-requires-clause-table c = record { known = search object_settled; levels = c.read.ensures.levels }
 
 pub returns : goal.returns
 returns c =

@@ -5,8 +5,8 @@ use Rattle.{
 use Rattle.selections.proofs.taking.chosen_blocks.Given as goal
 
 -- the columns so far
-abbrev pub invariant-loop-k : goal.invariant-loop-k
-invariant-loop-k l = record {
-  columns : map block_column l.blocks ≡ columns_at l.rows (take l.k l.columns) l.on;
+abbrev pub invariant-loop-place : goal.invariant-loop-place
+invariant-loop-place l = record {
+  columns : map block_column l.blocks ≡ columns_at l.rows (take l.place-index l.place-items) l.on;
   single : All IsSingle l.blocks;
 }

@@ -1,10 +1,9 @@
 use Rattle.{
-  form_parts.proofs.Common.{◌<◌, length, arith},
+  std.proofs.lemmas.Option.{slice_get-get_or},
   settings.proofs.AlignLaws.{gap_more},
 }
 use Rattle.settings.proofs.aligning.cells_at.Goals as goal
 
-pub loop-k-preserved : goal.loop-k-preserved
-loop-k-preserved c =
-    let lt : c.loop-k.k < length c.args.rows.now = omega arith in
-    gap_more _ _ _ _ _ _ _ lt c.at.ensures c.cell_or_na.ensures c.loop-k.invariant c.in_ok-push.ensures.ok
+pub loop-row-preserved : goal.loop-row-preserved
+loop-row-preserved c =
+    gap_more _ _ _ _ _ _ _ c.loop-row-test.true (slice_get-get_or _ _ _ c.loop-row-test.true) c.cell_or_na.ensures c.loop-row.invariant c.in_ok-push.ensures.ok

@@ -6,8 +6,8 @@ use Rattle.{
 }
 use Rattle.settings.proofs.assigning.assign.Goals as goal
 
-pub setting_for-requires-clause-known : goal.setting_for-requires-clause-known
-setting_for-requires-clause-known c = search object_settled
+pub setting_for-requires-clause-table : goal.setting_for-requires-clause-table
+setting_for-requires-clause-table c = record { known = search object_settled; levels = c.read.ensures.levels }
 
 pub returns-in_err-carry_out : goal.returns-in_err-carry_out
 returns-in_err-carry_out c =
