@@ -1,6 +1,6 @@
 -- The number of so many cells, and of one more.
 use Rattle.{
-  meaning.proofs.Common.{◌≡◌, ℕ, zero, suc, ◌+◌, ℤ, pos, List, fold, slice_get, ap, ◌∙◌, arith, unwrap_or, Some, range_with_len, Cell, Na},
+  column_core.proofs.cells.Common.{◌≡◌, ℕ, zero, suc, ◌+◌, ℤ, pos, List, fold, slice_get, ap, ◌∙◌, arith, unwrap_or, Some, range_with_len, Cell, Na},
   column_bench.specs.Checks.{check_more, check_below},
 }
 

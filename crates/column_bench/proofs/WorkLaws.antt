@@ -1,7 +1,6 @@
 -- What the operations are made on is such that they take it.
 use Rattle.{
-  meaning.proofs.Common.{◌≡◌, ℕ, ◌-◌, ◌<◌, nat_lt, Bool, true, false, cond, List, length, sym, subst, ◌∙◌, arith, Option, Some, None, slice_index_or, All-map, length-map-range_with_len, get_or-map-range_with_len, range_with_len, Na, IsGiven, tabulate},
-  column_core.specs.Moves.{IsPlaceOf},
+  column_core.{proofs.cells.Common.{◌≡◌, ℕ, ◌-◌, ◌<◌, nat_lt, Bool, true, false, cond, List, length, sym, subst, ◌∙◌, arith, Option, Some, None, slice_index_or, All-map, length-map-range_with_len, get_or-map-range_with_len, range_with_len, Na, IsGiven, tabulate}, specs.Moves.{IsPlaceOf}},
   column_bench.specs.{declared.{data.Data.{Data, TheVariants.{Numbers, Divisors, Truths, OtherTruths, Bits}}, operation.Operation.{Operation, TheVariants.{Add, FloorDiv, Lt, And, Sum, Cumsum, Shift, Take, Cast}}, work.Work.{Work}}, Data.{jump_of, other_jump_of, data_cell, data_column, place_at, number_cell, divisor_cell, truth_cell, bit_cell}, Operation.{work_of}, Work.{NeedNoTexts, ArePaired, IsReady}},
 }
 

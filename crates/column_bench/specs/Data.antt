@@ -4,7 +4,7 @@ use Rattle.cell_core.specs.declared.cell.Cell.{Cell}
 use Rattle.cell_core.specs.declared.cell.Cell.TheVariants as cell
 use Rattle.cell_core.specs.declared.cell.Kind.{Kind}
 use Rattle.cell_core.specs.declared.cell.Kind.TheVariants.{Int64, Boolean}
-use Rattle.meaning.specs.Column.{tabulate}
+use Rattle.column_core.specs.cells.Column.{tabulate}
 use Rattle.column_core.specs.Columns.{CellColumn}
 use Rattle.column_bench.specs.declared.data.Data.{Data}
 use Rattle.column_bench.specs.declared.data.Data.TheVariants.{Numbers, Divisors, Truths, OtherTruths, Bits}

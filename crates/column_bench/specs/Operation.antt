@@ -1,6 +1,6 @@
 -- The operations by name, and what each is made on.
 use Rattle.std.specs.Prelude.{ℕ, List, bytes_eq, codes, Option, Some, None, if◌then◌else◌}
-use Rattle.meaning.specs.Column.{tabulate}
+use Rattle.column_core.specs.cells.Column.{tabulate}
 use Rattle.column_operators.specs.declared.ops.Operator.TheVariants as binary
 use Rattle.column_bench.specs.Data.{data_column, place_at}
 use Rattle.column_bench.specs.declared.data.Data.TheVariants.{Numbers, Divisors, Truths, OtherTruths, Bits}

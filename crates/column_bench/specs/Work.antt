@@ -3,14 +3,14 @@ use Rattle.std.specs.Prelude.{◌≡◌, ℕ, pos, List, length, All, Result, Ok
 use Rattle.cell_core.specs.declared.cell.Cell.{Cell}
 use Rattle.cell_core.specs.declared.cell.Cell.TheVariants.{Na}
 use Rattle.cell_core.specs.declared.cell.Kind.TheVariants.{Boolean}
-use Rattle.meaning.specs.Cell.{CellValue, datum, AreGiven}
-use Rattle.meaning.specs.Column.{ColumnValue, ColumnFault, shifted, taken}
-use Rattle.meaning.specs.Operator.{binary_column}
-use Rattle.meaning.specs.Reduce.{reduce_column}
-use Rattle.meaning.specs.Reduce as reduction
-use Rattle.meaning.specs.Cumulate.{cumulate_column}
-use Rattle.meaning.specs.Cumulate as cumulation
-use Rattle.meaning.specs.Cast.{cast_column}
+use Rattle.column_core.specs.cells.Cell.{CellValue, datum, AreGiven}
+use Rattle.column_core.specs.cells.Column.{ColumnValue, ColumnFault, shifted, taken}
+use Rattle.column_core.specs.cells.Operator.{binary_column}
+use Rattle.column_core.specs.cells.Reduce.{reduce_column}
+use Rattle.column_core.specs.cells.Reduce as reduction
+use Rattle.column_core.specs.cells.Cumulate.{cumulate_column}
+use Rattle.column_core.specs.cells.Cumulate as cumulation
+use Rattle.column_core.specs.cells.Cast.{cast_column}
 use Rattle.nullable_array.specs.declared.ops.ArrayFault.{ArrayFault}
 use Rattle.nullable_array.specs.Answers.{IsRefusal}
 use Rattle.column_core.specs.Columns.{CellColumn, column_value}

@@ -2,8 +2,8 @@
 ghost use Rattle.std.specs.Prelude.{◌≡◌, ◌<◌, ℕ, List, true, IfOk};
 ghost use Rattle.cell_core.specs.declared.cell.Cell.TheVariants.{Na};
 ghost use Rattle.cell_core.specs.declared.cell.Kind.TheVariants.{Int64, Boolean};
-ghost use Rattle.meaning.specs.Cell.{datum, holds};
-ghost use Rattle.meaning.specs.Column.{tabulate};
+ghost use Rattle.column_core.specs.cells.Cell.{datum, holds};
+ghost use Rattle.column_core.specs.cells.Column.{tabulate};
 ghost use Rattle.column_bench.specs.Data.{jump_of, other_jump_of, unless_missing, number_cell, divisor_cell, truth_cell, bit_cell, data_kind, data_cell, data_column, place_at};
 
 use cell_core::{Cell, Gaps, Kind, NoMemory};

@@ -1,6 +1,6 @@
 // The operations by name.
 ghost use Rattle.std.specs.Prelude.{◌≡◌, IfOk};
-ghost use Rattle.meaning.specs.Column.{tabulate};
+ghost use Rattle.column_core.specs.cells.Column.{tabulate};
 ghost use Rattle.column_bench.specs.Data.{data_column, place_at};
 ghost use Rattle.column_bench.specs.declared.data.Data.TheVariants.{Numbers, Divisors, Truths, OtherTruths};
 ghost use Rattle.column_bench.specs.Operation.{name_of, operation_named, work_of};

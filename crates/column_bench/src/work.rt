@@ -1,7 +1,7 @@
 // Operations with what they are made on.
 ghost use Rattle.std.specs.Prelude.{◌≡◌, ℕ, List, All, length, Result};
-ghost use Rattle.meaning.specs.Cell.{CellValue};
-ghost use Rattle.meaning.specs.Column.{ColumnValue, ColumnFault};
+ghost use Rattle.column_core.specs.cells.Cell.{CellValue};
+ghost use Rattle.column_core.specs.cells.Column.{ColumnValue, ColumnFault};
 ghost use Rattle.nullable_array.specs.Answers.{Answers, AnswersCell};
 ghost use Rattle.column_core.specs.Moves.{IsPlaceOf};
 ghost use Rattle.column_bench.specs.Work.{NeedNoTexts, ArePaired, IsReady, whole_of, one_of, work_value, IsAnswer};

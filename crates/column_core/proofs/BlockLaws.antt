@@ -1,6 +1,6 @@
 -- Columns that are kept one after another.
 use Rattle.{
-  meaning.{proofs.Common.{◌≡◌, ◌≢◌, ℕ, zero, suc, ◌+◌, ◌*◌, ◌<◌, ◌≤◌, pos, Bool, true, false, List, [], ◌∷◌, length, map, replicate, nat_lt, slice_set, slice_get, slice_index_or, refl, sym, ap, ◌∙◌, arith, Option, Some, None, is_some, unwrap_or, ltb-true, ltb-false, get_or-set_same, get_or-set_other, length-set, fill_by_all, range_with_len, Cell, Na, Kind, AreRowsBelow, tabulate, with_cell}, specs.Block.{in_columns, filled_with, strided}},
+  meaning_cells.{proofs.Common.{◌≡◌, ◌≢◌, ℕ, zero, suc, ◌+◌, ◌*◌, ◌<◌, ◌≤◌, pos, Bool, true, false, List, [], ◌∷◌, length, map, replicate, nat_lt, slice_set, slice_get, slice_index_or, refl, sym, ap, ◌∙◌, arith, Option, Some, None, is_some, unwrap_or, ltb-true, ltb-false, get_or-set_same, get_or-set_other, length-set, fill_by_all, range_with_len, Cell, Na, Kind, AreRowsBelow, tabulate, with_cell}, specs.Block.{in_columns, filled_with, strided}},
   column_core.{specs.{Lanes.{option_at}, Columns.{CellColumn, column_with}, Blocks.{CellBlock, block_with}}, proofs.{ColumnLaws.{length-tabulate, get-tabulate}, MoveLaws.{get_or-tabulate}, CellRows.{range-same}, RowsMade.{option-set_same, option-set_other}}},
 }
 

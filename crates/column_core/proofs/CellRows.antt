@@ -1,6 +1,6 @@
 -- From rows of values to columns of cells.
 use Rattle.{
-  meaning.proofs.Common.{◌≡◌, ℕ, zero, suc, ◌+◌, ◌<◌, ◌≤◌, arith, Bool, List, [], ◌∷◌, ◌++◌, length, map, refl, sym, ap, ◌∙◌, Option, Some, option_map, Result, Ok, Err, OnOk, map-range_with_len_more, range_with_len, Cell, Kind, CellValue, datum, ColumnFault, zero_division, tabulate, try_each, try_pairs, column_of},
+  meaning_cells.proofs.Common.{◌≡◌, ℕ, zero, suc, ◌+◌, ◌<◌, ◌≤◌, arith, Bool, List, [], ◌∷◌, ◌++◌, length, map, refl, sym, ap, ◌∙◌, Option, Some, option_map, Result, Ok, Err, OnOk, map-range_with_len_more, range_with_len, Cell, Kind, CellValue, datum, ColumnFault, zero_division, tabulate, try_each, try_pairs, column_of},
   column_core.specs.{Lanes.{option_at, IsPushed}, Columns.{CellColumn, column_value, column_with}, Rows.{try_rows, made_rows, map_rows}},
 }
 

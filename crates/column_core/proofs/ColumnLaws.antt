@@ -1,6 +1,6 @@
 -- Laws of the cells of a column, row by row.
 use Rattle.{
-  meaning.proofs.Common.{◌≡◌, ℕ, zero, suc, ◌+◌, ◌<◌, List, length, map, slice_get, arith, Option, Some, length-map-range_with_len, get_or-map-range_with_len, range_with_len, Cell, Kind, tabulate, IsGiven, AreGiven},
+  meaning_cells.proofs.Common.{◌≡◌, ℕ, zero, suc, ◌+◌, ◌<◌, List, length, map, slice_get, arith, Option, Some, length-map-range_with_len, get_or-map-range_with_len, range_with_len, Cell, Kind, tabulate, IsGiven, AreGiven},
   column_core.specs.Columns.{CellColumn, column_with},
 }
 

@@ -1,6 +1,6 @@
 -- Laws that the goals of functions want, by the name of the first that does.
 use Rattle.{
-  meaning.proofs.Common.{slice_get},
+  meaning_cells.proofs.Common.{slice_get},
   column_core.proofs.{BlockLaws.{columns_of, place_within, column_rows, column_cells, rows_of, place_below, put_block, option-replicate}, ColumnLaws.{length-tabulate}},
   std.proofs.Math.Facts.{to_z-of_z},
 }

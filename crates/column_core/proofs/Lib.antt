@@ -5,3 +5,5 @@ pub mod MoveLaws
 pub mod StrideLaws
 pub mod BlockLaws
 pub mod Hints
+-- laws of crates below, passed on to the crates above
+pub use Rattle.meaning_cells.proofs as cells

@@ -1,6 +1,6 @@
 -- Rows that are taken from others, as cells.
 use Rattle.{
-  meaning.proofs.Common.{◌≡◌, ℕ, ◌-◌, ◌<◌, ℤ, Bool, cond, List, length, map, nat_lt, slice_index_or, sym, ◌∙◌, arith, Option, None, Result, IfOk, All, ltb-true, ltb-false, get_or_past, get_or-map, length-map, get_or-map-range_with_len, fill_by_all, Cell, Na, tabulate, shifted_row, shifted, gap_cell, taken},
+  meaning_cells.proofs.Common.{◌≡◌, ℕ, ◌-◌, ◌<◌, ℤ, Bool, cond, List, length, map, nat_lt, slice_index_or, sym, ◌∙◌, arith, Option, None, Result, IfOk, All, ltb-true, ltb-false, get_or_past, get_or-map, length-map, get_or-map-range_with_len, fill_by_all, Cell, Na, tabulate, shifted_row, shifted, gap_cell, taken},
   column_core.{specs.{Columns.{CellColumn}, Moves.{moved_row, is_ahead, distance_of, gap_at, picked_row, IsPlaceOf}}, proofs.{ColumnLaws.{length-tabulate}, CellRows.{range-same}}},
 }
 

@@ -1,6 +1,6 @@
 -- Laws of rows that are made one after another.
 use Rattle.{
-  meaning.proofs.Common.{◌≡◌, ◌≢◌, ℕ, zero, suc, ◌+◌, ◌<◌, ◌≤◌, Bool, List, [], ◌∷◌, ◌++◌, length, map, take, slice_get, slice_set, refl, arith, Option, Some, None, is_some, unwrap_or, IsSome, Result, Ok, Err, inl, inr, cases_eq, get_or-set_same, get_or-set_other, take_at, range_with_len, try_each, then_rows},
+  meaning_cells.proofs.Common.{◌≡◌, ◌≢◌, ℕ, zero, suc, ◌+◌, ◌<◌, ◌≤◌, Bool, List, [], ◌∷◌, ◌++◌, length, map, take, slice_get, slice_set, refl, arith, Option, Some, None, is_some, unwrap_or, IsSome, Result, Ok, Err, inl, inr, cases_eq, get_or-set_same, get_or-set_other, take_at, range_with_len, try_each, then_rows},
   column_core.specs.{Lanes.{option_at}, Rows.{try_rows, made_rows, AreWritten, IsFirstRefused}},
 }
 

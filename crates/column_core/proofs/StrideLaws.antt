@@ -1,6 +1,6 @@
 -- A step over rows that have a step.
 use Rattle.{
-  meaning.proofs.Common.{◌≡◌, ℕ, suc, ◌+◌, ◌-◌, ◌*◌, ◌<◌, ◌≤◌, ℤ, pos, negsuc, Bool, true, false, not, cond, arith, Rows, place_from, AreRowsBelow},
+  meaning_cells.proofs.Common.{◌≡◌, ℕ, suc, ◌+◌, ◌-◌, ◌*◌, ◌<◌, ◌≤◌, ℤ, pos, negsuc, Bool, true, false, not, cond, arith, Rows, place_from, AreRowsBelow},
   cell_core.specs.Grids.{IsPlace},
   column_core.specs.{Lanes.{LaneFits, lane_place}, Moves.{is_ahead, distance_of}},
 }

@@ -3,7 +3,7 @@ use Rattle.std.specs.Prelude.{◌≡◌, ℕ, ◌*◌, ◌<◌, ◌^◌, List, l
 use Rattle.cell_core.specs.declared.cell.Kind.{Kind}
 use Rattle.cell_core.specs.declared.cell.Cell.{Cell}
 use Rattle.cell_core.specs.declared.cell.Cell.TheVariants as cell
-use Rattle.meaning.specs.Block.{in_columns}
+use Rattle.meaning_cells.specs.Block.{in_columns}
 use Rattle.column_core.specs.Columns.{CellColumn}
 
 -- each column has so many rows, also where there is no column

@@ -4,9 +4,9 @@ use Rattle.cell_core.specs.declared.cell.Kind.{Kind}
 use Rattle.cell_core.specs.declared.cell.TextId.{TextId}
 use Rattle.cell_core.specs.declared.cell.Cell.{Cell}
 use Rattle.cell_core.specs.declared.cell.Cell.TheVariants as cell
-use Rattle.meaning.specs.Cell.{CellValue, na_cell, datum, IsGiven}
-use Rattle.meaning.specs.Cell as value
-use Rattle.meaning.specs.Column.{ColumnValue, tabulate}
+use Rattle.meaning_cells.specs.Cell.{CellValue, na_cell, datum, IsGiven}
+use Rattle.meaning_cells.specs.Cell as value
+use Rattle.meaning_cells.specs.Column.{ColumnValue, tabulate}
 
 pub record CellColumn : Type 0 where
   pub kind : Kind

@@ -1,11 +1,11 @@
 -- Rows that are made one after another, each of which may be refused.
 use Rattle.std.specs.Prelude.{◌≡◌, ℕ, ◌<◌, Bool, List, map, Option, Some, None, option_map, IsSome, Result, Ok, Err, if◌then◌else◌}
 use Rattle.std.specs.List.{range_with_len}
-use Rattle.meaning.specs.Column.{try_each, tabulate}
+use Rattle.meaning_cells.specs.Column.{try_each, tabulate}
 use Rattle.column_core.specs.declared.rows.RowFault.{RowFault}
 use Rattle.column_core.specs.declared.rows.RowFault.TheVariants.{Row, Memory}
 use Rattle.cell_core.specs.declared.cell.TextId.{TextId}
-use Rattle.meaning.specs.Cell.{text_of, IsGiven}
+use Rattle.meaning_cells.specs.Cell.{text_of, IsGiven}
 use Rattle.column_core.specs.Lanes.{option_at}
 use Rattle.column_core.specs.Columns.{text_cell}
 

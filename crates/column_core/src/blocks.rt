@@ -2,8 +2,8 @@
 ghost use Rattle.std.specs.Prelude.{◌≡◌, ◌<◌, ◌∷◌, [], ℕ, List, true, length, replicate, slice_set, slice_get, slice_index_or, Some, IfOk};
 ghost use Rattle.cell_core.specs.Grids.{AreRowsBelow};
 ghost use Rattle.cell_core.specs.declared.cell.Cell.TheVariants.{Na};
-ghost use Rattle.meaning.specs.Cell.{datum, holds};
-ghost use Rattle.meaning.specs.Block.{strided, filled_with, with_cell};
+ghost use Rattle.meaning_cells.specs.Cell.{datum, holds};
+ghost use Rattle.meaning_cells.specs.Block.{strided, filled_with, with_cell};
 ghost use Rattle.column_core.specs.Views.{kept_column};
 
 use crate::columns::{ColRef, Column, Kept, number_in, text_in, truth_in, whole};

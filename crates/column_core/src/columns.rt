@@ -6,7 +6,7 @@ ghost use Rattle.cell_core.specs.declared.cell.Cell.{Cell as OneCell};
 ghost use Rattle.cell_core.specs.declared.cell.Cell.TheVariants.{Na};
 ghost use Rattle.column_core.specs.Lanes.{option_at};
 ghost use Rattle.column_core.specs.Columns.{number_cell, truth_cell, text_cell, column_with, number_given, truth_given};
-ghost use Rattle.meaning.specs.Cell.{IsGiven, datum, holds};
+ghost use Rattle.meaning_cells.specs.Cell.{IsGiven, datum, holds};
 ghost use Rattle.column_core.specs.Views.{kept_column};
 
 use crate::lanes::{Lane, Owned};

@@ -1,7 +1,7 @@
 // Columns of rows that are taken from another column.
 ghost use Rattle.std.specs.Prelude.{◌≡◌, ◌<◌, ◌≤◌, ◌-◌, ◌++◌, ℕ, ℤ, All, length, take, drop, replicate, Option, Some, IfOk};
 ghost use Rattle.cell_core.specs.declared.cell.Cell.TheVariants.{Na};
-ghost use Rattle.meaning.specs.Column.{shifted, taken};
+ghost use Rattle.meaning_cells.specs.Column.{shifted, taken};
 ghost use Rattle.column_core.specs.Columns.{column_with};
 ghost use Rattle.column_core.specs.Lanes.{lane_row, option_at};
 ghost use Rattle.column_core.specs.Moves.{moved_row, is_ahead, distance_of, gap_at, picked_row, IsPlaceOf};

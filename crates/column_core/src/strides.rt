@@ -2,7 +2,7 @@
 ghost use Rattle.std.specs.Prelude.{◌≡◌, ◌<◌, ◌≤◌, ◌+◌, ℕ, false, not, length, if◌then◌else◌};
 ghost use Rattle.cell_core.specs.Grids.{AreRowsBelow, place_from};
 ghost use Rattle.cell_core.specs.declared.cell.Cell.TheVariants.{Na};
-ghost use Rattle.meaning.specs.Block.{strided as strided_cells};
+ghost use Rattle.meaning_cells.specs.Block.{strided as strided_cells};
 ghost use Rattle.column_core.specs.Lanes.{lane_row};
 
 use crate::columns::{Borrowed, ColRef};

@@ -1,8 +1,7 @@
 -- What an operation makes of values is what the operator makes of their cells.
 use Rattle.{
-  meaning.{proofs.Common.{arith, ◌≡◌, ℕ, Bool, not, List, ◌++◌, ℤ, ◌+ℤ◌, Option, Some, option_map, text_of, TextId, datum, invert_cell}, specs.Operator.{division_cells, floor_quotient, floor_rest}},
+  column_core.{proofs.cells.Common.{arith, ◌≡◌, ℕ, Bool, not, List, ◌++◌, ℤ, ◌+ℤ◌, Option, Some, option_map, text_of, TextId, datum, invert_cell}, specs.{cells.Operator.{division_cells, floor_quotient, floor_rest}, Columns.{number_cell, truth_cell, text_cell, text_value}}},
   column_operators.specs.{declared.ops.Task.TheVariants.{Sum, Quotient, Rest}, Tasks.{task_cell}, Operations.{number_row, division_row, not_row, both}},
-  column_core.specs.Columns.{number_cell, truth_cell, text_cell, text_value},
 }
 
 module _ (texts : List (List ℕ)) where

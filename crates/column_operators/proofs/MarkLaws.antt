@@ -1,7 +1,6 @@
 -- Columns of which each cell is made by itself.
 use Rattle.{
-  meaning.proofs.Common.{◌≡◌, ◌∙◌, ◌<◌, ◌+◌, refl, ap, append_assoc, ℕ, ℤ, Bool, true, false, ◌||◌, List, [], ◌∷◌, ◌++◌, map, length, drop, get_or, Option, Some, Result, Ok, Err, IfOk, arith, drop-cons, list_any, int_eq, Cell, TextId, Kind, Boolean},
-  column_core.{specs.Columns.{CellColumn, number_cell, truth_cell, text_cell, column_with}, proofs.CellRows.{map-map, range-same}},
+  column_core.{proofs.{cells.Common.{◌≡◌, ◌∙◌, ◌<◌, ◌+◌, refl, ap, append_assoc, ℕ, ℤ, Bool, true, false, ◌||◌, List, [], ◌∷◌, ◌++◌, map, length, drop, get_or, Option, Some, Result, Ok, Err, IfOk, arith, drop-cons, list_any, int_eq, Cell, TextId, Kind, Boolean}, CellRows.{map-map, range-same}}, specs.Columns.{CellColumn, number_cell, truth_cell, text_cell, column_with}},
   column_operators.specs.Marks.{same_number, listed_value, listed_truth, numbers_among, text_before, texts_among},
 }
 use Rattle.cell_core.specs.declared.cell.Cell.TheVariants as cell

@@ -1,6 +1,6 @@
 -- Quotients by a product with the inverse of a divisor.
 use Rattle.{
-  meaning.proofs.Common.{◌≡◌, ℕ, ◌+◌, ◌-◌, ◌*◌, ◌/◌, ◌%◌, ◌<◌, ◌≤◌, ◌^◌, inl, inr, sym, arith, pow-le-pow_right, cases_lt, mul-le, div-mul-add, div-add-mod', div_below, pow-add, leading_length, ◌⊎◌, count_leading_zeros},
+  column_core.proofs.cells.Common.{◌≡◌, ℕ, ◌+◌, ◌-◌, ◌*◌, ◌/◌, ◌%◌, ◌<◌, ◌≤◌, ◌^◌, inl, inr, sym, arith, pow-le-pow_right, cases_lt, mul-le, div-mul-add, div-add-mod', div_below, pow-add, leading_length, ◌⊎◌, count_leading_zeros},
   std.proofs.lemmas.Nat.{mul-lt, mod_below, le-div, pow_pos},
   column_operators.specs.Quotients.{IsInverse},
 }

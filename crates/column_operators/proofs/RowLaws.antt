@@ -1,8 +1,7 @@
 -- What an operator makes has as many rows as its operands.
 use Rattle.{
-  meaning.{proofs.Common.{◌≡◌, ◌∙◌, ℕ, suc, Bool, true, false, List, ◌∷◌, length, map, arith, Option, Result, Ok, Err, length-map, length-replicate, IfOk, Kind, Cell, Text, CellValue, datum, ColumnValue, try_pairs, then_rows, column_if, zero_division, scalar_binary, scalar_column, Binary}, specs.Operator.{binary_column}},
+  column_core.{proofs.cells.Common.{◌≡◌, ◌∙◌, ℕ, suc, Bool, true, false, List, ◌∷◌, length, map, arith, Option, Result, Ok, Err, length-map, length-replicate, IfOk, Kind, Cell, Text, CellValue, datum, ColumnValue, try_pairs, then_rows, column_if, zero_division, scalar_binary, scalar_column, Binary}, specs.{cells.Operator.{binary_column}, Columns.{CellColumn, column_value as cells_value}}},
   nullable_array.specs.{Answers.{Answers}, declared.ops.ArrayFault.{ArrayFault}},
-  column_core.specs.Columns.{CellColumn, column_value as cells_value},
 }
 
 one_more_row : (row : ℕ) (o : Option CellValue) (r : Result (List CellValue) ℕ) (zs xs : List CellValue) → ((rest : List CellValue) → r ≡ Ok rest → length rest ≡ length xs) → then_rows o row r ≡ Ok zs → length zs ≡ suc (length xs)

@@ -1,10 +1,9 @@
 -- A scalar beside each cell of a column.
 use Rattle.{
-  meaning.proofs.Common.{arith, ◌≡◌, ℕ, zero, suc, ◌+◌, Bool, true, false, List, length, map, replicate, refl, sym, ap, ◌∙◌, Option, Result, length-map, range_with_len, Cell, Kind, TextId, CellValue, datum, tabulate, scalar_kind, scalar_column},
+  column_core.{proofs.{cells.Common.{arith, ◌≡◌, ℕ, zero, suc, ◌+◌, Bool, true, false, List, length, map, replicate, refl, sym, ap, ◌∙◌, Option, Result, length-map, range_with_len, Cell, Kind, TextId, CellValue, datum, tabulate, scalar_kind, scalar_column}, ColumnLaws.{length-tabulate}}, specs.Columns.{CellColumn, column_value, column_with, text_cell}},
   cell_core.specs.declared.cell.Kind.TheVariants.{Text as string},
   nullable_array.specs.{declared.ops.ArrayFault.{ArrayFault}, Answers.{Answers}},
   column_operators.specs.{declared.ops.Task.{Task}, Tasks.{task_column, scalar_task}},
-  column_core.{specs.Columns.{CellColumn, column_value, column_with, text_cell}, proofs.ColumnLaws.{length-tabulate}},
 }
 
 pub text_kept : (texts : List (List ℕ)) (x : Option TextId) → scalar_kind string (datum texts (text_cell x)) ≡ string

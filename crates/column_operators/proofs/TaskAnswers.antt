@@ -1,7 +1,6 @@
 -- What operators answer, from rows of values to columns of cells.
 use Rattle.{
-  meaning.proofs.Common.{arith, ◌≡◌, ℕ, List, Option, Some, option_map, Result, Cell, Kind, datum, zero_division, column_of},
-  column_core.{specs.{Columns.{CellColumn, column_value, column_with}, Rows.{try_rows, map_rows}}, proofs.CellRows.{map-map, pairs-rows}},
+  column_core.{proofs.{cells.Common.{arith, ◌≡◌, ℕ, List, Option, Some, option_map, Result, Cell, Kind, datum, zero_division, column_of}, CellRows.{map-map, pairs-rows}}, specs.{Columns.{CellColumn, column_value, column_with}, Rows.{try_rows, map_rows}}},
   nullable_array.specs.{declared.ops.ArrayFault.{ArrayFault}, Answers.{Answers}},
   column_operators.specs.{declared.ops.Task.{Task}, Tasks.{task_cell, task_kind, task_column}},
 }

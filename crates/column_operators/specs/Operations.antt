@@ -4,8 +4,8 @@ use Rattle.std.specs.Int.{int_wrap, w64}
 use Rattle.std.specs.Ordering.{int_eq}
 use Rattle.std.specs.declared.cmp.Ordering.{Ordering}
 use Rattle.cell_core.specs.declared.cell.Kind.TheVariants.{Boolean}
-use Rattle.meaning.specs.Cell.{datum}
-use Rattle.meaning.specs.Column.{ColumnValue, ColumnFault, zero_division, column_of}
+use Rattle.column_core.specs.cells.Cell.{datum}
+use Rattle.column_core.specs.cells.Column.{ColumnValue, ColumnFault, zero_division, column_of}
 use Rattle.column_core.specs.Columns.{truth_cell}
 use Rattle.column_core.specs.Rows.{try_rows, map_rows}
 use Rattle.column_operators.specs.declared.ops.Relation.{Relation}

@@ -5,7 +5,7 @@ use Rattle.std.specs.Cmp.{signed_Decides, below_irrefl}
 use Rattle.std.specs.Ordering.{int_eq}
 use Rattle.std.specs.Int.{int_wrap, w64}
 use Rattle.std.proofs.Common.{refl, ap, subst}
-use Rattle.meaning.specs.Operator.{floor_quotient}
+use Rattle.column_core.specs.cells.Operator.{floor_quotient}
 use Rattle.column_core.specs.Rows.{flagged}
 use Rattle.column_operators.specs.Operations.{division_row}
 

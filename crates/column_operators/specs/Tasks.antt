@@ -7,10 +7,10 @@ use Rattle.cell_core.specs.declared.cell.Cell.{Cell}
 use Rattle.column_core.specs.declared.lanes.Lane.{Lane}
 use Rattle.column_core.specs.Columns.{CellColumn, column_with}
 use Rattle.column_core.specs.Lanes.{lane_row}
-use Rattle.meaning.specs.Cell.{CellValue}
-use Rattle.meaning.specs.Column.{ColumnValue, ColumnFault, zero_division, column_if, try_pairs}
-use Rattle.meaning.specs.Operator.{floor_quotient, floor_rest, add_cells, number_cells, division_cells, compare_cells, and_cells, or_cells, xor_cells, number_kind, sum_kind, comparison_kind, truth_kind, scalar_column}
-use Rattle.meaning.specs.Symbol as symbol
+use Rattle.column_core.specs.cells.Cell.{CellValue}
+use Rattle.column_core.specs.cells.Column.{ColumnValue, ColumnFault, zero_division, column_if, try_pairs}
+use Rattle.column_core.specs.cells.Operator.{floor_quotient, floor_rest, add_cells, number_cells, division_cells, compare_cells, and_cells, or_cells, xor_cells, number_kind, sum_kind, comparison_kind, truth_kind, scalar_column}
+use Rattle.column_core.specs.cells.Symbol as symbol
 use Rattle.column_operators.specs.declared.ops.Operator.{Operator}
 use Rattle.column_operators.specs.declared.ops.Operator.TheVariants.{Add, Sub, Mul, FloorDiv, Mod, Eq, Ne, Lt, Le, Gt, Ge, And, Or, Xor}
 use Rattle.column_operators.specs.declared.ops.Relation.{Relation}

@@ -1,7 +1,7 @@
 // Quotients by one divisor for many dividends.
 ghost use Rattle.std.specs.Prelude.{◌≡◌, ◌<◌, ◌≤◌, ◌*◌, ◌/◌, ◌^◌, pos, Some};
 ghost use Rattle.std.specs.Int.{int_wrap, w64};
-ghost use Rattle.meaning.specs.Operator.{floor_quotient};
+ghost use Rattle.column_core.specs.cells.Operator.{floor_quotient};
 ghost use Rattle.column_operators.specs.Operations.{division_row};
 ghost use Rattle.column_operators.specs.Quotients.{magnitude as magnitude_of, signed_as, quotient_pair, IsInverse};
 

@@ -1,7 +1,7 @@
 // Floor division and its rest, with Python's signs.
 ghost use Rattle.std.specs.Prelude.{◌≡◌, ◌≢◌, pos, ◌<ℤ◌, ◌≤ℤ◌, neg_ℤ};
 ghost use Rattle.std.specs.Int.{int_wrap, w64};
-ghost use Rattle.meaning.specs.Operator.{floor_quotient, floor_rest, rest_from_top};
+ghost use Rattle.column_core.specs.cells.Operator.{floor_quotient, floor_rest, rest_from_top};
 
 /// The quotient, rounded toward minus infinity. It wraps at the smallest number by -1.
 #[inline(always)]

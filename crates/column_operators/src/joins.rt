@@ -1,6 +1,6 @@
 // The sum of texts.
 ghost use Rattle.std.specs.Prelude.{◌≡◌, ◌++◌, [], Option, Some, IfOk, string_bytes};
-ghost use Rattle.meaning.specs.Cell.{text_of, IsGiven};
+ghost use Rattle.column_core.specs.cells.Cell.{text_of, IsGiven};
 ghost use Rattle.column_core.specs.Columns.{text_cell};
 ghost use Rattle.column_core.specs.Rows.{text_if};
 ghost use Rattle.column_operators.specs.Operations.{both};

@@ -2,10 +2,10 @@
 ghost use Rattle.std.specs.Prelude.{◌≡◌, ◌≢◌, ◌<◌, ◌^◌, ℕ, pos, List, length, Option, Some, None, IfOk};
 ghost use Rattle.std.proofs.Common.{refl};
 ghost use Rattle.cell_core.specs.declared.cell.Kind.TheVariants.{Int64, Boolean, Text as string};
-ghost use Rattle.meaning.specs.Cell.{datum, AreGiven, IsGiven, IsLonger};
-ghost use Rattle.meaning.specs.Column.{column_of, zero_division};
-ghost use Rattle.meaning.specs.Operator.{binary_column, scalar_binary, scalar_kind, invert_column};
-ghost use Rattle.meaning.specs.Symbol.{add};
+ghost use Rattle.column_core.specs.cells.Cell.{datum, AreGiven, IsGiven, IsLonger};
+ghost use Rattle.column_core.specs.cells.Column.{column_of, zero_division};
+ghost use Rattle.column_core.specs.cells.Operator.{binary_column, scalar_binary, scalar_kind, invert_column};
+ghost use Rattle.column_core.specs.cells.Symbol.{add};
 ghost use Rattle.column_core.specs.Columns.{column_value, column_with, number_cell, truth_cell, text_cell};
 ghost use Rattle.column_core.specs.Views.{borrowed_column};
 ghost use Rattle.column_core.specs.Rows.{try_rows, map_rows};

@@ -1,7 +1,7 @@
 // Which cells are missing, and what stands in their place.
 ghost use Rattle.std.specs.Prelude.{◌≡◌, ◌||◌, ℕ, List, true, false, not, map, unwrap_or, is_some, Option, Some, IfOk, if◌then◌else◌};
 ghost use Rattle.cell_core.specs.declared.cell.Kind.TheVariants.{Boolean};
-ghost use Rattle.meaning.specs.Cell.{datum, holds};
+ghost use Rattle.column_core.specs.cells.Cell.{datum, holds};
 ghost use Rattle.column_core.specs.Columns.{column_with, truth_cell};
 ghost use Rattle.column_core.specs.Lanes.{lane_row};
 ghost use Rattle.column_operators.specs.Marks.{missing_mark, filled_cell, mark_of, filled_value, mark_pair, filled_pair};

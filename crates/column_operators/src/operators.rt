@@ -1,6 +1,6 @@
 // The operations of the operators on the values of a row.
 ghost use Rattle.std.specs.Prelude.{◌≡◌, ℤ, ◌+ℤ◌, ◌-ℤ◌, ◌*ℤ◌};
-ghost use Rattle.meaning.specs.Operator.{floor_quotient, floor_rest};
+ghost use Rattle.column_core.specs.cells.Operator.{floor_quotient, floor_rest};
 ghost use Rattle.column_operators.specs.Tasks.{passes};
 ghost use Rattle.column_operators.specs.Operations.{number_row, division_row, compare_row, and_row, or_row, xor_row, not_row};
 

@@ -1,6 +1,6 @@
 // The operators, and what each of them does.
 ghost use Rattle.std.specs.Prelude.{◌≡◌};
-ghost use Rattle.meaning.specs.Operator.{operator_kind, operator_cell};
+ghost use Rattle.column_core.specs.cells.Operator.{operator_kind, operator_cell};
 ghost use Rattle.column_operators.specs.Tasks.{operator_of, task_kind, task_cell};
 
 /// An operator on two operands. NA on either side gives NA, but for `And` and `Or` (pandas user guide, "Nullable

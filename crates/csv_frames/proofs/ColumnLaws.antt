@@ -1,9 +1,7 @@
 -- Laws of the columns that all records have.
 use Rattle.{
-  meaning.proofs.Common.{◌≡◌, ◌+◌, ◌<◌, ℕ, suc, refl, true, false, List, [], ◌∷◌, length, map, get_or, Option, Some, None, unwrap_or, arith, length-map, get_or-map, list_all, list_any, Text, Kind, Int64},
-  column_core.specs.Columns.{CellColumn},
-  table_meaning.specs.{Settled.{IsSettled}, Valid.{within_limits}},
-  csv_meaning.specs.CsvRead.{is_missing, kind_of_fields, cell_of_field, column_of_fields, columns_from},
+  column_core.{proofs.cells.Common.{◌≡◌, ◌+◌, ◌<◌, ℕ, suc, refl, true, false, List, [], ◌∷◌, length, map, get_or, Option, Some, None, unwrap_or, arith, length-map, get_or-map, list_all, list_any, Text, Kind, Int64}, specs.Columns.{CellColumn}},
+  meaning_csv.specs.{tables.{Settled.{IsSettled}, Valid.{within_limits}}, CsvRead.{is_missing, kind_of_fields, cell_of_field, column_of_fields, columns_from}},
   csv_frames.{specs.{Views.{column_fields, column_seen, columns_seen}, Growing.{is_mixed, kind_so_far, column_so_far, Grown, AreGrown, GrownTo}, declared.{growing.Growing.{Growing}, growth.Growth.{Growth}}}, proofs.{KindsLaws.{all_na, kind_missing}, GrowingLaws.{na_seen}}},
 }
 use Rattle.csv_frames.specs.declared.growing.Growing.TheVariants as growing

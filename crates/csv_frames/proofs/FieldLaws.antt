@@ -1,8 +1,8 @@
 -- Laws of the fields of a record.
 use Rattle.{
-  meaning.proofs.Common.{◌≡◌, ℕ, zero, suc, refl, List, [], ◌∷◌, unwrap_or, Text},
+  column_core.proofs.cells.Common.{◌≡◌, ℕ, zero, suc, refl, List, [], ◌∷◌, unwrap_or, Text},
   csv.specs.Records.{field_at},
-  csv_meaning.specs.CsvRead.{field_in},
+  meaning_csv.specs.CsvRead.{field_in},
 }
 
 -- the field at a place of all fields

@@ -1,9 +1,7 @@
 -- Columns that have a label of their own, and a cell for each row.
 use Rattle.{
-  meaning.proofs.Common.{◌≡◌, ℕ, suc, refl, ap, List, [], ◌∷◌, length, All, AllPairs, Option, ◌≢◌, arith, length-map, get_or-map, apart_from_distinct, bytes_eq-Decides, IsDistinct, Kind, Label, Text, same_text, text},
-  column_core.specs.Columns.{CellColumn},
-  table_meaning.specs.Table.{tuple_value},
-  csv_meaning.specs.CsvRead.{columns_from},
+  column_core.{proofs.cells.Common.{◌≡◌, ℕ, suc, refl, ap, List, [], ◌∷◌, length, All, AllPairs, Option, ◌≢◌, arith, length-map, get_or-map, apart_from_distinct, bytes_eq-Decides, IsDistinct, Kind, Label, Text, same_text, text}, specs.Columns.{CellColumn}},
+  meaning_csv.specs.{tables.Table.{tuple_value}, CsvRead.{columns_from}},
   csv_frames.specs.Views.{columns_seen, tuples_seen, label_tuples},
 }
 

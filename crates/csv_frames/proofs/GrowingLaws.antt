@@ -1,9 +1,7 @@
 -- Laws of columns that grow field by field.
 use Rattle.{
-  meaning.{proofs.Common.{rules, arith, ◌≡◌, ◌∙◌, ℕ, zero, suc, refl, ap, sym, Bool, true, false, List, [], ◌∷◌, ◌++◌, length, map, replicate, Option, None, unwrap_or, map-append, list_all-append, OnOk, Result, Ok, Err, IsLonger, Cell, TextId, Text, datum, na_cell, Kind, Int64}, specs.Cell.{string}},
-  column_core.{specs.{Columns.{CellColumn, number_cell, text_cell, column_with}, Lanes.{option_at}, declared.lanes.Owned.{Owned}}, proofs.CellRows.{pushed_column}},
-  table_meaning.specs.Settled.{IsSettled},
-  csv_meaning.specs.CsvRead.{is_missing, is_of_kind, kind_of_fields, cell_of_field},
+  column_core.{proofs.{cells.Common.{rules, arith, ◌≡◌, ◌∙◌, ℕ, zero, suc, refl, ap, sym, Bool, true, false, List, [], ◌∷◌, ◌++◌, length, map, replicate, Option, None, unwrap_or, map-append, list_all-append, OnOk, Result, Ok, Err, IsLonger, Cell, TextId, Text, datum, na_cell, Kind, Int64}, CellRows.{pushed_column}}, specs.{cells.Cell.{string}, Columns.{CellColumn, number_cell, text_cell, column_with}, Lanes.{option_at}, declared.lanes.Owned.{Owned}}},
+  meaning_csv.specs.{tables.Settled.{IsSettled}, CsvRead.{is_missing, is_of_kind, kind_of_fields, cell_of_field}},
   csv_frames.{specs.{Views.{column_seen, cells_seen}, Growing.{IsGrownBy, IsFirst, IsPut, IsTextPut, Grown, number_in}, declared.growing.Growing.{Growing}}, proofs.{SettledLaws.{settled_more, seen_later}, KindsLaws.{all_na, kind_first, kind_mixed}}},
 }
 use Rattle.cell_core.specs.declared.cell.Cell.TheVariants as cell

@@ -1,8 +1,8 @@
 -- Laws of columns that grow record by record.
 use Rattle.{
-  meaning.proofs.Common.{append_assoc, ◌≡◌, ◌∙◌, ◌+◌, ◌<◌, ◌≤◌, ℕ, List, [], ◌∷◌, ◌++◌, length, get_or, set, Option, None, arith, map-append, length-set, get_or-set_other, IsLonger, Text, Kind},
+  column_core.proofs.cells.Common.{append_assoc, ◌≡◌, ◌∙◌, ◌+◌, ◌<◌, ◌≤◌, ℕ, List, [], ◌∷◌, ◌++◌, length, get_or, set, Option, None, arith, map-append, length-set, get_or-set_other, IsLonger, Text, Kind},
   std.proofs.lemmas.{Bool.{cases_order}, List.{length-append}, Grind.{get_or-set_at}},
-  csv_meaning.specs.CsvRead.{field_in, first_long},
+  meaning_csv.specs.CsvRead.{field_in, first_long},
   csv_frames.{specs.{Views.{column_fields, column_seen}, Growing.{Grown}, declared.growing.Growing.{Growing}}, proofs.SettledLaws.{settled_later, seen_later}},
 }
 use Rattle.csv_frames.specs.declared.growing.Growing.TheVariants as growing

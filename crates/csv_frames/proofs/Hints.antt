@@ -1,7 +1,7 @@
 -- Laws that the goals of functions want, by the name of the first that does.
 use Rattle.{
-  meaning.proofs.Common.{length-map},
-  csv_meaning.proofs.DifferentLaws.{labels_differ},
+  column_core.proofs.cells.Common.{length-map},
+  meaning_csv.proofs.DifferentLaws.{labels_differ},
   csv_frames.proofs.{SkippedLaws.{number_within, next_number_of, next_old}, ColumnLaws.{columns_settled, columns_right}, LargeLaws.{wide, count_labels}, FilledLaws.{count_tuples, count_columns, tuples_differ, filled}, ReadLaws.{refused, file_read, answered}},
 }
 

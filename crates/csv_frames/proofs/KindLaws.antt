@@ -1,8 +1,8 @@
 -- Laws of kinds that are named for labels.
 use Rattle.{
-  meaning.proofs.Common.{rules, arith, ◌≡◌, ◌+◌, ◌<◌, ℕ, refl, List, [], ◌∷◌, length, drop, slice_get, Option, Some, true, if◌then◌else◌, string_bytes, drop_more, slice_get-get_or, String, string_eq, lookup, Kind, Text, same_text, text_of},
+  column_core.proofs.cells.Common.{rules, arith, ◌≡◌, ◌+◌, ◌<◌, ℕ, refl, List, [], ◌∷◌, length, drop, slice_get, Option, Some, true, if◌then◌else◌, string_bytes, drop_more, slice_get-get_or, String, string_eq, lookup, Kind, Text, same_text, text_of},
   indexmap.specs.IndexMap.{insert_entry},
-  csv_meaning.specs.CsvRead.{kind_listed},
+  meaning_csv.specs.CsvRead.{kind_listed},
   csv_frames.specs.{Views.{entries_seen, kinds_seen, kind_at}, declared.table.NamedKind.{NamedKind}},
 }
 

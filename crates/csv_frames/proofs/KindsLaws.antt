@@ -1,7 +1,7 @@
 -- Laws of the kinds that fields have, one field after the other.
 use Rattle.{
-  meaning.{proofs.Common.{rules, arith, ◌≡◌, refl, Bool, true, false, ◌&&◌, List, [], ◌∷◌, ◌++◌, length, map, replicate, Some, and_parts, list_all-append, list_all, Text, na_cell, Kind, Int64, Boolean}, specs.Cell.{string}},
-  csv_meaning.specs.CsvRead.{is_missing, field_cell, is_of_kind, kind_of_fields, cell_of_field},
+  column_core.{proofs.cells.Common.{rules, arith, ◌≡◌, refl, Bool, true, false, ◌&&◌, List, [], ◌∷◌, ◌++◌, length, map, replicate, Some, and_parts, list_all-append, list_all, Text, na_cell, Kind, Int64, Boolean}, specs.cells.Cell.{string}},
+  meaning_csv.specs.CsvRead.{is_missing, field_cell, is_of_kind, kind_of_fields, cell_of_field},
 }
 
 -- a missing field is a missing cell of each kind

@@ -1,7 +1,7 @@
 -- Laws of the labels of columns.
 use Rattle.{
-  meaning.proofs.Common.{rules, ◌≡◌, ℕ, ◌+◌, ◌-◌, ◌<◌, Bool, false, not, cond, List, [], ◌∷◌, length, nat_eq, refl, arith, list_any, position_or_len, range_with_len, number_of, Text, same_text},
-  csv_meaning.specs.CsvRead.{is_free},
+  column_core.proofs.cells.Common.{rules, ◌≡◌, ℕ, ◌+◌, ◌-◌, ◌<◌, Bool, false, not, cond, List, [], ◌∷◌, length, nat_eq, refl, arith, list_any, position_or_len, range_with_len, number_of, Text, same_text},
+  meaning_csv.specs.CsvRead.{is_free},
 }
 
 at_end : {X : Type 0} (p : X → Bool) (xs : List X) → nat_eq (position_or_len p xs) (length xs) ≡ not (list_any p xs)

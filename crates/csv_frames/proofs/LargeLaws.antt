@@ -1,9 +1,8 @@
 -- Files whose tables are too large.
 use Rattle.{
-  meaning.proofs.Common.{rules, ◌≡◌, ℕ, suc, ap, refl, List, [], ◌∷◌, length, map, false, ◌<◌, ◌^◌, nat_le, arith, nat_tests, nil_from_length, Err, list_any, Kind, Text},
+  column_core.proofs.cells.Common.{rules, ◌≡◌, ℕ, suc, ap, refl, List, [], ◌∷◌, length, map, false, ◌<◌, ◌^◌, nat_le, arith, nat_tests, nil_from_length, Err, list_any, Kind, Text},
   csv_frames.proofs.NumberedLaws.{after_count},
-  table_meaning.specs.Valid.{within_limits},
-  csv_meaning.specs.CsvRead.{beyond_limits, has_misfit, named_kind, labels_named, labels_of, columns_under},
+  meaning_csv.specs.{tables.Valid.{within_limits}, CsvRead.{beyond_limits, has_misfit, named_kind, labels_named, labels_of, columns_under}},
 }
 
 -- where no kind is named, no field is of another one

@@ -1,7 +1,7 @@
 -- Laws of records with a field of another kind than the one that is named.
 use Rattle.{
-  meaning.proofs.Common.{rules, ◌≡◌, ◌+◌, ◌<◌, ◌≤◌, ℕ, refl, List, [], ◌∷◌, length, drop, get_or, arith, Option, None, Bool, false, ◌||◌, min, drop_more, drop_all, get_or_past, Kind, Text},
-  csv_meaning.specs.CsvRead.{field_in, is_misfit, has_misfit},
+  column_core.proofs.cells.Common.{rules, ◌≡◌, ◌+◌, ◌<◌, ◌≤◌, ℕ, refl, List, [], ◌∷◌, length, drop, get_or, arith, Option, None, Bool, false, ◌||◌, min, drop_more, drop_all, get_or_past, Kind, Text},
+  meaning_csv.specs.CsvRead.{field_in, is_misfit, has_misfit},
 }
 
 no_fields : (kinds : List (Option Kind)) → has_misfit kinds [] ≡ false

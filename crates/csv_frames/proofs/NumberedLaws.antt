@@ -1,8 +1,8 @@
 -- The labels of a header, said as a whole.
 use Rattle.{
-  meaning.proofs.Common.{rules, ◌≡◌, ℕ, zero, suc, ◌+◌, ◌-◌, ◌<◌, ◌≤◌, ◌^◌, true, false, ◌||◌, List, [], ◌∷◌, ◌++◌, length, take, refl, ap, ◌∙◌, arith, append_assoc, list_any-append, get_or-range_with_len, length-range_with_len, prefix_len_passes, prefix_len-le-length, slice_get, Option, Some, position_or_len, range_with_len, with_text, Text},
+  column_core.proofs.cells.Common.{rules, ◌≡◌, ℕ, zero, suc, ◌+◌, ◌-◌, ◌<◌, ◌≤◌, ◌^◌, true, false, ◌||◌, List, [], ◌∷◌, ◌++◌, length, take, refl, ap, ◌∙◌, arith, append_assoc, list_any-append, get_or-range_with_len, length-range_with_len, prefix_len_passes, prefix_len-le-length, slice_get, Option, Some, position_or_len, range_with_len, with_text, Text},
   std.proofs.Common.{append-nil},
-  csv_meaning.{specs.CsvRead.{with_number, is_free, next_label, labels_after, with_texts, different_labels}, proofs.DifferentLaws.{IsFair, numbered-free, fair-after, count-texts, header-had, labels_differ}},
+  meaning_csv.{specs.CsvRead.{with_number, is_free, next_label, labels_after, with_texts, different_labels}, proofs.DifferentLaws.{IsFair, numbered-free, fair-after, count-texts, header-had, labels_differ}},
   csv_frames.specs.Numbered.{has_text, AreNumbered},
 }
 

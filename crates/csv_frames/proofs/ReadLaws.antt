@@ -1,8 +1,8 @@
 -- Laws of reading a file.
 use Rattle.{
-  meaning.proofs.Common.{◌≡◌, ◌≤◌, ◌^◌, ℕ, List, length, take, true, false, arith, take-append_seam, Result, IsLonger, Kind, Text},
+  column_core.proofs.cells.Common.{◌≡◌, ◌≤◌, ◌^◌, ℕ, List, length, take, true, false, arith, take-append_seam, Result, IsLonger, Kind, Text},
   std.{proofs.lemmas.Str.{utf8_valid_len-IsUtf8}, specs.Prelude.{IsUtf8, is_err}},
-  csv_meaning.specs.CsvRead.{CsvValue, CsvRefusal, columns_of_records, columns_of_file},
+  meaning_csv.specs.CsvRead.{CsvValue, CsvRefusal, columns_of_records, columns_of_file},
   csv_frames.specs.{Rows.{file_records}, Views.{ReadsAs, ReadAnswers}, declared.table.{CsvTable.{CsvTable}, CsvFault.{CsvFault}}},
 }
 

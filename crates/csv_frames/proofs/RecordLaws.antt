@@ -1,6 +1,6 @@
 -- Laws of records that are read one after the other.
 use Rattle.{
-  meaning.proofs.Common.{rules, ◌++◌, length-append, ◌≡◌, ◌∷◌, [], ap, List, ℕ, Option, Some, None, Bool, true, false, length, zero, suc, ◌<◌, ◌≤◌, ◌+◌, arith, ◌-◌, Bor},
+  column_core.proofs.cells.Common.{rules, ◌++◌, length-append, ◌≡◌, ◌∷◌, [], ap, List, ℕ, Option, Some, None, Bool, true, false, length, zero, suc, ◌<◌, ◌≤◌, ◌+◌, arith, ◌-◌, Bor},
   std.proofs.Common.{length-drop},
   csv.{specs.{Machine.{fields_after, field_after, Read, next_record, ends_at_end, step, is_end}, declared.{parser.{Action.{Action}, Config.{Config}, State.{State}}, reader.Reader.{Reader}}, Reading.{Reached, Ready, ReadRecord, records_from, records_next, strip_bom}}, proofs.ReadFacts.{rows-more}},
   csv_frames.specs.Rows.{Reads, IsNext, known, rows_left, file_records, file_rows},

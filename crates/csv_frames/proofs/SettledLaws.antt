@@ -1,8 +1,8 @@
 -- Laws of what is settled.
 use Rattle.{
-  meaning.proofs.Common.{get_or_from_slice_get, map-append, take_rest, rules, ◌≡◌, ◌≤◌, ℕ, zero, suc, refl, sym, List, [], ◌∷◌, ◌++◌, length, map, append_assoc, slice_index_or, slice_get, take, drop, get_or, ◌-◌, Some, arith, IsLonger, with_text, TextId, Text, text},
+  column_core.proofs.cells.Common.{get_or_from_slice_get, map-append, take_rest, rules, ◌≡◌, ◌≤◌, ℕ, zero, suc, refl, sym, List, [], ◌∷◌, ◌++◌, length, map, append_assoc, slice_index_or, slice_get, take, drop, get_or, ◌-◌, Some, arith, IsLonger, with_text, TextId, Text, text},
   std.proofs.Common.{append-nil},
-  table_meaning.specs.{Settled.{IsSettled}, Table.{tuple_value}},
+  meaning_csv.specs.tables.{Settled.{IsSettled}, Table.{tuple_value}},
 }
 use Rattle.cell_core.specs.declared.cell.Label.TheVariants as label
 

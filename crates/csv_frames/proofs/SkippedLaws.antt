@@ -1,8 +1,8 @@
 -- Laws of the numbers that were tried for labels.
 use Rattle.{
-  meaning.proofs.Common.{get_or_default, list_any-append, prefix_len-le-length, cases_eq, slice_get-get_or, add-one, sym, ◌≡◌, ◌≢◌, ℕ, zero, suc, ◌+◌, ◌<◌, ◌≤◌, true, false, List, [], ◌∷◌, ◌++◌, length, slice_get, slice_index_or, slice_set, Some, refl, arith, get_or-append, get_or-append_seam, list_any, with_text, number_of, Text, same_text},
+  column_core.proofs.cells.Common.{get_or_default, list_any-append, prefix_len-le-length, cases_eq, slice_get-get_or, add-one, sym, ◌≡◌, ◌≢◌, ℕ, zero, suc, ◌+◌, ◌<◌, ◌≤◌, true, false, List, [], ◌∷◌, ◌++◌, length, slice_get, slice_index_or, slice_set, Some, refl, arith, get_or-append, get_or-append_seam, list_any, with_text, number_of, Text, same_text},
   std.proofs.{lemmas.List.{length-append}, Common.{get_or-set_same, get_or-set_other, length-set}},
-  csv_meaning.specs.CsvRead.{with_number, is_free, free_label, next_label},
+  meaning_csv.specs.CsvRead.{with_number, is_free, free_label, next_label},
   csv_frames.{specs.Labels.{IsSkipped, AreSkipped}, proofs.LabelLaws.{first_free, number_passed, new_number}},
 }
 

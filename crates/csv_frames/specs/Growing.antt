@@ -3,15 +3,15 @@ use Rattle.std.specs.Prelude.{◌≡◌, ℕ, ℤ, ◌<◌, true, false, Bool, n
 use Rattle.std.specs.List.{list_all, list_any}
 use Rattle.cell_core.specs.declared.cell.Cell.TheVariants as cell
 use Rattle.cell_core.specs.declared.cell.TextId.{TextId}
-use Rattle.meaning.specs.Text.{Text}
-use Rattle.meaning.specs.Cell.{Kind, Int64, string, datum, na_cell}
-use Rattle.meaning.specs.Cast.{whole_number, truth_value}
-use Rattle.table_meaning.specs.Settled.{IsSettled}
-use Rattle.table_meaning.specs.Valid.{within_limits}
+use Rattle.column_core.specs.cells.Text.{Text}
+use Rattle.column_core.specs.cells.Cell.{Kind, Int64, string, datum, na_cell}
+use Rattle.column_core.specs.cells.Cast.{whole_number, truth_value}
+use Rattle.meaning_csv.specs.tables.Settled.{IsSettled}
+use Rattle.meaning_csv.specs.tables.Valid.{within_limits}
 use Rattle.column_core.specs.Columns.{CellColumn, text_cell}
 use Rattle.column_core.specs.Lanes.{IsPushed}
 use Rattle.column_core.specs.declared.lanes.Owned.{Owned}
-use Rattle.csv_meaning.specs.CsvRead.{is_missing, kind_of_fields, cell_of_field, column_of_fields, has_misfit}
+use Rattle.meaning_csv.specs.CsvRead.{is_missing, kind_of_fields, cell_of_field, column_of_fields, has_misfit}
 use Rattle.csv_frames.specs.Views.{column_fields, column_seen}
 use Rattle.csv_frames.specs.declared.growing.Growing.{Growing}
 use Rattle.csv_frames.specs.declared.growing.Growing.TheVariants as growing

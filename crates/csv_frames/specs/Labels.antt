@@ -1,7 +1,7 @@
 -- Labels that were given, and the numbers that were tried for them.
 use Rattle.std.specs.Prelude.{◌≡◌, ℕ, ◌<◌, ◌≤◌, false, List, [], length, slice_index_or}
-use Rattle.meaning.specs.Text.{Text}
-use Rattle.csv_meaning.specs.CsvRead.{is_free}
+use Rattle.column_core.specs.cells.Text.{Text}
+use Rattle.meaning_csv.specs.CsvRead.{is_free}
 
 -- no number from 1 to before this one is free
 abbrev pub IsSkipped : List Text → Text → ℕ → Type 0

@@ -1,8 +1,8 @@
 -- The labels of columns, said of the header as a whole.
 use Rattle.std.specs.Prelude.{◌≡◌, ℕ, ◌<◌, ◌≤◌, Bool, true, false, ◌||◌, List, length, take, slice_get, Some}
 use Rattle.std.specs.List.{list_any, IsDistinct}
-use Rattle.meaning.specs.Text.{Text, same_text}
-use Rattle.csv_meaning.specs.CsvRead.{with_number}
+use Rattle.column_core.specs.cells.Text.{Text, same_text}
+use Rattle.meaning_csv.specs.CsvRead.{with_number}
 
 abbrev pub has_text : List Text → Text → Bool
 has_text texts t = list_any (same_text t) texts

@@ -5,7 +5,7 @@ use Rattle.csv.specs.Machine.{ends_at_end}
 use Rattle.csv.specs.Reading.{Ready, default_config, records, records_from, source_of, strip_bom}
 use Rattle.csv.specs.declared.reader.Reader.{Reader}
 use Rattle.csv.specs.declared.reader.Trim.TheVariants as trim
-use Rattle.meaning.specs.Text.{Text}
+use Rattle.column_core.specs.cells.Text.{Text}
 
 -- the records of a file, the first of them the header
 abbrev pub file_records : List ℕ → List (List Text)

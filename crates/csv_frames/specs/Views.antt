@@ -4,11 +4,11 @@ use Rattle.std.specs.declared.string.String.{String}
 use Rattle.cell_core.specs.declared.cell.Kind.{Kind}
 use Rattle.cell_core.specs.declared.cell.Cell.{Cell}
 use Rattle.cell_core.specs.declared.cell.Label.{Label}
-use Rattle.meaning.specs.Text.{Text, same_text}
-use Rattle.meaning.specs.Cell.{CellValue, datum, text_of, LabelValue, text}
+use Rattle.column_core.specs.cells.Text.{Text, same_text}
+use Rattle.column_core.specs.cells.Cell.{CellValue, datum, text_of, LabelValue, text}
 use Rattle.column_core.specs.Columns.{CellColumn}
-use Rattle.table_meaning.specs.Table.{ColumnOf, tuple_value}
-use Rattle.csv_meaning.specs.CsvRead.{CsvValue, CsvRefusal, not_utf8, no_record, long_record, not_of_kind, beyond_limits, field_in}
+use Rattle.meaning_csv.specs.tables.Table.{ColumnOf, tuple_value}
+use Rattle.meaning_csv.specs.CsvRead.{CsvValue, CsvRefusal, not_utf8, no_record, long_record, not_of_kind, beyond_limits, field_in}
 use Rattle.csv_frames.specs.declared.table.NamedKind.{NamedKind}
 use Rattle.csv_frames.specs.declared.table.CsvTable.{CsvTable}
 use Rattle.csv_frames.specs.declared.table.CsvFault.{CsvFault}

@@ -1,8 +1,8 @@
 // The columns of records.
 ghost use Rattle.std.specs.Prelude.{◌≡◌, ◌≤◌, ◌^◌, false, map, Some, IfOk};
 ghost use Rattle.std.specs.List.{list_any};
-ghost use Rattle.meaning.specs.Cell.{IsLonger};
-ghost use Rattle.table_meaning.specs.Settled.{IsSettled};
+ghost use Rattle.column_core.specs.cells.Cell.{IsLonger};
+ghost use Rattle.meaning_csv.specs.tables.Settled.{IsSettled};
 ghost use Rattle.csv_frames.specs.Growing.{is_mixed, kind_so_far, column_so_far};
 ghost use Rattle.csv_frames.specs.Views.{texts_seen, label_tuples, tuples_seen};
 

@@ -1,6 +1,6 @@
 // Fields, and the kinds that they are of.
 ghost use Rattle.std.specs.Prelude.{◌≡◌, ◌∷◌, [], List, ℕ};
-ghost use Rattle.csv_meaning.specs.CsvRead as meant;
+ghost use Rattle.meaning_csv.specs.CsvRead as meant;
 
 use cell_core::Kind;
 use nullable_array::{number_of_text, truth_of_text};

@@ -1,10 +1,10 @@
 // Columns that grow field by field.
 ghost use Rattle.std.specs.Prelude.{◌≡◌, ◌++◌, ◌∷◌, [], List, ℕ, false, length, IfOk, OnOk};
-ghost use Rattle.meaning.specs.Cell.{Int64, Boolean, string, datum, IsLonger};
-ghost use Rattle.table_meaning.specs.Settled.{IsSettled};
+ghost use Rattle.column_core.specs.cells.Cell.{Int64, Boolean, string, datum, IsLonger};
+ghost use Rattle.meaning_csv.specs.tables.Settled.{IsSettled};
 ghost use Rattle.column_core.specs.Columns.{text_cell};
 ghost use Rattle.column_core.specs.Views.{kept_column};
-ghost use Rattle.csv_meaning.specs.CsvRead as meant;
+ghost use Rattle.meaning_csv.specs.CsvRead as meant;
 ghost use Rattle.csv_frames.specs.Growing.{Grown, IsGrownBy, IsFirst, IsPut, IsTextPut, number_in, truth_in, without_fields, is_mixed, kind_so_far, column_so_far};
 
 use crate::fields::{is_missing, kind_of_field};

@@ -1,9 +1,9 @@
 // The columns of records that are read one after the other.
 ghost use Rattle.std.specs.Prelude.{◌≡◌, ◌<◌, ◌≤◌, ◌+◌, ◌^◌, ◌&&◌, ◌++◌, ◌∷◌, [], List, ℕ, None, Some, length, map, IfOk, IfErr, IfSome, OnOk};
 ghost use Rattle.csv.specs.Records.{fields_of};
-ghost use Rattle.meaning.specs.Cell.{IsLonger};
-ghost use Rattle.table_meaning.specs.Valid as valid;
-ghost use Rattle.csv_meaning.specs.CsvRead as meant;
+ghost use Rattle.column_core.specs.cells.Cell.{IsLonger};
+ghost use Rattle.meaning_csv.specs.tables.Valid as valid;
+ghost use Rattle.meaning_csv.specs.CsvRead as meant;
 ghost use Rattle.csv_frames.specs.Rows.{file_rows};
 ghost use Rattle.csv_frames.specs.Growing.{without_fields, AreGrown, GrownTo};
 ghost use Rattle.csv_frames.specs.Views.{refusal_of};

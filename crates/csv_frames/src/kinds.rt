@@ -1,7 +1,7 @@
 // The kinds that are named for columns.
 ghost use Rattle.std.specs.Prelude.{◌≡◌, IfOk, map};
-ghost use Rattle.meaning.specs.Text.{Text as OneText};
-ghost use Rattle.csv_meaning.specs.CsvRead as meant;
+ghost use Rattle.column_core.specs.cells.Text.{Text as OneText};
+ghost use Rattle.meaning_csv.specs.CsvRead as meant;
 ghost use Rattle.csv_frames.specs.Views.{texts_seen, entries_seen, kinds_seen, kind_at};
 
 use crate::table::NamedKinds;

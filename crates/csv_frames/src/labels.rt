@@ -3,8 +3,8 @@ ghost use Rattle.std.specs.Prelude.{◌≡◌, ◌<◌, ◌≤◌, [], not, IfOk
 ghost use Rattle.std.specs.List.{list_any, IsDistinct};
 ghost use Rattle.csv.specs.Records.{fields_of};
 ghost use Rattle.cell_core.specs.Texts.{with_text};
-ghost use Rattle.meaning.specs.Text.{same_text};
-ghost use Rattle.csv_meaning.specs.CsvRead as meant;
+ghost use Rattle.column_core.specs.cells.Text.{same_text};
+ghost use Rattle.meaning_csv.specs.CsvRead as meant;
 ghost use Rattle.csv_frames.specs.Labels.{IsSkipped, AreSkipped};
 ghost use Rattle.csv_frames.specs.Views.{texts_seen};
 

@@ -1,7 +1,7 @@
 // What labels a header gives.
 ghost use Rattle.std.specs.Prelude.{◌<◌, ◌^◌, List, length};
-ghost use Rattle.meaning.specs.Text.{Text};
-ghost use Rattle.csv_meaning.specs.CsvRead.{different_labels};
+ghost use Rattle.column_core.specs.cells.Text.{Text};
+ghost use Rattle.meaning_csv.specs.CsvRead.{different_labels};
 ghost use Rattle.csv_frames.specs.Numbered.{AreNumbered};
 
 /// What the labels of columns are, for every header of less than 2^64 labels; the words of its clause

@@ -2,11 +2,11 @@
 ghost use Rattle.std.specs.Prelude.{◌≡◌, ◌∷◌, ◌≤◌, ◌^◌, true, length, None, IfOk, IfErr};
 ghost use Rattle.std.specs.List.{IsDistinct};
 ghost use Rattle.csv.specs.Records.{fields_of};
-ghost use Rattle.meaning.specs.Text.{same_text};
-ghost use Rattle.meaning.specs.Cell.{IsLonger};
-ghost use Rattle.table_meaning.specs.Settled.{IsSettled};
-ghost use Rattle.table_meaning.specs.Valid as valid;
-ghost use Rattle.csv_meaning.specs.CsvRead as meant;
+ghost use Rattle.column_core.specs.cells.Text.{same_text};
+ghost use Rattle.column_core.specs.cells.Cell.{IsLonger};
+ghost use Rattle.meaning_csv.specs.tables.Settled.{IsSettled};
+ghost use Rattle.meaning_csv.specs.tables.Valid as valid;
+ghost use Rattle.meaning_csv.specs.CsvRead as meant;
 ghost use Rattle.csv_frames.specs.Rows.{file_records, file_rows};
 ghost use Rattle.csv_frames.specs.Growing.{AreGrown};
 ghost use Rattle.csv_frames.specs.Views.{texts_seen, entries_seen, columns_seen, csv_seen, refusal_of, PartsFit, ReadsAs, ReadAnswers};

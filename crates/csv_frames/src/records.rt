@@ -1,7 +1,7 @@
 // The records of a file, one after the other.
 ghost use Rattle.std.specs.Prelude.{◌≡◌, IfOk};
 ghost use Rattle.csv.specs.Records.{fields_of};
-ghost use Rattle.csv_meaning.specs.CsvRead as meant;
+ghost use Rattle.meaning_csv.specs.CsvRead as meant;
 ghost use Rattle.csv_frames.specs.Rows.{Reads, IsNext, file_records, rows_left};
 
 use cell_core::NoMemory;

@@ -1,10 +1,10 @@
 -- The groups of rows whose keys are tuples of labels.
 use Rattle.{
-  meaning.proofs.Common.{◌≡◌, ◌∙◌, ◌<◌, ap, sym, arith, ℕ, Bool, List, [], map, length, slice_index_or, All, Option, length-map, get_or-map, map-id, passes_at_first, ranks_by, All-map, list_any, lists_total, Text, distinct, Label, label_total, map-map as map_map},
+  column_core.proofs.cells.Common.{◌≡◌, ◌∙◌, ◌<◌, ap, sym, arith, ℕ, Bool, List, [], map, length, slice_index_or, All, Option, length-map, get_or-map, map-id, passes_at_first, ranks_by, All-map, list_any, lists_total, Text, distinct, Label, label_total, map-map as map_map},
   multi_index.specs.Axes.{HaveLevels, tuples_at},
   row_keys.{specs.Keys.{same_tuple, place_among, codes_of, first_rows}, proofs.{KeyLaws.{position_in, all_known}, RecodeLaws.{firsts_inside, first_keys}}},
   label_align.{specs.Tuples.{tuple_seen, tuple_less}, proofs.{OrderLaws.{row_agrees}, SameLaws.{tuple_decides, tuple_laws}}},
-  group_meaning.{specs.{Keys.{is_na, group_keys, group_codes}, Grouping.{AreGroups}}, proofs.ListLaws.{map_on}},
+  meaning_group.{specs.{Keys.{is_na, group_keys, group_codes}, Grouping.{AreGroups}}, proofs.ListLaws.{map_on}},
   factorize.{specs.{Keys.{seen_rules}, Numbers.{first_row, number_less, row_holds_na, kept_numbers, places_of, recoded}}, proofs.{LawOfGroups.{IsThere, keys_there, are_groups}, LabelLaws.{labels_there}}},
 }
 use Rattle.factorize.proofs.NumberLaws as law

@@ -1,6 +1,6 @@
 -- Laws that the goals of functions want, by the name of the first that does.
 use Rattle.{
-  meaning.proofs.Common.{get_or_from_slice_get, get_or_past},
+  column_core.proofs.cells.Common.{get_or_from_slice_get, get_or_past},
   factorize.proofs.{LabelLaws.{no_row}, KeyNumberLaws.{sight_counted, ordered_below, ordered_counted}},
 }
 

@@ -1,10 +1,10 @@
 -- The numbers of keys, where each row has one.
 use Rattle.{
-  meaning.proofs.Common.{arith, ◌≡◌, ◌∙◌, ◌<◌, sym, ℕ, Bool, true, false, List, map, length, All, slice_index_or, Some, map-id, length-map, list_any, range_with_len, Text, distinct, Label, map-map as map_map},
+  column_core.proofs.cells.Common.{arith, ◌≡◌, ◌∙◌, ◌<◌, sym, ℕ, Bool, true, false, List, map, length, All, slice_index_or, Some, map-id, length-map, list_any, range_with_len, Text, distinct, Label, map-map as map_map},
   multi_index.specs.Axes.{HaveLevels},
   row_keys.{specs.Keys.{same_tuple, place_among, codes_of, first_rows}, proofs.KeyLaws.{position_in, all_known}},
   label_align.{specs.Tuples.{tuple_less}, proofs.SameLaws.{tuple_laws}},
-  group_meaning.{specs.Keys.{ordered_if, group_keys, group_of, group_codes}, proofs.ListLaws.{map_on}},
+  meaning_group.{specs.Keys.{ordered_if, group_keys, group_of, group_codes}, proofs.ListLaws.{map_on}},
   factorize.{specs.{Keys.{seen_rules}, Numbers.{number_less, row_holds_na, first_row, kept_numbers, places_of, recoded, number_in}}, proofs.{LawOfGroups.{any_in_order}, NumberLaws.{filter_all}, PlaceLaws.{there}, GroupLaws.{below_count, groups_counted, codes_are}}},
 }
 

@@ -1,8 +1,7 @@
 -- The labels of a row are those of its key.
 use Rattle.{
-  meaning.proofs.Common.{◌≡◌, ◌<◌, ◌≤◌, arith, ℕ, List, [], length, slice_get, slice_index_or, Some, length-map, same_lists, get_or_default, get_or_past, get_or-map as get_or-map-at, All-map, length-map-range_with_len, get_or-map-range_with_len, get_or_from_slice_get, range_with_len, Cell, Label, label_datum, Text},
+  column_core.{proofs.cells.Common.{◌≡◌, ◌<◌, ◌≤◌, arith, ℕ, List, [], length, slice_get, slice_index_or, Some, length-map, same_lists, get_or_default, get_or_past, get_or-map as get_or-map-at, All-map, length-map-range_with_len, get_or-map-range_with_len, get_or_from_slice_get, range_with_len, Cell, Label, label_datum, Text}, specs.Columns.{CellColumn}},
   std.proofs.Math.ListN.{get_or-map},
-  column_core.specs.Columns.{CellColumn},
   cell_core.specs.Values.{label_of},
   factorize.specs.Keys.{row_key, column_keys},
   row_keys.specs.Keys.{label_in},

@@ -1,12 +1,10 @@
 -- What factorize answers are groups.
 use Rattle.{
-  meaning.proofs.Common.{rules, ◌≡◌, ◌+◌, ◌<◌, ◌≤◌, ◌||◌, refl, arith, ℕ, suc, Bool, true, false, not, cond, List, [], ◌∷◌, filter, length, All, slice_index_or, nat_lt, Option, None, false≢true, ltb-true, lt-ltb, eqb-true, eq-eqb, cases_lt, length-map, get_or-map, All-cons, All-head, All-tail, All-filter, filter_passes, passes_at_first, position_or_len_is, list_any, position_or_len, IsEquivalence, IsStrictWeakOrder, distinct},
+  column_core.proofs.cells.Common.{rules, ◌≡◌, ◌+◌, ◌<◌, ◌≤◌, ◌||◌, refl, arith, ℕ, suc, Bool, true, false, not, cond, List, [], ◌∷◌, filter, length, All, slice_index_or, nat_lt, Option, None, false≢true, ltb-true, lt-ltb, eqb-true, eq-eqb, cases_lt, length-map, get_or-map, All-cons, All-head, All-tail, All-filter, filter_passes, passes_at_first, position_or_len_is, list_any, position_or_len, IsEquivalence, IsStrictWeakOrder, distinct},
   std.proofs.lemmas.Bool.{true≢false, not-true, not-false},
   sorting.specs.Sorting.{put_in, in_order},
-  align_meaning.proofs.OrderLaws.{all_put_in, all_in_order},
-  pick_meaning.{specs.Rows.{rows_where}, proofs.RowLaws.{rows_where-map}},
+  meaning_group.{proofs.{align.OrderLaws.{all_put_in, all_in_order}, pick.RowLaws.{rows_where-map}}, specs.{pick.Rows.{rows_where}, Keys.{KeyRules, is_kept, group_keys, group_of, group_codes}, Rows.{is_in, rows_of_group}, Grouping.{HasGroup, AreGroups}}},
   row_keys.proofs.{KeyLaws.{position_in, all_known, any_at}, RecodeLaws.{Apart, All-distinct, apart_distinct, apart_at}},
-  group_meaning.specs.{Keys.{KeyRules, is_kept, group_keys, group_of, group_codes}, Rows.{is_in, rows_of_group}, Grouping.{HasGroup, AreGroups}},
   factorize.proofs.PlaceLaws.{there},
 }
 

@@ -5,3 +5,7 @@ pub mod GroupLaws
 pub mod LawOfGroups
 pub mod KeyNumberLaws
 pub mod Hints
+-- laws of crates below, passed on to the crates above
+pub use Rattle.meaning_group.proofs as group
+pub use Rattle.meaning_group.proofs.pick as pick
+pub use Rattle.row_keys.proofs as row_keys

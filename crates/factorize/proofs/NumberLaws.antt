@@ -1,12 +1,11 @@
 -- What is made of the numbers of keys is what is made of the keys.
 use Rattle.{
-  meaning.proofs.Common.{rules, ◌≡◌, ◌∙◌, ◌==◌, ◌<◌, refl, sym, ℕ, Bool, true, false, cond, List, [], ◌∷◌, map, filter, length, All, slice_index_or, None, arith, length-map, get_or-map, fill_by_all, get_or-map-range_with_len, All-filter, list_any, range_with_len, IsEquivalence, distinct, map-map as map_map},
+  column_core.proofs.cells.Common.{rules, ◌≡◌, ◌∙◌, ◌==◌, ◌<◌, refl, sym, ℕ, Bool, true, false, cond, List, [], ◌∷◌, map, filter, length, All, slice_index_or, None, arith, length-map, get_or-map, fill_by_all, get_or-map-range_with_len, All-filter, list_any, range_with_len, IsEquivalence, distinct, map-map as map_map},
   std.specs.List.{position},
   sorting.specs.Sorting.{in_order},
-  align_meaning.proofs.OrderLaws.{all_in_order, in_order_map},
+  meaning_group.{proofs.{align.OrderLaws.{all_in_order, in_order_map}, ListLaws.{map_on, filter_seen, position_seen}}, specs.Keys.{KeyRules, is_kept, ordered_if, group_keys, group_of, group_codes}},
   row_keys.{specs.Keys.{place_among, codes_of, first_rows}, proofs.{KeyLaws.{place_tells, all_known, position_in, any_at}, RecodeLaws.{place_there}}},
   label_align.proofs.OrderLaws.{below_range},
-  group_meaning.{specs.Keys.{KeyRules, is_kept, ordered_if, group_keys, group_of, group_codes}, proofs.ListLaws.{map_on, filter_seen, position_seen}},
   factorize.specs.Numbers.{first_row, kept_numbers, places_of, recoded},
 }
 

@@ -1,8 +1,7 @@
 -- The first place that passes a test, with one element more.
 use Rattle.{
-  meaning.proofs.Common.{◌≡◌, ◌∙◌, ◌+◌, ◌<◌, ◌≤◌, sym, subst, arith, ℕ, Bool, false, List, [], ◌∷◌, ◌++◌, ◌==◌, length, slice_index_or, Option, Some, None, length-append, map, All, lt-ltb, le-ltb, ne_eqb, eq-eqb, eqb-true, eqb-false, cases_lt, length-map, get_or-map, get_or-set_same, get_or-set_other, get_or_default, same_lists, position_or_len_push, All-map, length-map-range_with_len, get_or-map-range_with_len, position_or_len, map-map as map_map},
+  column_core.{proofs.cells.Common.{◌≡◌, ◌∙◌, ◌+◌, ◌<◌, ◌≤◌, sym, subst, arith, ℕ, Bool, false, List, [], ◌∷◌, ◌++◌, ◌==◌, length, slice_index_or, Option, Some, None, length-append, map, All, lt-ltb, le-ltb, ne_eqb, eq-eqb, eqb-true, eqb-false, cases_lt, length-map, get_or-map, get_or-set_same, get_or-set_other, get_or_default, same_lists, position_or_len_push, All-map, length-map-range_with_len, get_or-map-range_with_len, position_or_len, map-map as map_map}, specs.Moves.{IsPlaceOf}},
   std.specs.List.{position},
-  column_core.specs.Moves.{IsPlaceOf},
   row_keys.proofs.DistinctLaws.{prefix-le},
   factorize.specs.Numbers.{placed, places_of, recoded, number_in},
 }

@@ -3,13 +3,13 @@ use Rattle.std.specs.Prelude.{ℕ, List, [], ◌∷◌, map, length, slice_index
 use Rattle.cell_core.specs.declared.cell.Cell.TheVariants as cell
 use Rattle.cell_core.specs.declared.cell.Label.{Label}
 use Rattle.cell_core.specs.declared.cell.Label.TheVariants.{Na}
-use Rattle.meaning.specs.Text.{Text}
-use Rattle.meaning.specs.Column.{tabulate}
+use Rattle.column_core.specs.cells.Text.{Text}
+use Rattle.column_core.specs.cells.Column.{tabulate}
 use Rattle.column_core.specs.Columns.{CellColumn}
 use Rattle.cell_core.specs.Values.{label_of}
 use Rattle.row_keys.specs.Keys.{same_tuple}
 use Rattle.label_align.specs.Tuples.{tuple_seen, tuple_less}
-use Rattle.group_meaning.specs.Keys.{KeyRules, tuple_rules}
+use Rattle.meaning_group.specs.Keys.{KeyRules, tuple_rules}
 
 -- tuples are told apart by the numbers of their texts, and stand in the order of what the texts say
 abbrev pub seen_rules : List Text → KeyRules (List Label)

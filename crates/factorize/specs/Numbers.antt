@@ -1,10 +1,10 @@
 -- Keys by their numbers: the rows are numbered by the sight of their keys, and each number has a first row.
 use Rattle.std.specs.Prelude.{ℕ, ◌==◌, Bool, List, map, filter, slice_index_or, slice_set, Option, Some, None, is_none, unwrap_or, if◌then◌else◌}
 use Rattle.std.specs.List.{list_any, position, range_with_len}
-use Rattle.meaning.specs.Text.{Text}
+use Rattle.column_core.specs.cells.Text.{Text}
 use Rattle.cell_core.specs.declared.cell.Label.{Label}
 use Rattle.label_align.specs.Tuples.{labels_of, row_less}
-use Rattle.group_meaning.specs.Keys.{is_na, is_kept, ordered_if}
+use Rattle.meaning_group.specs.Keys.{is_na, is_kept, ordered_if}
 
 -- the first row of a number
 abbrev pub first_row : List ℕ → ℕ → ℕ

@@ -1,8 +1,8 @@
 // Tuples by number.
 ghost use Rattle.std.specs.Prelude.{◌≡◌, ◌<◌, [], length, slice_get, Some, IfOk, All};
 ghost use Rattle.multi_index.specs.Axes.{HaveLevels, tuples_at};
-ghost use Rattle.group_meaning.specs.Keys.{group_keys, group_codes};
-ghost use Rattle.group_meaning.specs.Grouping.{AreGroups};
+ghost use Rattle.meaning_group.specs.Keys.{group_keys, group_codes};
+ghost use Rattle.meaning_group.specs.Grouping.{AreGroups};
 ghost use Rattle.factorize.specs.Keys.{seen_rules, levels_of};
 
 use crate::factor::{KeyGroups, group_by_keys};

@@ -2,8 +2,8 @@
 ghost use Rattle.std.specs.Prelude.{◌≡◌, ◌<◌, map, length, All, IfOk, Some};
 ghost use Rattle.multi_index.specs.Axes.{tuples_at};
 ghost use Rattle.row_keys.specs.Keys.{place_among, same_tuple};
-ghost use Rattle.group_meaning.specs.Keys.{group_keys, group_codes};
-ghost use Rattle.group_meaning.specs.Grouping.{AreGroups};
+ghost use Rattle.meaning_group.specs.Keys.{group_keys, group_codes};
+ghost use Rattle.meaning_group.specs.Grouping.{AreGroups};
 ghost use Rattle.factorize.specs.Keys.{seen_rules};
 ghost use Rattle.factorize.specs.Numbers.{first_row, places_of, recoded};
 

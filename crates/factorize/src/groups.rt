@@ -14,7 +14,7 @@ pub struct Groups {
 
 /// Rows that are in groups.
 pub trait RowGroups {
-    ghost use Rattle.group_meaning.specs.Rows.{GroupsValue};
+    ghost use Rattle.meaning_group.specs.Rows.{GroupsValue};
 
     ghost groups_of: { Self → GroupsValue };
 
@@ -34,7 +34,7 @@ impl RowGroups for Groups {
 impl Model for Groups {
     ghost use Rattle.std.specs.Prelude.{All};
     ghost use Rattle.column_core.specs.Moves.{IsPlaceOf};
-    ghost use Rattle.group_meaning.specs.Rows.{GroupsValue};
+    ghost use Rattle.meaning_group.specs.Rows.{GroupsValue};
 
     ghost Value = { GroupsValue };
 

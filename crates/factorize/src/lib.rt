@@ -2,7 +2,7 @@
 //!
 //! [`factorize`] numbers tuples of labels, and [`group_by_keys`] the rows of any [`KeyLevels`], as the cells of some
 //! columns ([`KeyColumns`]), without a tuple a row. [`number_keys`] does so where each row has a key. [`Groups`] has the
-//! group of each row, by number; whatever has groups of rows is a [`RowGroups`]. What is answered is defined in `group_meaning`.
+//! group of each row, by number; whatever has groups of rows is a [`RowGroups`]. What is answered is defined in `meaning_group`.
 //!
 //! ```text
 //! let codes = factorize(alloc, &dict, &keys, true, true)?;

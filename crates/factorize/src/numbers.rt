@@ -1,7 +1,7 @@
 // Numbers of keys.
 ghost use Rattle.std.specs.Prelude.{◌≡◌, ◌<◌, false, map, length, IfOk};
 ghost use Rattle.row_keys.specs.Keys.{same_tuple, place_among, codes_of, first_rows, label_in};
-ghost use Rattle.group_meaning.specs.Keys.{group_keys};
+ghost use Rattle.meaning_group.specs.Keys.{group_keys};
 ghost use Rattle.factorize.specs.Keys.{seen_rules};
 
 use crate::levels::KeyLevels;

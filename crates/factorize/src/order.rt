@@ -1,7 +1,7 @@
 // The order of keys.
 ghost use Rattle.std.specs.Prelude.{◌≡◌, IfOk, length};
 ghost use Rattle.std.specs.List.{range_with_len};
-ghost use Rattle.group_meaning.specs.Keys.{ordered_if};
+ghost use Rattle.meaning_group.specs.Keys.{ordered_if};
 ghost use Rattle.factorize.specs.Numbers.{first_row, number_less};
 
 use crate::levels::KeyLevels;

@@ -1,8 +1,7 @@
 -- The escapes of printed texts.
 use Rattle.{
-  meaning.proofs.Common.{◌≡◌, ◌≢◌, ℕ, suc, ◌<◌, ◌≤◌, List, [], ◌∷◌, ◌++◌, length, get_or, encode_utf8, refl, sym, ◌∙◌, append_assoc, arith, inside_one, nat_tests, Text},
+  meaning_format.{proofs.cells.Common.{◌≡◌, ◌≢◌, ℕ, suc, ◌<◌, ◌≤◌, List, [], ◌∷◌, ◌++◌, length, get_or, encode_utf8, refl, sym, ◌∙◌, append_assoc, arith, inside_one, nat_tests, Text}, specs.Print.{shown_byte, shown_text}},
   std.proofs.Common.{append-nil},
-  format_meaning.specs.Print.{shown_byte, shown_text},
 }
 
 -- what writes a text byte by byte

@@ -1,8 +1,7 @@
 -- Texts one after the other, and the widest of them.
 use Rattle.{
-  meaning.proofs.Common.{OnOk, Result, ◌≡◌, ℕ, ◌+◌, ◌<◌, max, List, [], ◌∷◌, ◌++◌, length, map, get_or, refl, ap, sym, ◌∙◌, append_assoc, arith, map-id, flat_map-map, length-map-range_with_len, get_or-map-range_with_len, map-range_with_len_more, fill_by_all, flat_map, join_by, Text},
+  meaning_format.{proofs.cells.Common.{OnOk, Result, ◌≡◌, ℕ, ◌+◌, ◌<◌, max, List, [], ◌∷◌, ◌++◌, length, map, get_or, refl, ap, sym, ◌∙◌, append_assoc, arith, map-id, flat_map-map, length-map-range_with_len, get_or-map-range_with_len, map-range_with_len_more, fill_by_all, flat_map, join_by, Text}, specs.Print.{width, widest, side_by_side, places}},
   std.proofs.{Common.{append-nil}, lemmas.Grind.{flat_map-append}},
-  format_meaning.specs.Print.{width, widest, side_by_side, places},
   frame_format.specs.Layouts.{set_columns},
 }
 

@@ -1,6 +1,6 @@
 -- Laws that the goals of functions want, by the name of the first that does.
 use Rattle.{
-  meaning.proofs.Common.{append_assoc, tied_itself, label_total},
+  meaning_format.proofs.cells.Common.{append_assoc, tied_itself, label_total},
   std.proofs.{Common.{append-nil}, lemmas.Grind.{flat_map-append}},
   frame_format.proofs.{FieldLaws.{places_more, length_measured, at_last, sides_measured}, ToldLaws.{columns_told, headings_seen, column_within, heading_seen, level_within, level_name_seen, kind_seen, levels_told, tuple_seen, row_within, same_seen, cell_seen, label_seen}, EscapeLaws.{shown_text-encode}},
 }

@@ -1,9 +1,7 @@
 -- What was written as CSV reads back as its records.
 use Rattle.{
-  meaning.proofs.Common.{◌≡◌, ◌≤◌, ◌+◌, ◌-◌, ℕ, zero, suc, List, [], ◌∷◌, length, map, Bool, refl, arith, length-append, flat_map, Text, na_cell},
+  meaning_format.{proofs.cells.Common.{◌≡◌, ◌≤◌, ◌+◌, ◌-◌, ℕ, zero, suc, List, [], ◌∷◌, length, map, Bool, refl, arith, length-append, flat_map, Text, na_cell}, specs.{tables.Table.{Table, rows_of}, CsvWrite.{record_text, row_fields, csv_text_of}}},
   csv.{specs.{Machine.{next_record}, Reading.{records_from, default_config}, Writing.{read_back}}, proofs.RoundTrip.{rows_text, read-write}},
-  table_meaning.specs.Table.{Table, rows_of},
-  format_meaning.specs.CsvWrite.{record_text, row_fields, csv_text_of},
   frame_format.specs.ReadBack.{table_fields, ReadsBack},
 }
 use Rattle.csv.specs.declared.parser.State.TheVariants as st

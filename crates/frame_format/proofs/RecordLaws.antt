@@ -1,10 +1,8 @@
 -- The fields of records.
 use Rattle.{
-  meaning.proofs.Common.{◌≢◌, Option, subst, false, ◌≡◌, ℕ, ◌+◌, ◌<◌, List, [], ◌∷◌, ◌++◌, length, map, get_or, ap, ◌∙◌, append_assoc, Some, arith, length-map, get_or-map, flat_map-map, fill_by_all, map-map, IsUtf8-append, flat_map, IsUtf8, CellValue, LabelValue, na_cell, Text},
+  meaning_format.{proofs.cells.Common.{◌≢◌, Option, subst, false, ◌≡◌, ℕ, ◌+◌, ◌<◌, List, [], ◌∷◌, ◌++◌, length, map, get_or, ap, ◌∙◌, append_assoc, Some, arith, length-map, get_or-map, flat_map-map, fill_by_all, map-map, IsUtf8-append, flat_map, IsUtf8, CellValue, LabelValue, na_cell, Text}, specs.{tables.Table.{Table, ColumnOf, RowOf, no_column, row_of, rows_of}, CsvWrite.{cell_field, record_text}, Print.{places}}},
   std.{proofs.Common.{append-nil, Vec}, specs.Io.KnownBytes.{Appends}},
-  table_meaning.specs.Table.{Table, ColumnOf, RowOf, no_column, row_of, rows_of},
   csv.{proofs.RecordFacts.{text-more}, specs.{Records.{Row, fields_of, partial_of, AllText}, declared.writer.{Writer.{Writer}, WriterBuilder.{WriterBuilder}}, Writing.{row_text, text_written, writer_under, writer_pending, writer_setup, fields_written, has_written, default_writer}}},
-  format_meaning.specs.{CsvWrite.{cell_field, record_text}, Print.{places}},
   frame_format.{specs.Written.{HasWritten, IsFilled}, proofs.{FieldLaws.{flat_more}, TextOfRecords.{no_texts, record_utf8}}},
 }
 use Rattle.csv.specs.declared.writer.QuoteStyle.TheVariants as style

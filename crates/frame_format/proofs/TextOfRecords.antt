@@ -1,11 +1,10 @@
 -- The record of fields that are texts is a text.
 use lib.Utf8.{scalars, encode}
 use Rattle.{
-  meaning.proofs.Common.{rules, ◌≡◌, ◌==◌, ℕ, ◌<◌, Bool, true, false, inl, inr, List, [], ◌∷◌, ◌++◌, encode_utf8, refl, arith, cases_Bool, and_parts, nat_tests, IsUtf8-nil, IsUtf8-append, IsUtf8-from_ascii, if◌then◌else◌, IsUtf8, Text},
+  meaning_format.{proofs.cells.Common.{rules, ◌≡◌, ◌==◌, ℕ, ◌<◌, Bool, true, false, inl, inr, List, [], ◌∷◌, ◌++◌, encode_utf8, refl, arith, cases_Bool, and_parts, nat_tests, IsUtf8-nil, IsUtf8-append, IsUtf8-from_ascii, if◌then◌else◌, IsUtf8, Text}, specs.CsvWrite.{record_text}},
   std.{proofs.lemmas.Str.{IsUtf8-encode}, specs.Str.{encode_utf8_all}},
   csv.specs.{Records.{AllText}, Writing.{escaped, quoted, fields_text, row_body, default_writer}},
   frame_format.proofs.EscapeLaws.{each-append, each-encode},
-  format_meaning.specs.CsvWrite.{record_text},
 }
 
 pub no_texts : AllText []

@@ -1,9 +1,5 @@
 -- The parts of the table that a grid tells.
-use Rattle.{
-  meaning.proofs.Common.{rules, ◌≡◌, ℕ, ◌-◌, ◌<◌, List, [], length, map, get_or, refl, ap, ◌∙◌, arith, Option, None, length-map, get_or-map, length-map-range_with_len, get_or-map-range_with_len, is_eq, GridValue, label_datum, label_cmp, datum, na, na_cell, Label, Cell, Kind, Text, tabulate},
-  table_meaning.specs.Table.{Table, no_column, column_at, column_value, heading_value, tuple_value},
-  format_meaning.specs.{Told.{told, label_at, level_name, cell_at, heading_at}, Print.{same_above}},
-}
+use Rattle.meaning_format.{proofs.cells.Common.{rules, ◌≡◌, ℕ, ◌-◌, ◌<◌, List, [], length, map, get_or, refl, ap, ◌∙◌, arith, Option, None, length-map, get_or-map, length-map-range_with_len, get_or-map-range_with_len, is_eq, GridValue, label_datum, label_cmp, datum, na, na_cell, Label, Cell, Kind, Text, tabulate}, specs.{tables.Table.{Table, no_column, column_at, column_value, heading_value, tuple_value}, Told.{told, label_at, level_name, cell_at, heading_at}, Print.{same_above}}}
 
 pub shape_told : (texts : List Text) (g : GridValue) → (told texts g).shape ≡ g.shape
 unfolding told

@@ -1,9 +1,5 @@
 -- A whole table is what a grid that is read off it tells.
-use Rattle.{
-  meaning.proofs.Common.{◌≡◌, ℕ, ◌<◌, List, [], length, get_or, refl, sym, arith, None, fill_by_all, All, slice_index_or, GridValue, Label, Cell, Text, tabulate},
-  table_meaning.specs.Table.{ColumnOf, NumberedTable, no_column, column_at, table_value},
-  format_meaning.specs.Told.{numbered, told},
-}
+use Rattle.meaning_format.{proofs.cells.Common.{◌≡◌, ℕ, ◌<◌, List, [], length, get_or, refl, sym, arith, None, fill_by_all, All, slice_index_or, GridValue, Label, Cell, Text, tabulate}, specs.{tables.Table.{ColumnOf, NumberedTable, no_column, column_at, table_value}, Told.{numbered, told}}}
 use Rattle.cell_core.specs.declared.cell.Label.TheVariants as label
 use Rattle.cell_core.specs.declared.cell.Cell.TheVariants as cell
 

@@ -1,9 +1,9 @@
 -- The measured widths of a table.
 use Rattle.std.specs.Prelude.{◌≡◌, ◌-◌, ◌++◌, ℕ, zero, suc, [], length, map}
 use Rattle.std.specs.List.{flat_map}
-use Rattle.meaning.specs.Text.{Text}
-use Rattle.table_meaning.specs.Table.{Table}
-use Rattle.format_meaning.specs.Print.{series_width, column_width, level_width, levels_width, index_width, titled_width, right_set, spaces, places}
+use Rattle.meaning_format.specs.cells.Text.{Text}
+use Rattle.meaning_format.specs.tables.Table.{Table}
+use Rattle.meaning_format.specs.Print.{series_width, column_width, level_width, levels_width, index_width, titled_width, right_set, spaces, places}
 use Rattle.frame_format.specs.declared.series.SeriesLayout.{SeriesLayout}
 use Rattle.frame_format.specs.declared.frame.FrameLayout.{FrameLayout}
 

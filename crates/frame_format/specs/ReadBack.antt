@@ -2,10 +2,10 @@
 use Rattle.std.specs.Prelude.{◌≡◌, Bool, List, ◌∷◌, map}
 use Rattle.csv.specs.Reading.{records, default_config}
 use Rattle.csv.specs.Writing.{read_back}
-use Rattle.meaning.specs.Text.{Text}
-use Rattle.meaning.specs.Cell.{na_cell}
-use Rattle.table_meaning.specs.Table.{Table, rows_of}
-use Rattle.format_meaning.specs.CsvWrite.{header_fields, row_fields, csv_text_of}
+use Rattle.meaning_format.specs.cells.Text.{Text}
+use Rattle.meaning_format.specs.cells.Cell.{na_cell}
+use Rattle.meaning_format.specs.tables.Table.{Table, rows_of}
+use Rattle.meaning_format.specs.CsvWrite.{header_fields, row_fields, csv_text_of}
 
 -- the fields of the header, and then those of each row
 abbrev pub table_fields : Bool → Table → List (List Text)

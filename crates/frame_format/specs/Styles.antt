@@ -1,9 +1,9 @@
 -- The texts of labels and cells, in a printed table and in a record.
 use Rattle.std.specs.Prelude.{Option}
-use Rattle.meaning.specs.Text.{Text}
-use Rattle.meaning.specs.Cell.{CellValue, LabelValue}
-use Rattle.format_meaning.specs.Print.{shown_cell, shown_label, shown_name}
-use Rattle.format_meaning.specs.CsvWrite.{cell_field, label_field, name_field, heading_field}
+use Rattle.meaning_format.specs.cells.Text.{Text}
+use Rattle.meaning_format.specs.cells.Cell.{CellValue, LabelValue}
+use Rattle.meaning_format.specs.Print.{shown_cell, shown_label, shown_name}
+use Rattle.meaning_format.specs.CsvWrite.{cell_field, label_field, name_field, heading_field}
 use Rattle.frame_format.specs.declared.texts.Style.{Style}
 use Rattle.frame_format.specs.declared.texts.Style.TheVariants.{Printed, Record}
 

@@ -1,8 +1,8 @@
 // The printed text of a frame without a row or without a column.
 ghost use Rattle.std.specs.Prelude.{◌≡◌, ◌<◌, ◌++◌, length, codes, OnOk};
 ghost use Rattle.std.specs.List.{join_by};
-ghost use Rattle.format_meaning.specs.Told.{label_at, heading_at};
-ghost use Rattle.format_meaning.specs.Print.{shown_name, shown_label, whole_label, empty_text, places};
+ghost use Rattle.meaning_format.specs.Told.{label_at, heading_at};
+ghost use Rattle.meaning_format.specs.Print.{shown_name, shown_label, whole_label, empty_text, places};
 
 use crate::fields::push_gap;
 use crate::source::Source;

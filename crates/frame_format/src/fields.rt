@@ -1,6 +1,6 @@
 // Texts that are filled up with spaces.
 ghost use Rattle.std.specs.Prelude.{◌≡◌, ◌++◌, OnOk};
-ghost use Rattle.format_meaning.specs.Print.{spaces, left_set, right_set};
+ghost use Rattle.meaning_format.specs.Print.{spaces, left_set, right_set};
 ghost use Rattle.frame_format.specs.Layouts.{gap_before};
 
 use cell_core::{NoMemory, Words};

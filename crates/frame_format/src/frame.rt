@@ -2,8 +2,8 @@
 ghost use Rattle.std.specs.Prelude.{◌≡◌, ◌<◌, ◌++◌, ◌+◌, ◌-◌, length, map, sum, codes, slice_index, OnOk, IfOk};
 ghost use Rattle.std.specs.List.{flat_map};
 ghost use Rattle.cell_core.specs.declared.grid.Shape.TheVariants.{Frame};
-ghost use Rattle.format_meaning.specs.Told.{told, cell_at, heading_at};
-ghost use Rattle.format_meaning.specs.Print.{titled_width, header_line, names_below, names_line, frame_line, filled_text, frame_text_of, shown_name, shown_cell, spaces, places};
+ghost use Rattle.meaning_format.specs.Told.{told, cell_at, heading_at};
+ghost use Rattle.meaning_format.specs.Print.{titled_width, header_line, names_below, names_line, frame_line, filled_text, frame_text_of, shown_name, shown_cell, spaces, places};
 ghost use Rattle.frame_format.specs.Layouts.{IsFrameLayout, set_columns};
 
 use crate::empty::push_empty;

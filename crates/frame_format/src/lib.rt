@@ -2,7 +2,7 @@
 //!
 //! A table is whatever tells its parts by row and column ([`Grid`](cell_core::Grid)), and a
 //! dictionary has its texts. Widths are measured first, so that each line is written once, into one
-//! text. What each text is stands in the definitions of `format_meaning`, and the only refusal is
+//! text. What each text is stands in the definitions of `meaning_format`, and the only refusal is
 //! want of memory.
 //!
 //! ```text

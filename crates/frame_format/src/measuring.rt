@@ -1,6 +1,6 @@
 // The widths of levels and columns, and the levels side by side.
 ghost use Rattle.std.specs.Prelude.{◌≡◌, ◌<◌, ◌++◌, ◌+◌, ◌-◌, true, length, map, slice_index, OnOk, IfOk, string_bytes};
-ghost use Rattle.format_meaning.specs.Print.{labels_width, column_width, level_width, level_title, level_text, side_by_side, places, repeats, has_names};
+ghost use Rattle.meaning_format.specs.Print.{labels_width, column_width, level_width, level_title, level_text, side_by_side, places, repeats, has_names};
 
 use crate::fields::{push_gap, push_left};
 use crate::source::Source;
@@ -10,7 +10,7 @@ use std::alloc::Global;
 use unicode_width::UnicodeWidthStr;
 
 /// The width of the labels of a level.
-#[tactic(auto, using(crate::proofs::FieldLaws::widest_more), unfolding(format_meaning::specs::Print::labels_width))]
+#[tactic(auto, using(crate::proofs::FieldLaws::widest_more), unfolding(meaning_format::specs::Print::labels_width))]
 pub(crate) fn width_of_labels<G: Grid>(
     text: &mut String,
     source: &Source<'_, G>,
@@ -28,7 +28,7 @@ pub(crate) fn width_of_labels<G: Grid>(
 }
 
 /// The width of the cells of a column.
-#[tactic(auto, using(crate::proofs::FieldLaws::widest_more), unfolding(format_meaning::specs::Print::column_width))]
+#[tactic(auto, using(crate::proofs::FieldLaws::widest_more), unfolding(meaning_format::specs::Print::column_width))]
 pub(crate) fn width_of_cells<G: Grid>(
     text: &mut String,
     source: &Source<'_, G>,

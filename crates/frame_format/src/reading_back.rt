@@ -1,6 +1,6 @@
 // What a reader finds in CSV text.
 ghost use Rattle.std.specs.Prelude.{Bool};
-ghost use Rattle.table_meaning.specs.Table.{Table};
+ghost use Rattle.meaning_format.specs.tables.Table.{Table};
 ghost use Rattle.frame_format.specs.ReadBack.{ReadsBack};
 
 /// What a reader of RFC 4180 finds in the CSV text of a table, with the labels of its rows or without,

@@ -2,9 +2,9 @@
 ghost use Rattle.std.specs.Prelude.{◌≡◌, ◌<◌, ◌++◌, [], false, List, ℕ, length, map, OnOk, IfOk, if◌then◌else◌};
 ghost use Rattle.cell_core.specs.Values.{na_cell};
 ghost use Rattle.csv.specs.Records.{fields_of};
-ghost use Rattle.table_meaning.specs.Table.{row_of};
-ghost use Rattle.format_meaning.specs.Told.{told};
-ghost use Rattle.format_meaning.specs.CsvWrite.{cell_field, label_field, name_field, heading_field, header_fields, row_fields, record_text, csv_text_of};
+ghost use Rattle.meaning_format.specs.tables.Table.{row_of};
+ghost use Rattle.meaning_format.specs.Told.{told};
+ghost use Rattle.meaning_format.specs.CsvWrite.{cell_field, label_field, name_field, heading_field, header_fields, row_fields, record_text, csv_text_of};
 ghost use Rattle.frame_format.specs.Written.{HasWritten, IsFilled};
 
 use crate::source::Source;

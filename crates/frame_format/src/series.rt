@@ -2,8 +2,8 @@
 ghost use Rattle.std.specs.Prelude.{◌≡◌, ◌<◌, ◌++◌, length, map, codes, OnOk, IfOk};
 ghost use Rattle.std.specs.List.{flat_map};
 ghost use Rattle.cell_core.specs.declared.grid.Shape.TheVariants.{Series};
-ghost use Rattle.format_meaning.specs.Told.{told, heading_at};
-ghost use Rattle.format_meaning.specs.Print.{series_width, series_names, series_line, names_above, name_part, last_line, series_text_of, places};
+ghost use Rattle.meaning_format.specs.Told.{told, heading_at};
+ghost use Rattle.meaning_format.specs.Print.{series_width, series_names, series_line, names_above, name_part, last_line, series_text_of, places};
 ghost use Rattle.frame_format.specs.Layouts.{IsSeriesLayout};
 
 use crate::fields::{push_right, push_spaces};

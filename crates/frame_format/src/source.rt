@@ -1,8 +1,8 @@
 // A table with its texts.
 ghost use Rattle.std.specs.Prelude.{◌≡◌, ◌<◌, [], ℕ, length, slice_index_or, OnOk, string_bytes, is_some};
-ghost use Rattle.table_meaning.specs.Table.{column_at};
-ghost use Rattle.format_meaning.specs.Told.{told, label_at, level_name, cell_at, heading_at};
-ghost use Rattle.format_meaning.specs.Print.{shown_name, same_above};
+ghost use Rattle.meaning_format.specs.tables.Table.{column_at};
+ghost use Rattle.meaning_format.specs.Told.{told, label_at, level_name, cell_at, heading_at};
+ghost use Rattle.meaning_format.specs.Print.{shown_name, same_above};
 ghost use Rattle.frame_format.specs.Styles.{cell_text, label_text, name_text, heading_text};
 
 use crate::texts::{self, Style};
@@ -19,8 +19,8 @@ pub(crate) struct Source<'a, G: Grid> {
 }
 
 impl<'a, G: Grid> Model for Source<'a, G> {
-    ghost use Rattle.table_meaning.specs.Table.{Table};
-    ghost use Rattle.format_meaning.specs.Told.{told};
+    ghost use Rattle.meaning_format.specs.tables.Table.{Table};
+    ghost use Rattle.meaning_format.specs.Told.{told};
 
     ghost Value = { Table };
 

@@ -3,9 +3,9 @@ ghost use Rattle.std.specs.Prelude.{◌≡◌, ◌++◌, OnOk, encode_utf8, stri
 ghost use Rattle.std.specs.Fmt.{signed_decimal};
 ghost use Rattle.std.specs.Ordering.{is_eq};
 ghost use Rattle.cell_core.specs.Values.{datum, label_datum, label_cmp};
-ghost use Rattle.table_meaning.specs.Table.{heading_value};
-ghost use Rattle.meaning.specs.Cell.{na_cell, text_cell};
-ghost use Rattle.format_meaning.specs.Print.{shown_text, shown_truth, kind_word};
+ghost use Rattle.meaning_format.specs.tables.Table.{heading_value};
+ghost use Rattle.meaning_format.specs.cells.Cell.{na_cell, text_cell};
+ghost use Rattle.meaning_format.specs.Print.{shown_text, shown_truth, kind_word};
 ghost use Rattle.frame_format.specs.Styles.{cell_text, label_text, name_text, heading_text};
 
 use cell_core::{Cell, Kind, Label, NoMemory, TextDict};

@@ -1,9 +1,9 @@
 -- The answer of a call, by its method.
 use Rattle.{
-  form_parts.proofs.Common.{arith, ◌≡◌, ℕ, Some, Result, FaultValue, NumberedTable, Table, table_value, Entry, Given, table_at, Makes, OpFault, World, arguments_in},
-  call_meaning.specs.{declared.Method.{Method}, Signature.{parameters_of}, Binding.{argument_at, arguments_from}},
-  method_meaning.specs.Methods.{answer_for},
-  signatures.specs.{Bound.{stands_at}, declared.bound.Bound.{Bound}},
+  frame_parts.proofs.Common.{arith, ◌≡◌, ℕ, Some, Result, FaultValue, NumberedTable, Table, table_value, Entry, Given, table_at, Makes, OpFault, World, arguments_in},
+  meaning_call.specs.{declared.Method.{Method}, Signature.{parameters_of}, Binding.{argument_at, arguments_from}},
+  frame_labels.specs.method.Methods.{answer_for},
+  frame_signatures.specs.{Bound.{stands_at}, declared.bound.Bound.{Bound}},
   frame_methods.specs.Calls.{answer_in},
 }
 

@@ -1,7 +1,7 @@
 -- Columns that are made one by one.
 use Rattle.{
-  form_parts.proofs.Common.{◌≡◌, refl, ℕ, ◌+◌, ◌<◌, List, [], ◌∷◌, ◌++◌, map, length, append_assoc, Result, Ok, Err, slice_index_or, arith, map-append, map_push, drop_more, All-push, Cell, Text, CellValue, IsLonger, AreGiven, FaultValue, CellColumn, CellBlock, IsSettled, ColumnOf, NumberedTable, column_value, column_at, no_column, table_value, try_all, block_column, single_block, IsSingle, table_column, columns_value, cells_value, settled_later, seen_later, cells_settled, cells_given, column_settled, columns_settled, columns_given, columns_part, longer_twice, ArrayFault},
-  meaning.proofs.Common.{length-append},
+  frame_parts.proofs.Common.{◌≡◌, refl, ℕ, ◌+◌, ◌<◌, List, [], ◌∷◌, ◌++◌, map, length, append_assoc, Result, Ok, Err, slice_index_or, arith, map-append, map_push, drop_more, All-push, Cell, Text, CellValue, IsLonger, AreGiven, FaultValue, CellColumn, CellBlock, IsSettled, ColumnOf, NumberedTable, column_value, column_at, no_column, table_value, try_all, block_column, single_block, IsSingle, table_column, columns_value, cells_value, settled_later, seen_later, cells_settled, cells_given, column_settled, columns_settled, columns_given, columns_part, longer_twice, ArrayFault},
+  column_core.proofs.cells.Common.{length-append},
   frame_methods.specs.Columns.{IsFront, IsFault},
 }
 

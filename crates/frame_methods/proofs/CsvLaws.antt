@@ -1,7 +1,7 @@
 -- The CSV text of an object is that of its table.
 use Rattle.{
-  form_parts.proofs.Common.{◌≡◌, Bool, List, length, slice_get, Some, arith, get_or_from_slice_get, TextId, Text, datum, text_cell, NumberedTable, table_value, IsWhole, HaveLevels, grid_of},
-  format_meaning.specs.{Told.{told}, CsvWrite.{csv_text_of}},
+  frame_parts.proofs.Common.{◌≡◌, Bool, List, length, slice_get, Some, arith, get_or_from_slice_get, TextId, Text, datum, text_cell, NumberedTable, table_value, IsWhole, HaveLevels, grid_of},
+  frame_labels.specs.format.{Told.{told}, CsvWrite.{csv_text_of}},
   frame_format.proofs.WholeLaws.{told_whole},
 }
 use Rattle.cell_core.specs.declared.cell.Cell.TheVariants as cell

@@ -1,12 +1,11 @@
 -- Numbers that tell rows apart, and marks of the rows that an earlier row equals.
 use Rattle.{
-  form_parts.proofs.Common.{◌≡◌, ◌∙◌, append_assoc, refl, ap, sym, arith, rules, ℕ, zero, suc, ◌+◌, ◌<◌, ◌≤◌, Bool, true, ◌&&◌, ◌||◌, nat_eq, List, [], ◌∷◌, ◌++◌, map, length, drop, set, slice_index_or, slice_get, All, Some, None, Ok, get_or-map, nat_tests, length-map, length-set, drop_more, get_or-set_same, get_or-set_other, All-map, list_any-append, map-map, slice_get_within, get_or_from_slice_get, slice_index, not, Decides, pointwise, AllByRecursion as ByRecursion, list_any, range_with_len, IsDistinct, AreDistinct, Cell, Boolean, Series, CellColumn, na_cell, datum, IsGiven, same_cell, Text, AxisValue, ColumnOf, NumberedTable, column_at, no_column, table_value, within_limits, table_with, axis_of, table_column, Makes, IsKnownTable, columns_part, columns_given, level_names_part, labels_part, columns_settled, table_settled},
-  meaning.proofs.Common.{cases_eq, same_from_decides, recursion_from_All, apart_from_distinct},
+  frame_parts.proofs.Common.{◌≡◌, ◌∙◌, append_assoc, refl, ap, sym, arith, rules, ℕ, zero, suc, ◌+◌, ◌<◌, ◌≤◌, Bool, true, ◌&&◌, ◌||◌, nat_eq, List, [], ◌∷◌, ◌++◌, map, length, drop, set, slice_index_or, slice_get, All, Some, None, Ok, get_or-map, nat_tests, length-map, length-set, drop_more, get_or-set_same, get_or-set_other, All-map, list_any-append, map-map, slice_get_within, get_or_from_slice_get, slice_index, not, Decides, pointwise, AllByRecursion as ByRecursion, list_any, range_with_len, IsDistinct, AreDistinct, Cell, Boolean, Series, CellColumn, na_cell, datum, IsGiven, same_cell, Text, AxisValue, ColumnOf, NumberedTable, column_at, no_column, table_value, within_limits, table_with, axis_of, table_column, Makes, IsKnownTable, columns_part, columns_given, level_names_part, labels_part, columns_settled, table_settled},
+  column_core.proofs.cells.Common.{cases_eq, same_from_decides, recursion_from_All, apart_from_distinct},
   indexmap.specs.IndexSet.{insert_key},
-  method_meaning.specs.Rows.{cells_by_row, repeats},
+  frame_labels.{specs.{method.Rows.{cells_by_row, repeats}, Rows.{row_cells}}, proofs.{RowLaws.{cells_in, by_rows}, TableLaws.{limited_within}}},
   column_operators.specs.Marks.{same_number},
-  selections.{specs.Across.{cell_across}, proofs.{AnswerLaws.{column_seen}, PickedLaws.{listed_is, places_inside}}},
-  label_methods.{specs.Rows.{row_cells}, proofs.{RowLaws.{cells_in, by_rows}, TableLaws.{limited_within}}},
+  frame_select.{specs.Across.{cell_across}, proofs.{AnswerLaws.{column_seen}, PickedLaws.{listed_is, places_inside}}},
   frame_methods.{specs.Rows.{AreNumbers, duplicated_among}, proofs.ListedLaws.{cell_by_number}},
 }
 use Rattle.cell_core.specs.declared.cell.Cell.TheVariants as cell

@@ -1,6 +1,6 @@
 -- The cells that an operation holds were given.
 use Rattle.{
-  form_parts.proofs.Common.{suc, List, [], ◌∷◌, arith, length-append, All-cons, All-nil, Cell, Text, IsGiven, AreGiven, IsLonger},
+  frame_parts.proofs.Common.{suc, List, [], ◌∷◌, arith, length-append, All-cons, All-nil, Cell, Text, IsGiven, AreGiven, IsLonger},
   frame_methods.specs.Columns.{EachGiven},
 }
 

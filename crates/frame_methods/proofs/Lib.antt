@@ -15,3 +15,5 @@ pub mod DuplicateLaws
 pub mod SortLaws
 pub mod ShapeLaws
 pub mod Hints
+-- laws of crates below, passed on to the crates above
+pub use Rattle.sorting.proofs as sorting

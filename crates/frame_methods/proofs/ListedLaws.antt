@@ -1,8 +1,8 @@
 -- Cells that are in a list, by number and with texts.
 use Rattle.{
-  form_parts.proofs.Common.{◌≡◌, ◌∙◌, ◌<◌, ◌+◌, refl, sym, ℕ, Bool, true, ◌||◌, List, [], ◌∷◌, ◌++◌, length, drop, get_or, Option, Some, None, IfSome, Result, arith, map-append, list_any-append, All-push, option_map, Decides, list_any, Cell, AreDistinct, label_of, same_by_number, Text, CellValue, truth_cell, datum, label_datum, IsGiven, AreGiven, cell_label, same_cell, FaultValue, IsSettled, Table, Entry, GivenList, on, cells_of, Tables, items_of, cells_value, Item, cell_settled, cell_given},
-  method_meaning.specs.Methods.{is_in, each_column},
-  signatures.{proofs.ScalarLaws.{IsScalarOf, scalars_are, scalars_from}, specs.Scalars.{scalars, with_cell}},
+  frame_parts.proofs.Common.{◌≡◌, ◌∙◌, ◌<◌, ◌+◌, refl, sym, ℕ, Bool, true, ◌||◌, List, [], ◌∷◌, ◌++◌, length, drop, get_or, Option, Some, None, IfSome, Result, arith, map-append, list_any-append, All-push, option_map, Decides, list_any, Cell, AreDistinct, label_of, same_by_number, Text, CellValue, truth_cell, datum, label_datum, IsGiven, AreGiven, cell_label, same_cell, FaultValue, IsSettled, Table, Entry, GivenList, on, cells_of, Tables, items_of, cells_value, Item, cell_settled, cell_given},
+  frame_labels.specs.method.Methods.{is_in, each_column},
+  frame_signatures.{proofs.ScalarLaws.{IsScalarOf, scalars_are, scalars_from}, specs.Scalars.{scalars, with_cell}},
   frame_methods.specs.{Listed.{noted, listed_column}, Columns.{EachGiven}},
   column_operators.specs.Marks.{same_number},
 }

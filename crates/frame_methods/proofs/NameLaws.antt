@@ -1,7 +1,7 @@
 -- Objects under other headings.
 use Rattle.{
-  form_parts.proofs.Common.{arith, ◌≡◌, refl, pos, List, [], ◌∷◌, ◌++◌, length, Option, Some, None, slice_index_or, unwrap_or, Result, Label, Text, LabelValue, int, label_datum, FaultValue, IsSettled, heading_value, Entry, Value, OpFault, HeadingList, Shown, headings_value, FormAnswers},
-  label_methods.specs.Labels.{column_tuple},
+  frame_parts.proofs.Common.{arith, ◌≡◌, refl, pos, List, [], ◌∷◌, ◌++◌, length, Option, Some, None, slice_index_or, unwrap_or, Result, Label, Text, LabelValue, int, label_datum, FaultValue, IsSettled, heading_value, Entry, Value, OpFault, HeadingList, Shown, headings_value, FormAnswers},
+  frame_labels.specs.Labels.{column_tuple},
 }
 
 -- a heading that is read of what is settled is settled

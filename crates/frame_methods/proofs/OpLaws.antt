@@ -1,8 +1,8 @@
 -- What is made of a column, with texts.
 use Rattle.{
-  form_parts.proofs.Common.{arith, ◌≡◌, ◌∙◌, refl, ap, sym, ℕ, suc, ◌+◌, ◌-◌, ℤ, pos, negsuc, nat_lt, Bool, List, [], ◌∷◌, map, length, Result, Ok, IfOk, Option, if◌then◌else◌, length-map, length-map-range_with_len, All-map, map-map, get_or-map, range_with_len, Cell, Kind, Text, CellValue, na_cell, datum, IsGiven, AreGiven, ColumnValue, tabulate, CellColumn, Answers, ArrayFault, column_value, made_column, cells_value, table_column, settled_by, cells_settled, cells_given},
-  meaning.proofs.Common.{ColumnFault, try_each, shifted, shifted_row, cast_column, Cumulation, running, cumulate_column},
-  method_meaning.specs.Methods.{mapped, shifted_column},
+  frame_parts.proofs.Common.{arith, ◌≡◌, ◌∙◌, refl, ap, sym, ℕ, suc, ◌+◌, ◌-◌, ℤ, pos, negsuc, nat_lt, Bool, List, [], ◌∷◌, map, length, Result, Ok, IfOk, Option, if◌then◌else◌, length-map, length-map-range_with_len, All-map, map-map, get_or-map, range_with_len, Cell, Kind, Text, CellValue, na_cell, datum, IsGiven, AreGiven, ColumnValue, tabulate, CellColumn, Answers, ArrayFault, column_value, made_column, cells_value, table_column, settled_by, cells_settled, cells_given},
+  column_core.proofs.cells.Common.{ColumnFault, try_each, shifted, shifted_row, cast_column, Cumulation, running, cumulate_column},
+  frame_labels.specs.method.Methods.{mapped, shifted_column},
   frame_methods.specs.Columns.{MakesColumn},
 }
 use Rattle.cell_core.specs.declared.cell.Cell.TheVariants as cell

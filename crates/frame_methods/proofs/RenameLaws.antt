@@ -1,11 +1,11 @@
 -- Columns under new labels, by number and with texts.
 use Rattle.{
-  form_parts.proofs.Common.{◌≡◌, ◌∙◌, ◌<◌, ◌+◌, refl, ap, sym, ℕ, Bool, true, false, List, [], ◌∷◌, map, length, drop, get_or, Option, Some, None, Result, Ok, Err, All, if◌then◌else◌, arith, drop-cons, All-map, IsSome, IfOk, IfErr, option_map, list_all, lookup, Cell, Label, Frame, AreDistinct, same_by_number, MakesBy, Text, LabelValue, datum, label_datum, cell_label, FaultValue, wrong_kind, then_value, IsSettled, NumberedTable, Table, table_value, heading_value, AreHeadings, Entry, Given, dict_in, scalar_in, same_label, unless_repeated, limited, with_pair, pairs_onto, pairs_in, Tables, argument_of, entries_of, arguments_of, HeadingList, OpFault, Refused, NoMemory, Argument, One, Shown, headings_value, FormAnswers},
+  frame_parts.proofs.Common.{◌≡◌, ◌∙◌, ◌<◌, ◌+◌, refl, ap, sym, ℕ, Bool, true, false, List, [], ◌∷◌, map, length, drop, get_or, Option, Some, None, Result, Ok, Err, All, if◌then◌else◌, arith, drop-cons, All-map, IsSome, IfOk, IfErr, option_map, list_all, lookup, Cell, Label, Frame, AreDistinct, same_by_number, MakesBy, Text, LabelValue, datum, label_datum, cell_label, FaultValue, wrong_kind, then_value, IsSettled, NumberedTable, Table, table_value, heading_value, AreHeadings, Entry, Given, dict_in, scalar_in, same_label, unless_repeated, limited, with_pair, pairs_onto, pairs_in, Tables, argument_of, entries_of, arguments_of, HeadingList, OpFault, Refused, NoMemory, Argument, One, Shown, headings_value, FormAnswers},
   indexmap.specs.IndexMap.{insert_entry, insert_all},
-  table_meaning.specs.Value.{GivenPairs},
-  method_meaning.specs.Methods.{is_scalar_pair, new_label, renamed_heading, renamed_frame},
-  signatures.{specs.{Bound.{Tells}, declared.bound.Bound.{Bound}}, proofs.ToldLaws.{told_settled}},
-  selections.{specs.{Picked.{headed_by}, Headings.{NamesRepeated, same_number, repeated_heading}}, proofs.{HeadingLaws.{label_decides, head_settled, rest_settled, repeated_seen, different}, RefusalLaws.{repeated_settled}}},
+  frame_store.specs.tables.Value.{GivenPairs},
+  frame_labels.specs.method.Methods.{is_scalar_pair, new_label, renamed_heading, renamed_frame},
+  frame_signatures.{specs.{Bound.{Tells}, declared.bound.Bound.{Bound}}, proofs.ToldLaws.{told_settled}},
+  frame_select.{specs.{Picked.{headed_by}, Headings.{NamesRepeated, same_number, repeated_heading}}, proofs.{HeadingLaws.{label_decides, head_settled, rest_settled, repeated_seen, different}, RefusalLaws.{repeated_settled}}},
   frame_methods.specs.Renames.{label_pair, given_label, given_labels, pair_seen, pairs_seen, have_labels, found_label, heading_by, label_from, heading_from, relabelled, labels_seen},
 }
 

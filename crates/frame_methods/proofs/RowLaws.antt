@@ -1,12 +1,10 @@
 -- Tables of some rows of another one.
 use Rattle.{
-  form_parts.proofs.Common.{◌≡◌, ◌∙◌, ap, arith, ℕ, zero, suc, ◌+◌, ◌-◌, ◌<◌, ◌≤◌, ℤ, pos, negsuc, Bool, true, false, List, [], ◌∷◌, ◌++◌, map, length, take, slice_index_or, All, Option, Some, Result, Ok, length-map, take_all, length-range_with_len, list_all, range_with_len, Cell, Rows, get_or-tabulate, na_cell, FaultValue, Text, IsSettled, ColumnOf, NumberedTable, Table, row_of, column_at, table_value, tuple_value, Entry, table, limited, within_limits, table_or, HeadingList, columns_value, Makes, OpFault},
-  meaning.proofs.Common.{min, div_ceil, int_eq, is_present},
-  pick_meaning.{specs.{Positions.{rows_before}, Rows.{rows_of, rows_where}}, proofs.{InsideLaws.{rows_inside}, RowLaws.{rows_more_yes, rows_more_no}}},
-  select_meaning.specs.Select.{rows_taken},
-  method_meaning.specs.Rows.{head_result, tail_result, cells_by_row, all_places},
-  selections.{specs.Chosen.{chosen}, proofs.{PickedLaws.{listed_is, read_is}, TakenLaws.{chosen_rows, chosen_settled}, AnswerLaws.{own_name, own_labels}}},
-  label_methods.proofs.{RowLaws.{cells_in, by_rows}, TableLaws.{limited_within}},
+  frame_parts.proofs.Common.{◌≡◌, ◌∙◌, ap, arith, ℕ, zero, suc, ◌+◌, ◌-◌, ◌<◌, ◌≤◌, ℤ, pos, negsuc, Bool, true, false, List, [], ◌∷◌, ◌++◌, map, length, take, slice_index_or, All, Option, Some, Result, Ok, length-map, take_all, length-range_with_len, list_all, range_with_len, Cell, Rows, get_or-tabulate, na_cell, FaultValue, Text, IsSettled, ColumnOf, NumberedTable, Table, row_of, column_at, table_value, tuple_value, Entry, table, limited, within_limits, table_or, HeadingList, columns_value, Makes, OpFault},
+  column_core.proofs.cells.Common.{min, div_ceil, int_eq, is_present},
+  multi_index.{specs.pick.{Positions.{rows_before}, Rows.{rows_of, rows_where}}, proofs.pick.{InsideLaws.{rows_inside}, RowLaws.{rows_more_yes, rows_more_no}}},
+  frame_select.{specs.{select.Select.{rows_taken}, Chosen.{chosen}}, proofs.{PickedLaws.{listed_is, read_is}, TakenLaws.{chosen_rows, chosen_settled}, AnswerLaws.{own_name, own_labels}}},
+  frame_labels.{specs.method.Rows.{head_result, tail_result, cells_by_row, all_places}, proofs.{RowLaws.{cells_in, by_rows}, TableLaws.{limited_within}}},
   frame_methods.specs.Rows.{complete},
 }
 

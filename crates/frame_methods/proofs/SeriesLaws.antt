@@ -1,9 +1,7 @@
 -- Series over the labels of columns.
 use Rattle.{
-  form_parts.proofs.Common.{arith, ◌≡◌, refl, ap, sym, true, List, [], ◌∷◌, map, length, None, Ok, length-map, Kind, Series, Frame, Text, datum, AreGiven, CellColumn, AxisValue, NumberedTable, table_value, heading_value, table, IsSettled, within_limits, try_all, table_with, table_column, labels_value, headings_value, columns_value, settled_by, columns_name_part, headings_part, columns_settled, table_settled},
-  form_meaning.specs.Finish.{across_columns},
-  method_meaning.specs.Methods.{Summary, kind_for, summary_as, summary_of},
-  label_methods.{specs.Labels.{column_tuple}, proofs.{TableLaws.{limited_within}, ColumnLabelLaws.{tuples_seen}}},
+  frame_parts.{proofs.Common.{arith, ◌≡◌, refl, ap, sym, true, List, [], ◌∷◌, map, length, None, Ok, length-map, Kind, Series, Frame, Text, datum, AreGiven, CellColumn, AxisValue, NumberedTable, table_value, heading_value, table, IsSettled, within_limits, try_all, table_with, table_column, labels_value, headings_value, columns_value, settled_by, columns_name_part, headings_part, columns_settled, table_settled}, specs.form.Finish.{across_columns}},
+  frame_labels.{specs.{method.Methods.{Summary, kind_for, summary_as, summary_of}, Labels.{column_tuple}}, proofs.{TableLaws.{limited_within}, ColumnLabelLaws.{tuples_seen}}},
 }
 
 abbrev summaries_axis : NumberedTable → AxisValue

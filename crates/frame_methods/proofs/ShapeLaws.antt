@@ -1,12 +1,12 @@
 -- Methods that a Series or a frame alone has.
 use Rattle.{
-  form_parts.proofs.Common.{arith, ◌≡◌, true, Shape, Series, Frame},
-  call_meaning.{specs.{declared.{TableMethod.{TableMethod}, LevelMethod.{LevelMethod}, LabelMethod.{LabelMethod}}, Signature.{method_names, fits_shape}}, proofs.ShapeLaws.{of_series}},
+  frame_parts.proofs.Common.{arith, ◌≡◌, true, Shape, Series, Frame},
+  meaning_call.{specs.{declared.{TableMethod.{TableMethod}, LevelMethod.{LevelMethod}, LabelMethod.{LabelMethod}}, Signature.{method_names, fits_shape}}, proofs.ShapeLaws.{of_series}},
 }
-use Rattle.call_meaning.specs.declared.Method.TheVariants as method
-use Rattle.call_meaning.specs.declared.TableMethod.TheVariants as table_method
-use Rattle.call_meaning.specs.declared.LevelMethod.TheVariants as level_method
-use Rattle.call_meaning.specs.declared.LabelMethod.TheVariants as label_method
+use Rattle.meaning_call.specs.declared.Method.TheVariants as method
+use Rattle.meaning_call.specs.declared.TableMethod.TheVariants as table_method
+use Rattle.meaning_call.specs.declared.LevelMethod.TheVariants as level_method
+use Rattle.meaning_call.specs.declared.LabelMethod.TheVariants as label_method
 
 module _ (m : TableMethod) (s : Shape) (fits : fits_shape (method.Table m) s ≡ true) where
   pub rename_of_series : m ≡ table_method.RenameSeries → s ≡ Series

@@ -1,12 +1,12 @@
 -- Summaries of columns.
 use Rattle.{
-  form_parts.proofs.Common.{arith, ◌≡◌, append_assoc, ◌<◌, ◌+◌, ◌^◌, ℕ, pos, List, [], ◌∷◌, ◌++◌, length, Result, Ok, map-append, drop_more, All-push, cast_signed, w64, Cell, Kind, Text, CellValue, datum, IsGiven, FaultValue, CellColumn, ColumnOf, column_value, column_at, no_column, table_column},
+  frame_parts.proofs.Common.{arith, ◌≡◌, append_assoc, ◌<◌, ◌+◌, ◌^◌, ℕ, pos, List, [], ◌∷◌, ◌++◌, length, Result, Ok, map-append, drop_more, All-push, cast_signed, w64, Cell, Kind, Text, CellValue, datum, IsGiven, FaultValue, CellColumn, ColumnOf, column_value, column_at, no_column, table_column},
   std.specs.Int.{int_wrap},
-  meaning.proofs.Common.{mod-eq_of_lt, length-append, distinct_count},
+  column_core.proofs.cells.Common.{mod-eq_of_lt, length-append, distinct_count},
   frame_methods.specs.Summaries.{AreCells, counted_cell},
 }
 use Rattle.column_core.specs.Columns as kernel
-use Rattle.method_meaning.specs.Methods as meant
+use Rattle.frame_labels.specs.method.Methods as meant
 
 -- a number below 2^64 as what is left of it in 64 bits
 count_wraps : (n : ℕ) → n < 2 ^ 64 → int_wrap w64 (pos n) ≡ cast_signed w64 n

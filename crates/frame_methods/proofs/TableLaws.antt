@@ -1,9 +1,9 @@
 -- Tables that are made of others.
 use Rattle.{
-  form_parts.proofs.Common.{arith, ◌≡◌, true, List, map, length, All, Result, Ok, length-map, Cell, Text, CellValue, AreGiven, IsLonger, FaultValue, CellBlock, ColumnOf, NumberedTable, table_value, table, IsSettled, within_limits, with_columns, try_all, block_column, table_with, axis_of, HeadingList, columns_value, settled_later, seen_later, columns_name_part, level_names_part, labels_part, headings_part},
+  frame_parts.proofs.Common.{arith, ◌≡◌, true, List, map, length, All, Result, Ok, length-map, Cell, Text, CellValue, AreGiven, IsLonger, FaultValue, CellBlock, ColumnOf, NumberedTable, table_value, table, IsSettled, within_limits, with_columns, try_all, block_column, table_with, axis_of, HeadingList, columns_value, settled_later, seen_later, columns_name_part, level_names_part, labels_part, headings_part},
   frame_store.proofs.Settling.{with_columns_settled},
 }
-use Rattle.method_meaning.specs.Methods as meant
+use Rattle.frame_labels.specs.method.Methods as meant
 
 -- the same table under other columns, at a later dictionary
 pub columns_later : (old new : List Text) (t : NumberedTable) (cs : List (ColumnOf Cell)) → IsLonger old new → IsSettled table_value old t

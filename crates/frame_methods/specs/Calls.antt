@@ -1,20 +1,20 @@
 -- Calls of methods.
 use Rattle.std.specs.Prelude.{◌≡◌, true, Result, Ok, Err}
 use Rattle.cell_core.specs.declared.grid.Shape.{Shape}
-use Rattle.meaning.specs.Fault.{FaultValue}
-use Rattle.table_meaning.specs.Settled.{IsSettled}
-use Rattle.table_meaning.specs.Table.{Table}
-use Rattle.table_meaning.specs.Value.{Entry}
-use Rattle.call_meaning.specs.declared.Method.{Method}
-use Rattle.call_meaning.specs.Signature.{parameters_of, fits_shape}
-use Rattle.method_meaning.specs.Methods.{answer_for, takes_one_table}
+use Rattle.column_core.specs.cells.Fault.{FaultValue}
+use Rattle.frame_store.specs.tables.Settled.{IsSettled}
+use Rattle.frame_store.specs.tables.Table.{Table}
+use Rattle.frame_store.specs.tables.Value.{Entry}
+use Rattle.meaning_call.specs.declared.Method.{Method}
+use Rattle.meaning_call.specs.Signature.{parameters_of, fits_shape}
+use Rattle.frame_labels.specs.method.Methods.{answer_for, takes_one_table}
 use Rattle.frame_store.specs.declared.fault.OpFault.{OpFault}
 use Rattle.frame_store.specs.declared.fault.OpFault.TheVariants.{Refused, NoMemory}
 use Rattle.frame_store.specs.Shown.{Refuses}
 use Rattle.frame_store.specs.Arguments.{arguments_of}
 use Rattle.frame_store.specs.World.{World}
-use Rattle.signatures.specs.Bound.{given_in}
-use Rattle.signatures.specs.declared.bound.Bound.{Bound}
+use Rattle.frame_signatures.specs.Bound.{given_in}
+use Rattle.frame_signatures.specs.declared.bound.Bound.{Bound}
 use Rattle.frame_methods.specs.declared.binding.BoundCall.{BoundCall}
 
 -- the method is answered by its table alone, the arguments are its own, the shape has it, and their texts were given

@@ -1,19 +1,19 @@
 -- Columns that are made one by one.
 use Rattle.std.specs.Prelude.{◌≡◌, ℕ, List, [], ◌∷◌, map, drop, length, All, Result, Ok, Err}
 use Rattle.cell_core.specs.declared.cell.Cell.{Cell}
-use Rattle.meaning.specs.Text.{Text}
-use Rattle.meaning.specs.Cell.{CellValue, IsLonger, IsGiven, AreGiven}
-use Rattle.meaning.specs.Fault.{FaultValue, wrong_kind, zero_divide, bad_value, cast}
+use Rattle.column_core.specs.cells.Text.{Text}
+use Rattle.column_core.specs.cells.Cell.{CellValue, IsLonger, IsGiven, AreGiven}
+use Rattle.column_core.specs.cells.Fault.{FaultValue, wrong_kind, zero_divide, bad_value, cast}
 use Rattle.column_core.specs.Columns.{CellColumn}
 use Rattle.column_core.specs.Blocks.{CellBlock}
-use Rattle.table_meaning.specs.Table.{ColumnOf}
+use Rattle.frame_store.specs.tables.Table.{ColumnOf}
 use Rattle.nullable_array.specs.declared.ops.ArrayFault.{ArrayFault}
 use Rattle.nullable_array.specs.declared.ops.ArrayFault.TheVariants.{KindMismatch, ZeroDivision, NotCast, NoMemory}
 use Rattle.frame_store.specs.Shown.{columns_value}
 use Rattle.frame_store.specs.Parts.{block_column, IsSingle, HaveRows}
-use Rattle.form_meaning.specs.Finish.{try_all}
-use Rattle.label_methods.specs.Columns.{with_front}
-use Rattle.form_parts.specs.Makes.{column_seen}
+use Rattle.frame_parts.specs.form.Finish.{try_all}
+use Rattle.frame_labels.specs.Columns.{with_front}
+use Rattle.frame_parts.specs.Makes.{column_seen}
 
 -- Each of these cells was given, one by one: `AreGiven` of the list, but it computes on a list that is written out, so
 -- that of no cell nothing is to be shown, and of one only that this one was given.

@@ -1,8 +1,8 @@
 -- The fault of a chain that isn't built.
 use Rattle.std.specs.Prelude.{List}
-use Rattle.meaning.specs.Text.{Text}
-use Rattle.table_meaning.specs.Value.{Entry}
-use Rattle.method_meaning.specs.Calls.{has_method, not_built_if}
+use Rattle.column_core.specs.cells.Text.{Text}
+use Rattle.frame_store.specs.tables.Value.{Entry}
+use Rattle.frame_labels.specs.method.Calls.{has_method, not_built_if}
 use Rattle.frame_store.specs.declared.fault.OpFault.{OpFault}
 use Rattle.frame_store.specs.declared.fault.OpFault.TheVariants.{Refused, NoMemory}
 use Rattle.frame_store.specs.Shown.{Refuses}

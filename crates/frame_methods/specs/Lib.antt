@@ -8,3 +8,5 @@ pub mod Listed
 pub mod Renames
 pub mod Sorts
 pub mod Rows
+-- definitions of crates below, passed on to the crates above
+pub use Rattle.sorting.specs as sorting

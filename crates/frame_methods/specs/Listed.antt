@@ -3,11 +3,11 @@ use Rattle.std.specs.Prelude.{List, Option, Some, None, Result}
 use Rattle.indexmap.specs.IndexSet.{insert_key}
 use Rattle.cell_core.specs.declared.cell.Cell.{Cell}
 use Rattle.cell_core.specs.declared.cell.Kind.TheVariants.{Boolean}
-use Rattle.meaning.specs.Cell.{CellValue}
-use Rattle.meaning.specs.Fault.{FaultValue}
-use Rattle.table_meaning.specs.Table.{ColumnOf}
+use Rattle.column_core.specs.cells.Cell.{CellValue}
+use Rattle.column_core.specs.cells.Fault.{FaultValue}
+use Rattle.frame_store.specs.tables.Table.{ColumnOf}
 use Rattle.column_operators.specs.Marks.{same_number}
-use Rattle.method_meaning.specs.Methods.{mapped, is_in}
+use Rattle.frame_labels.specs.method.Methods.{mapped, is_in}
 
 -- the different cells with one more, if there is one
 abbrev pub noted : List Cell → Option Cell → List Cell

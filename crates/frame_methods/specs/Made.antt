@@ -1,10 +1,10 @@
 -- What a form makes, with texts.
 use Rattle.std.specs.Prelude.{List}
-use Rattle.meaning.specs.Text.{Text}
-use Rattle.meaning.specs.Cell.{datum}
-use Rattle.table_meaning.specs.Table.{table_value}
-use Rattle.table_meaning.specs.Value as value
-use Rattle.table_meaning.specs.Value.{Entry}
+use Rattle.column_core.specs.cells.Text.{Text}
+use Rattle.column_core.specs.cells.Cell.{datum}
+use Rattle.frame_store.specs.tables.Table.{table_value}
+use Rattle.frame_store.specs.tables.Value as value
+use Rattle.frame_store.specs.tables.Value.{Entry}
 use Rattle.frame_methods.specs.declared.made.Made.{Made}
 use Rattle.frame_methods.specs.declared.made.Made.TheVariants.{Scalar, Table}
 

@@ -1,10 +1,10 @@
 -- Columns of marks.
 use Rattle.std.specs.Prelude.{Bool, true, false, Result}
 use Rattle.cell_core.specs.declared.cell.Kind.TheVariants.{Boolean}
-use Rattle.meaning.specs.Cell.{CellValue}
-use Rattle.meaning.specs.Fault.{FaultValue}
-use Rattle.table_meaning.specs.Table.{ColumnOf}
-use Rattle.method_meaning.specs.Methods.{mapped, missing_mark, present_mark}
+use Rattle.column_core.specs.cells.Cell.{CellValue}
+use Rattle.column_core.specs.cells.Fault.{FaultValue}
+use Rattle.frame_store.specs.tables.Table.{ColumnOf}
+use Rattle.frame_labels.specs.method.Methods.{mapped, missing_mark, present_mark}
 
 abbrev pub mark_of : Bool → CellValue → CellValue
 mark_of true = missing_mark

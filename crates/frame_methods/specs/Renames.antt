@@ -4,19 +4,19 @@ use Rattle.std.specs.Option.{option_map}
 use Rattle.std.specs.List.{list_all}
 use Rattle.std.specs.Map.{lookup}
 use Rattle.cell_core.specs.declared.cell.Label.{Label}
-use Rattle.meaning.specs.Text.{Text}
-use Rattle.meaning.specs.Cell.{LabelValue, label_datum}
-use Rattle.meaning.specs.Operator.{cell_label}
-use Rattle.meaning.specs.Fault.{FaultValue, wrong_kind}
-use Rattle.table_meaning.specs.Table.{heading_value}
-use Rattle.table_meaning.specs.Value.{Given, scalar_in}
-use Rattle.call_meaning.specs.Binding.{same_label}
-use Rattle.form_meaning.specs.Finish.{first_repeated, unless_repeated}
+use Rattle.column_core.specs.cells.Text.{Text}
+use Rattle.column_core.specs.cells.Cell.{LabelValue, label_datum}
+use Rattle.column_core.specs.cells.Operator.{cell_label}
+use Rattle.column_core.specs.cells.Fault.{FaultValue, wrong_kind}
+use Rattle.frame_store.specs.tables.Table.{heading_value}
+use Rattle.frame_store.specs.tables.Value.{Given, scalar_in}
+use Rattle.meaning_call.specs.Binding.{same_label}
+use Rattle.frame_parts.specs.form.Finish.{first_repeated, unless_repeated}
 use Rattle.frame_store.specs.Parts.{HeadingList}
 use Rattle.frame_store.specs.Shown.{headings_value}
 use Rattle.frame_store.specs.Arguments.{argument_of}
 use Rattle.frame_store.specs.declared.arguments.Argument.{Argument}
-use Rattle.selections.specs.Headings.{same_number}
+use Rattle.frame_select.specs.Headings.{same_number}
 
 -- a key of a dict, and the label that its value is; none where that is no scalar
 abbrev pub label_pair : LabelValue × Given → LabelValue × Option LabelValue

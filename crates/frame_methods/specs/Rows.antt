@@ -2,15 +2,15 @@
 use Rattle.std.specs.Prelude.{◌≡◌, ℕ, ◌<◌, List, [], length, slice_index, nat_eq, Result}
 use Rattle.std.specs.Cmp.Lexicographic.{pointwise}
 use Rattle.std.specs.List.{list_all}
-use Rattle.meaning.specs.Fault.{FaultValue}
-use Rattle.meaning.specs.Reduce.{is_present, same_cell}
-use Rattle.table_meaning.specs.Table.{NumberedTable, Table}
-use Rattle.table_meaning.specs.Value.{Entry}
-use Rattle.form_meaning.specs.Finish.{limited}
-use Rattle.pick_meaning.specs.Rows.{rows_where}
-use Rattle.method_meaning.specs.Rows.{all_places, cells_by_row, marks_series, repeats}
+use Rattle.column_core.specs.cells.Fault.{FaultValue}
+use Rattle.column_core.specs.cells.Reduce.{is_present, same_cell}
+use Rattle.frame_store.specs.tables.Table.{NumberedTable, Table}
+use Rattle.frame_store.specs.tables.Value.{Entry}
+use Rattle.frame_parts.specs.form.Finish.{limited}
+use Rattle.multi_index.specs.pick.Rows.{rows_where}
+use Rattle.frame_labels.specs.method.Rows.{all_places, cells_by_row, marks_series, repeats}
 use Rattle.column_operators.specs.Marks.{same_number}
-use Rattle.label_methods.specs.Rows.{row_cells}
+use Rattle.frame_labels.specs.Rows.{row_cells}
 
 -- the rows in which no cell is missing
 abbrev pub complete : Table → List ℕ

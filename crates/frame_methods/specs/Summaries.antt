@@ -3,17 +3,17 @@ use Rattle.std.specs.Prelude.{◌≡◌, ℕ, List, map, drop, length, Result}
 use Rattle.std.specs.Int.{cast_signed, w64}
 use Rattle.cell_core.specs.declared.cell.Cell.{Cell}
 use Rattle.cell_core.specs.declared.cell.Cell.TheVariants.{Int}
-use Rattle.meaning.specs.Text.{Text}
-use Rattle.meaning.specs.Cell.{CellValue, AreGiven, datum}
-use Rattle.meaning.specs.Fault.{FaultValue}
+use Rattle.column_core.specs.cells.Text.{Text}
+use Rattle.column_core.specs.cells.Cell.{CellValue, AreGiven, datum}
+use Rattle.column_core.specs.cells.Fault.{FaultValue}
 use Rattle.cell_core.specs.declared.cell.Kind.{Kind}
-use Rattle.table_meaning.specs.Table.{ColumnOf}
-use Rattle.form_meaning.specs.Finish.{try_all}
+use Rattle.frame_store.specs.tables.Table.{ColumnOf}
+use Rattle.frame_parts.specs.form.Finish.{try_all}
 use Rattle.frame_store.specs.Shown.{columns_value}
-use Rattle.label_methods.specs.Columns.{with_front}
+use Rattle.frame_labels.specs.Columns.{with_front}
 use Rattle.column_core.specs.Columns.{CellColumn}
 use Rattle.nullable_array.specs.Folds.{reduction_of}
-use Rattle.method_meaning.specs.Methods as meant
+use Rattle.frame_labels.specs.method.Methods as meant
 use Rattle.frame_methods.specs.declared.summaries.Summary.{Summary}
 use Rattle.frame_methods.specs.declared.summaries.Summary.TheVariants.{Reduced, Distinct}
 

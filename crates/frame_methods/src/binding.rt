@@ -1,20 +1,20 @@
 // The method that a call means, with its arguments bound.
 ghost use Rattle.std.specs.Prelude.{◌≡◌, List, IsSome};
-ghost use Rattle.meaning.specs.Text.{Text as OneText};
-ghost use Rattle.table_meaning.specs.Table.{table_value};
-ghost use Rattle.method_meaning.specs.Calls.{called, has_method};
-ghost use Rattle.method_meaning.specs.Methods as meant;
-ghost use Rattle.call_meaning.specs.Signature.{method_named as named_method};
+ghost use Rattle.column_core.specs.cells.Text.{Text as OneText};
+ghost use Rattle.frame_store.specs.tables.Table.{table_value};
+ghost use Rattle.frame_labels.specs.method.Calls.{called, has_method};
+ghost use Rattle.frame_labels.specs.method.Methods as meant;
+ghost use Rattle.meaning_call.specs.Signature.{method_named as named_method};
 ghost use Rattle.frame_store.specs.Arguments.{entry_of, IsLive};
 ghost use Rattle.frame_store.specs.Objects.{tables, table_at};
 ghost use Rattle.frame_store.specs.World.{world, arguments_in, AreKnownArguments};
 ghost use Rattle.frame_methods.specs.Calls.{Binds};
 
-use call_meaning::Method;
 use cell_core::{Code, Grid, TextDict};
+use frame_labels::no_attribute;
+use frame_signatures::{Bound, bind, method_named, parameters};
 use frame_store::{Named, ObjId, OpFault, Store, Value};
-use label_methods::no_attribute;
-use signatures::{Bound, bind, method_named, parameters};
+use meaning_call::Method;
 use std::alloc::Global;
 
 // A call whose method is answered here and takes the arguments.
@@ -45,7 +45,7 @@ fn takes_one_table(method: Method) -> bool
 }
 
 // The call of the method of the name that an object has, if it is answered here and takes the arguments.
-#[tactic(auto, using(call_meaning::proofs::ShapeLaws::named_fits))]
+#[tactic(auto, using(meaning_call::proofs::ShapeLaws::named_fits))]
 pub(crate) fn bound_call<'a>(
     alloc: Global,
     store: &Store,

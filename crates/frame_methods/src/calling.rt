@@ -1,18 +1,18 @@
 // Calls of methods on objects.
 ghost use Rattle.std.specs.Prelude.{◌≡◌, false, List, IsSome, Result, IfOk};
-ghost use Rattle.meaning.specs.Text.{Text as OneText};
-ghost use Rattle.meaning.specs.Cell.{IsLonger};
-ghost use Rattle.meaning.specs.Fault.{FaultValue};
-ghost use Rattle.table_meaning.specs.Settled.{IsSettled};
-ghost use Rattle.table_meaning.specs.Value.{Entry};
-ghost use Rattle.method_meaning.specs.Calls.{chain_result, method_result};
-ghost use Rattle.call_meaning.specs.declared.Method.TheVariants.{Rows, Levels, Labels, Table as Whole};
-ghost use Rattle.form_parts.specs.Makes.{MakesBy};
+ghost use Rattle.column_core.specs.cells.Text.{Text as OneText};
+ghost use Rattle.column_core.specs.cells.Cell.{IsLonger};
+ghost use Rattle.column_core.specs.cells.Fault.{FaultValue};
+ghost use Rattle.frame_store.specs.tables.Settled.{IsSettled};
+ghost use Rattle.frame_store.specs.tables.Value.{Entry};
+ghost use Rattle.frame_labels.specs.method.Calls.{chain_result, method_result};
+ghost use Rattle.meaning_call.specs.declared.Method.TheVariants.{Rows, Levels, Labels, Table as Whole};
+ghost use Rattle.frame_parts.specs.Makes.{MakesBy};
 ghost use Rattle.frame_store.specs.Arguments.{entry_of, object_value, shape_at, IsLive};
 ghost use Rattle.frame_store.specs.Objects.{tables};
 ghost use Rattle.frame_store.specs.Shown.{Makes};
 ghost use Rattle.frame_store.specs.World.{world, entry_in, arguments_in, IsSettledWorld, AreKnownArguments, Forms};
-ghost use Rattle.label_methods.specs.Chains.{chain_in, is_grouped};
+ghost use Rattle.frame_labels.specs.Chains.{chain_in, is_grouped};
 ghost use Rattle.frame_methods.specs.Calls.{answer_in, IsCall};
 ghost use Rattle.frame_methods.specs.Made.{made_value};
 ghost use Rattle.frame_methods.specs.Faults.{IsChained};
@@ -26,16 +26,16 @@ use crate::renaming::{rename_frame, rename_series, to_frame};
 use crate::rows::{dropna, head, tail};
 use crate::sorts::{sort_index, sort_values};
 use crate::summaries::{summarize, summary_of};
-use call_meaning::{LabelMethod, LevelMethod, Method, RowMethod, TableMethod};
 use cell_core::{Code, Grid, TextDict};
-use form_parts::name_of;
-use frame_store::{Chain, Named, NamedList, ObjId, OpFault, Store, Table, Value, placed};
-use label_methods::{
+use frame_labels::{
     drop_columns, drop_level, level_names, named_places, no_attribute, reindex, rename_axis,
     renumber, reset_levels, set_index, subset_places, swap_levels, xs,
 };
-use selections::{copied, places_below};
-use signatures::Bound;
+use frame_parts::name_of;
+use frame_select::{copied, places_below};
+use frame_signatures::Bound;
+use frame_store::{Chain, Named, NamedList, ObjId, OpFault, Store, Table, Value, placed};
+use meaning_call::{LabelMethod, LevelMethod, Method, RowMethod, TableMethod};
 use std::alloc::Global;
 
 // The answer for what a method made: a scalar, or a new object.
@@ -68,7 +68,7 @@ fn chained(alloc: Global, store: &Store, on: Value, name: &str) -> OpFault
 }
 
 // The table that a method makes of rows.
-#[tactic(auto, using(selections::proofs::PickedLaws::places_inside))]
+#[tactic(auto, using(frame_select::proofs::PickedLaws::places_inside))]
 fn rows_made(
     alloc: Global,
     store: &Store,

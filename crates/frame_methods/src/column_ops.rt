@@ -1,9 +1,9 @@
 // What is made of a column.
 ghost use Rattle.std.specs.Prelude.{◌≡◌, [], ◌∷◌, map, slice_index_or, IfOk, IsSome};
 ghost use Rattle.cell_core.specs.declared.cell.Kind.TheVariants.{Boolean};
-ghost use Rattle.meaning.specs.Cell.{na_cell};
-ghost use Rattle.call_meaning.specs.declared.Method.TheVariants.{Columns};
-ghost use Rattle.method_meaning.specs.Methods.{filled_column, shifted_column, cast_as, cumulated};
+ghost use Rattle.column_core.specs.cells.Cell.{na_cell};
+ghost use Rattle.meaning_call.specs.declared.Method.TheVariants.{Columns};
+ghost use Rattle.frame_labels.specs.method.Methods.{filled_column, shifted_column, cast_as, cumulated};
 ghost use Rattle.nullable_array.specs.Folds.{cumulation_of};
 ghost use Rattle.column_operators.specs.Marks.{missing_mark};
 ghost use Rattle.frame_store.specs.Arguments.{object_value, shape_at};
@@ -16,13 +16,13 @@ ghost use Rattle.frame_methods.specs.Listed.{listed_column};
 use crate::columns::{ColumnOp, MadeColumn};
 use crate::listed::{ListedCells, listed_cells};
 use crate::tables::columns_placed;
-use call_meaning::ColumnMethod;
 use cell_core::{Cell, Kind, NoMemory, TextDict};
 use column_core::{ColRef, Column, shift};
 use column_operators::{fillna, isin, isna, notna};
+use frame_signatures::Bound;
 use frame_store::{ObjId, OpFault, Store, Value};
+use meaning_call::ColumnMethod;
 use nullable_array::{ArrayFault, Cumulation, cast, cumulate};
-use signatures::Bound;
 use std::alloc::Global;
 
 // Whether each cell is missing, or whether it is there.

@@ -1,16 +1,16 @@
 // Columns that are made one by one.
 ghost use Rattle.std.specs.Prelude.{◌≡◌, ◌<◌, List, [], map, length, All, Result, IfOk};
 ghost use Rattle.cell_core.specs.declared.cell.Cell.{Cell};
-ghost use Rattle.meaning.specs.Cell.{CellValue, AreGiven, IsLonger};
-ghost use Rattle.meaning.specs.Fault.{FaultValue};
-ghost use Rattle.table_meaning.specs.Table.{ColumnOf, table_value};
-ghost use Rattle.table_meaning.specs.Valid.{IsWhole};
-ghost use Rattle.table_meaning.specs.Settled.{IsSettled};
-ghost use Rattle.form_meaning.specs.Finish.{try_all};
+ghost use Rattle.column_core.specs.cells.Cell.{CellValue, AreGiven, IsLonger};
+ghost use Rattle.column_core.specs.cells.Fault.{FaultValue};
+ghost use Rattle.frame_store.specs.tables.Table.{ColumnOf, table_value};
+ghost use Rattle.frame_store.specs.tables.Valid.{IsWhole};
+ghost use Rattle.frame_store.specs.tables.Settled.{IsSettled};
+ghost use Rattle.frame_parts.specs.form.Finish.{try_all};
 ghost use Rattle.frame_store.specs.Parts.{block_column, IsSingle, HaveRows};
 ghost use Rattle.frame_store.specs.Shown.{cells_value, columns_value};
 ghost use Rattle.frame_methods.specs.Columns.{EachGiven, MakesColumn, MakesColumns};
-ghost use Rattle.form_parts.specs.Makes.{column_seen};
+ghost use Rattle.frame_parts.specs.Makes.{column_seen};
 
 use cell_core::{Grid, TextDict};
 use column_core::{ColRef, Column};

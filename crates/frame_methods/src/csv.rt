@@ -1,13 +1,13 @@
 // Tables as CSV text.
 ghost use Rattle.std.specs.Prelude.{◌≡◌, ◌<◌, length, false, IfOk, IsSome};
-ghost use Rattle.meaning.specs.Cell.{IsGiven, IsLonger, datum, text_cell};
-ghost use Rattle.table_meaning.specs.Table.{table_value};
-ghost use Rattle.table_meaning.specs.Valid.{IsWhole};
-ghost use Rattle.table_meaning.specs.Settled.{IsSettled};
+ghost use Rattle.column_core.specs.cells.Cell.{IsGiven, IsLonger, datum, text_cell};
+ghost use Rattle.frame_store.specs.tables.Table.{table_value};
+ghost use Rattle.frame_store.specs.tables.Valid.{IsWhole};
+ghost use Rattle.frame_store.specs.tables.Settled.{IsSettled};
 ghost use Rattle.multi_index.specs.Axes.{HaveLevels};
-ghost use Rattle.format_meaning.specs.CsvWrite.{csv_text_of};
-ghost use Rattle.method_meaning.specs.Methods.{csv_answer};
-ghost use Rattle.form_parts.specs.Makes.{MakesBy};
+ghost use Rattle.frame_labels.specs.format.CsvWrite.{csv_text_of};
+ghost use Rattle.frame_labels.specs.method.Methods.{csv_answer};
+ghost use Rattle.frame_parts.specs.Makes.{MakesBy};
 ghost use Rattle.frame_store.specs.Objects.{tables, table_at};
 ghost use Rattle.frame_methods.specs.Made.{made_value};
 

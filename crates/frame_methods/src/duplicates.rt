@@ -2,15 +2,15 @@
 ghost use Rattle.std.specs.Prelude.{◌≡◌, ◌<◌, ◌∷◌, [], ◌++◌, ℕ, List, length, map, nat_eq, All, IfOk, OnOk};
 ghost use Rattle.cell_core.specs.declared.cell.Cell.TheVariants.{Bool};
 ghost use Rattle.cell_core.specs.declared.cell.Kind.TheVariants.{Boolean};
-ghost use Rattle.table_meaning.specs.Table.{table_value};
-ghost use Rattle.method_meaning.specs.Rows as meant;
+ghost use Rattle.frame_store.specs.tables.Table.{table_value};
+ghost use Rattle.frame_labels.specs.method.Rows as meant;
 ghost use Rattle.frame_store.specs.Shown.{Makes};
 ghost use Rattle.frame_store.specs.World.{IsKnownTable};
 ghost use Rattle.frame_methods.specs.Rows.{AreNumbers, duplicated_among};
 
 use cell_core::{Cell, Code, Grid, Kind, NoMemory, Places, TextDict};
 use column_core::Column;
-use form_parts::within_limits;
+use frame_parts::within_limits;
 use frame_store::{ObjRef, OpFault, Table, series_table};
 use indexmap::IndexSet;
 use std::alloc::Global;

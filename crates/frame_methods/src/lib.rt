@@ -2,8 +2,8 @@
 //!
 //! [`method`] calls a method of a value by its name, with the arguments of a script, and answers a
 //! scalar or a new object. [`exists`] says whether a value has a method of a name. What a method
-//! answers for its arguments is its definition on whole tables (`method_meaning/specs/Methods.antt`);
-//! the refusals that all methods share come from the table of signatures (the crate `signatures`).
+//! answers for its arguments is its definition on whole tables (`meaning_method/specs/Methods.antt`);
+//! the refusals that all methods share come from the table of signatures (the crate `frame_signatures`).
 //! What a call makes is told by the family of its method (`calling`).
 //!
 //! A method that makes new cells makes them column by column (`columns`), each by an operation of its
@@ -14,8 +14,8 @@
 //! `frame_format` (`csv`).
 //!
 //! What the methods of levels and labels make, and the columns that an argument names, is in the
-//! crate `label_methods` below; calls behind `groupby` are in `group_forms`, and joins of frames in
-//! `merge_forms`.
+//! crate `frame_labels` below; calls behind `groupby` are in `frame_groups`, and joins of frames in
+//! `frame_merge`.
 //!
 //! ```text
 //! let mut args = NamedList::new(alloc);

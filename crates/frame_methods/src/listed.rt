@@ -1,11 +1,11 @@
 // The scalars of a list, for a look-up of each cell.
 ghost use Rattle.std.specs.Prelude.{◌≡◌, List, Bool, IfOk, OnOk};
 ghost use Rattle.std.specs.List.{list_any};
-ghost use Rattle.meaning.specs.Text.{Text as OneText};
-ghost use Rattle.meaning.specs.Cell.{CellValue, AreGiven};
-ghost use Rattle.table_meaning.specs.Settled.{IsSettled};
+ghost use Rattle.column_core.specs.cells.Text.{Text as OneText};
+ghost use Rattle.column_core.specs.cells.Cell.{CellValue, AreGiven};
+ghost use Rattle.frame_store.specs.tables.Settled.{IsSettled};
 ghost use Rattle.frame_store.specs.Shown.{cells_value};
-ghost use Rattle.signatures.specs.Scalars.{scalars};
+ghost use Rattle.frame_signatures.specs.Scalars.{scalars};
 ghost use Rattle.frame_methods.specs.Listed.{noted};
 
 use cell_core::{Cell, NoMemory, TextDict};

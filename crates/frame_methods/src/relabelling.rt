@@ -2,19 +2,19 @@
 ghost use Rattle.std.specs.Prelude.{◌≡◌, [], map, length, IfOk};
 ghost use Rattle.indexmap.specs.IndexMap.{insert_all};
 ghost use Rattle.cell_core.specs.declared.grid.Shape.TheVariants.{Frame};
-ghost use Rattle.table_meaning.specs.Settled.{IsSettled};
-ghost use Rattle.table_meaning.specs.Table.{table_value};
-ghost use Rattle.table_meaning.specs.Valid.{IsWhole, AreHeadings};
-ghost use Rattle.call_meaning.specs.Binding.{same_label};
-ghost use Rattle.form_parts.specs.Makes.{MakesBy};
+ghost use Rattle.frame_store.specs.tables.Settled.{IsSettled};
+ghost use Rattle.frame_store.specs.tables.Table.{table_value};
+ghost use Rattle.frame_store.specs.tables.Valid.{IsWhole, AreHeadings};
+ghost use Rattle.meaning_call.specs.Binding.{same_label};
+ghost use Rattle.frame_parts.specs.Makes.{MakesBy};
 ghost use Rattle.frame_store.specs.Shown.{headings_value};
 ghost use Rattle.frame_methods.specs.Renames.{given_labels, pairs_seen, have_labels, heading_by, relabelled, labels_seen};
 
 use cell_core::{Code, Grid, Label, NoMemory, TextDict};
-use form_parts::name_of;
+use frame_parts::name_of;
+use frame_select::different_headings;
 use frame_store::{Argument, Headings, ObjRef, OpFault};
 use indexmap::IndexMap;
-use selections::different_headings;
 use std::alloc::Global;
 
 // Each key with the label that its last value is; none where that is no scalar. Texts are told

@@ -1,11 +1,11 @@
 // The methods that give an object's rows and columns under other headings.
 ghost use Rattle.std.specs.Prelude.{◌≡◌, IsSome};
 ghost use Rattle.cell_core.specs.declared.grid.Shape.TheVariants.{Series, Frame};
-ghost use Rattle.table_meaning.specs.Settled.{IsSettled};
-ghost use Rattle.table_meaning.specs.Table.{heading_value, table_value};
-ghost use Rattle.form_meaning.specs.Finish.{limited};
-ghost use Rattle.form_meaning.specs.Make.{pairs_in};
-ghost use Rattle.method_meaning.specs.Methods as meant;
+ghost use Rattle.frame_store.specs.tables.Settled.{IsSettled};
+ghost use Rattle.frame_store.specs.tables.Table.{heading_value, table_value};
+ghost use Rattle.frame_parts.specs.form.Finish.{limited};
+ghost use Rattle.frame_parts.specs.form.Make.{pairs_in};
+ghost use Rattle.frame_labels.specs.method.Methods as meant;
 ghost use Rattle.frame_store.specs.Arguments.{entries_of};
 ghost use Rattle.frame_store.specs.Objects.{Tables, tables, table_at};
 ghost use Rattle.frame_store.specs.World.{world, IsSettledWorld, Forms};
@@ -13,9 +13,9 @@ ghost use Rattle.frame_methods.specs.Renames.{given_labels};
 
 use crate::relabelling::renamed_headings;
 use cell_core::{Grid, Label, TextDict};
+use frame_labels::column_label;
+use frame_select::{as_frame, renamed};
 use frame_store::{Argument, Headings, ObjId, OpFault, Store, Value};
-use label_methods::column_label;
-use selections::{as_frame, renamed};
 use std::alloc::Global;
 
 // A Series with another name, or none.

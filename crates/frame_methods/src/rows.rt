@@ -1,16 +1,16 @@
 // The methods that answer some rows of a table.
 ghost use Rattle.std.specs.Prelude.{◌≡◌, ◌<◌, ◌≤◌, List, length, All, IfOk};
 ghost use Rattle.std.specs.List.{list_all};
-ghost use Rattle.meaning.specs.Cell.{na_cell};
-ghost use Rattle.meaning.specs.Reduce.{is_present};
-ghost use Rattle.meaning.specs.Text.{Text as OneText};
-ghost use Rattle.table_meaning.specs.Settled.{IsSettled};
-ghost use Rattle.table_meaning.specs.Table.{row_of, table_value};
-ghost use Rattle.table_meaning.specs.Valid.{IsWhole};
-ghost use Rattle.form_meaning.specs.Finish.{limited};
-ghost use Rattle.pick_meaning.specs.Positions.{rows_before};
-ghost use Rattle.select_meaning.specs.Select.{rows_taken};
-ghost use Rattle.method_meaning.specs.Rows as meant;
+ghost use Rattle.column_core.specs.cells.Cell.{na_cell};
+ghost use Rattle.column_core.specs.cells.Reduce.{is_present};
+ghost use Rattle.column_core.specs.cells.Text.{Text as OneText};
+ghost use Rattle.frame_store.specs.tables.Settled.{IsSettled};
+ghost use Rattle.frame_store.specs.tables.Table.{row_of, table_value};
+ghost use Rattle.frame_store.specs.tables.Valid.{IsWhole};
+ghost use Rattle.frame_parts.specs.form.Finish.{limited};
+ghost use Rattle.multi_index.specs.pick.Positions.{rows_before};
+ghost use Rattle.frame_select.specs.select.Select.{rows_taken};
+ghost use Rattle.frame_labels.specs.method.Rows as meant;
 ghost use Rattle.frame_store.specs.Arguments.{object_value, IsLiveObject};
 ghost use Rattle.frame_store.specs.Objects.{tables};
 ghost use Rattle.frame_store.specs.Shown.{Makes};
@@ -18,9 +18,9 @@ ghost use Rattle.frame_store.specs.World.{world, IsSettledWorld, Forms};
 ghost use Rattle.frame_methods.specs.Rows.{complete};
 
 use cell_core::{Cell, Code, Grid, NoMemory, Places, Rows};
-use form_parts::within_limits;
+use frame_parts::within_limits;
+use frame_select::{chosen_table, places_below, sliced};
 use frame_store::{ObjId, ObjRef, OpFault, Store, Table, Value, headings_of};
-use selections::{chosen_table, places_below, sliced};
 use std::alloc::Global;
 
 // How many of the rows `head` and `tail` answer: n, or all but so many where n is negative.

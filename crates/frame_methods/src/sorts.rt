@@ -1,9 +1,9 @@
 // The methods that answer the rows in another order.
 ghost use Rattle.std.specs.Prelude.{List, length};
-ghost use Rattle.table_meaning.specs.Table.{table_value};
+ghost use Rattle.frame_store.specs.tables.Table.{table_value};
 ghost use Rattle.multi_index.specs.Axes.{HaveLevels};
-ghost use Rattle.meaning.specs.Cell.{LabelValue};
-ghost use Rattle.method_meaning.specs.Rows as meant;
+ghost use Rattle.column_core.specs.cells.Cell.{LabelValue};
+ghost use Rattle.frame_labels.specs.method.Rows as meant;
 ghost use Rattle.frame_store.specs.Shown.{Makes};
 ghost use Rattle.frame_store.specs.World.{IsKnownTable};
 ghost use Rattle.frame_store.specs.Parts.{AreColumnsOf};

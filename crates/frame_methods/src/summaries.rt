@@ -1,12 +1,12 @@
 // What is made of all cells of a column.
 ghost use Rattle.std.specs.Prelude.{◌≡◌, List, length, true, IfOk};
-ghost use Rattle.meaning.specs.Text.{Text as OneText};
-ghost use Rattle.meaning.specs.Cell.{AreGiven, IsGiven, datum, holds};
-ghost use Rattle.table_meaning.specs.Table.{table_value};
-ghost use Rattle.table_meaning.specs.Settled.{IsSettled};
-ghost use Rattle.form_meaning.specs.Finish.{try_all};
-ghost use Rattle.method_meaning.specs.Methods as meant;
-ghost use Rattle.form_parts.specs.Makes.{column_seen, MakesBy};
+ghost use Rattle.column_core.specs.cells.Text.{Text as OneText};
+ghost use Rattle.column_core.specs.cells.Cell.{AreGiven, IsGiven, datum, holds};
+ghost use Rattle.frame_store.specs.tables.Table.{table_value};
+ghost use Rattle.frame_store.specs.tables.Settled.{IsSettled};
+ghost use Rattle.frame_parts.specs.form.Finish.{try_all};
+ghost use Rattle.frame_labels.specs.method.Methods as meant;
+ghost use Rattle.frame_parts.specs.Makes.{column_seen, MakesBy};
 ghost use Rattle.cell_core.specs.declared.grid.Shape.TheVariants.{Frame};
 ghost use Rattle.frame_store.specs.Shown.{columns_value, Makes};
 ghost use Rattle.frame_store.specs.World.{IsKnownTable};
@@ -14,12 +14,12 @@ ghost use Rattle.frame_methods.specs.Made.{made_value};
 ghost use Rattle.frame_methods.specs.Summaries.{summary_value, counted_cell, column_cells};
 
 use crate::made::Made;
-use call_meaning::SummaryMethod;
 use cell_core::{Cell, Code, Grid, Kind, Shape, TextDict};
 use column_core::{ColRef, Column};
-use form_parts::{refusal_of, within_limits};
+use frame_labels::columns_axis;
+use frame_parts::{refusal_of, within_limits};
 use frame_store::{ObjRef, OpFault, Table, series_table};
-use label_methods::columns_axis;
+use meaning_call::SummaryMethod;
 use nullable_array::{Reduction, distinct, reduce};
 use std::alloc::Global;
 

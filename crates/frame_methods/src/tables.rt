@@ -1,8 +1,8 @@
 // Tables whose columns are made one by one.
 ghost use Rattle.std.specs.Prelude.{IsSome};
-ghost use Rattle.meaning.specs.Cell.{IsLonger};
-ghost use Rattle.table_meaning.specs.Table.{table_value};
-ghost use Rattle.method_meaning.specs.Methods as meant;
+ghost use Rattle.column_core.specs.cells.Cell.{IsLonger};
+ghost use Rattle.frame_store.specs.tables.Table.{table_value};
+ghost use Rattle.frame_labels.specs.method.Methods as meant;
 ghost use Rattle.frame_store.specs.Shown.{cells_value, Makes};
 ghost use Rattle.frame_store.specs.Objects.{tables, table_at};
 ghost use Rattle.frame_store.specs.World.{world, IsKnownTable, IsSettledWorld, Forms};
@@ -10,7 +10,7 @@ ghost use Rattle.frame_methods.specs.Columns.{EachGiven};
 
 use crate::columns::{ColumnOp, each_column};
 use cell_core::{Code, Grid, TextDict};
-use form_parts::{refusal_of, within_limits};
+use frame_parts::{refusal_of, within_limits};
 use frame_store::{ObjId, ObjRef, OpFault, Store, Table, Value, headings_of, placed, table_under};
 use std::alloc::Global;
 

@@ -1,11 +1,11 @@
 -- Labels of columns, labels of rows that are those of columns, and tables under the headings that an operator gives them.
 use Rattle.{
-  form_parts.proofs.{Common.{Makes, headings_value, labels_value, HeadingList, block_column, table_with, axis_of, columns_name_part, headings_part, ◌≡◌, ℕ, ◌+◌, ◌<◌, Bool, true, false, List, [], ◌∷◌, ◌++◌, length, map, drop, refl, ap, sym, arith, nat_eq, add-one, Option, Some, None, slice_index_or, Result, Ok, drop-cons, length-map, nat_tests, ◌≢◌, Label, Shape, Series, Frame, IsLonger, Text, LabelValue, na, label_datum, CellValue, FaultValue, then_value, HaveLevels, IsSettled, heading_value, ColumnOf, NumberedTable, table_value, AreHeadings, IsWhole, same_heading, with_columns, are_headings, tuple_heading, tuples_settled, made_is_settled, made_is_meant, blocks_value, AreColumns, CellBlock}, TableMade.{under_settled, whole_under}},
-  meaning.proofs.Common.{get_or-map},
+  frame_parts.proofs.{Common.{Makes, headings_value, labels_value, HeadingList, block_column, table_with, axis_of, columns_name_part, headings_part, ◌≡◌, ℕ, ◌+◌, ◌<◌, Bool, true, false, List, [], ◌∷◌, ◌++◌, length, map, drop, refl, ap, sym, arith, nat_eq, add-one, Option, Some, None, slice_index_or, Result, Ok, drop-cons, length-map, nat_tests, ◌≢◌, Label, Shape, Series, Frame, IsLonger, Text, LabelValue, na, label_datum, CellValue, FaultValue, then_value, HaveLevels, IsSettled, heading_value, ColumnOf, NumberedTable, table_value, AreHeadings, IsWhole, same_heading, with_columns, are_headings, tuple_heading, tuples_settled, made_is_settled, made_is_meant, blocks_value, AreColumns, CellBlock}, TableMade.{under_settled, whole_under}},
+  column_core.proofs.cells.Common.{get_or-map},
   frame_ops.specs.{declared.naming.Naming.{Naming, TheVariants.{Kept, Name, ColumnsName}}, Namings.{headings_by, named_by, IsNaming, IsSettledNaming}},
 }
 use Rattle.cell_core.specs.declared.cell.Label.TheVariants as label
-use Rattle.table_meaning.specs.Value as value
+use Rattle.frame_store.specs.tables.Value as value
 
 -- the label of a row on its one level
 pub label_settled : (texts : List Text) (ls : List (List Label)) (l : Label) (k : ℕ) → IsSettled labels_value texts ls → HaveLevels 1 ls → k < length ls → l ≡ slice_index_or (slice_index_or ls k []) 0 label.Na → IsSettled heading_value texts (Some l)

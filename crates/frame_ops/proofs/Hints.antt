@@ -1,6 +1,6 @@
 -- Laws that the goals of functions want, by the name of the first that does.
 use Rattle.{
-  form_parts.proofs.Common.{labels_part, length-map, nat_tests, single_on},
+  frame_parts.proofs.Common.{labels_part, length-map, nat_tests, single_on},
   frame_ops.proofs.{MeetingLaws.{columns_seen}, HeadingLaws.{other_rows, label_settled, counted_by, fits_by}, JoinLaws.{sides_beyond, meant_of}, WideLaws.{one_unfit, one_more_fits, one_more_spread, spread_refused, spread_beyond, spread_made, known_wide, widened_seen}, InfixLaws.{joined_tests, makes_as}},
 }
 

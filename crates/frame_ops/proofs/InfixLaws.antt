@@ -1,13 +1,12 @@
 -- What an operator or a sign makes of its operands is what is meant.
 use Rattle.{
-  form_parts.proofs.Common.{◌≡◌, nat_eq, Bool, true, List, [], ◌∷◌, length, refl, arith, Result, Ok, Err, if◌then◌else◌, ℕ, suc, false, map, replicate, Some, length-map, list_all, Cell, Series, Text, AreGiven, CellValue, truth_cell, IsGiven, FaultValue, bad_value, not_aligned, then_value, Binary, NumberedTable, Table, table_value, column_at, no_column, ColumnOf, IsSettled, IsWhole, Entry, OpFault, Value, Object, Scalar, ObjId, headings_value, labels_value, Makes, entry_of, Tables, columns_given, columns_part, cell_given, with_columns, try_all, on_levels, same_tuples, are_headings, beside, compares, meets, met, with_scalar},
-  meaning.{proofs.Common.{try_pairs, operator_cell, invert_cell}, specs.Symbol.{xor}},
-  selections.proofs.AnswerLaws.{column_seen},
-  form_meaning.specs.Infix.{across_series, rows_infix, across_infix, is_truth_column, inverted_column, scalar_infix, inverted, sign_result},
+  frame_parts.{proofs.Common.{◌≡◌, nat_eq, Bool, true, List, [], ◌∷◌, length, refl, arith, Result, Ok, Err, if◌then◌else◌, ℕ, suc, false, map, replicate, Some, length-map, list_all, Cell, Series, Text, AreGiven, CellValue, truth_cell, IsGiven, FaultValue, bad_value, not_aligned, then_value, Binary, NumberedTable, Table, table_value, column_at, no_column, ColumnOf, IsSettled, IsWhole, Entry, OpFault, Value, Object, Scalar, ObjId, headings_value, labels_value, Makes, entry_of, Tables, columns_given, columns_part, cell_given, with_columns, try_all, on_levels, same_tuples, are_headings, beside, compares, meets, met, with_scalar}, specs.form.Infix.{across_series, rows_infix, across_infix, is_truth_column, inverted_column, scalar_infix, inverted, sign_result}},
+  column_core.{proofs.cells.Common.{try_pairs, operator_cell, invert_cell}, specs.cells.Symbol.{xor}},
+  frame_select.proofs.AnswerLaws.{column_seen},
   frame_ops.{specs.{declared.{naming.Naming.TheVariants.{Kept}, other.Other.{Other, TheVariants.{Beside, Across}}}, Joining.{joined_after}, Namings.{named_by}, Pairs.{pairs_from, kinds_meet, meetings_value, levels_fit, IsOpposite, columns_meant}}, proofs.{HeadingLaws.{other_rows}, MeetingLaws.{table_meant, kinds_seen, beside_meetings, across_meetings, levels_same, levels_one}}},
 }
-use Rattle.table_meaning.specs.Value as value
-use Rattle.table_meaning.specs.Value as value
+use Rattle.frame_store.specs.tables.Value as value
+use Rattle.frame_store.specs.tables.Value as value
 
 pub makes_as : (texts : List Text) (made : Result NumberedTable OpFault) (x y : Result Entry FaultValue) → Makes texts made x → x ≡ y → Makes texts made y
 makes_as = grind arith

@@ -1,16 +1,13 @@
 -- Rows that are joined, and the table of two tables on them.
 use Rattle.{
-  form_parts.{proofs.Common.{◌≡◌, ◌<◌, ◌+◌, ℕ, suc, List, [], ◌∷◌, length, refl, ap, arith, Option, None, Result, Ok, Err, slice_index_or, ◌∙◌, true, false, map, sym, subst, All, length-map, All-map, slice_set, list_all, Label, AreDistinct, IsLonger, AreGiven, Text, CellValue, na_cell, Binary, FaultValue, limit, then_value, HaveLevels, range_axis, Joined, AlignsBy, lists_seen, tuple_less, IsSettled, ColumnOf, NumberedTable, heading_value, tuple_value, Table, table_value, IsWhole, Entry, same_tuple, common_name, on_rows, meets, beside, Meeting, within_limits, with_columns, labels_value, headings_value, Makes, columns_value, OpFault, table_with, block_column, table_settled, columns_part, columns_name_part, headings_part, columns_given, MakesBy, blocks_value, AreColumns, tuple_by_number, tuples_settled, settled_tuples, made_is_meant, made_is_settled, refused_on, on_rows_given, on_rows_seen, CellBlock, IsPlaceOf}, specs.Faults.{align_refusal}},
-  meaning.proofs.Common.{below_more},
+  frame_parts.{proofs.Common.{◌≡◌, ◌<◌, ◌+◌, ℕ, suc, List, [], ◌∷◌, length, refl, ap, arith, Option, None, Result, Ok, Err, slice_index_or, ◌∙◌, true, false, map, sym, subst, All, length-map, All-map, slice_set, list_all, Label, AreDistinct, IsLonger, AreGiven, Text, CellValue, na_cell, Binary, FaultValue, limit, then_value, HaveLevels, range_axis, Joined, AlignsBy, lists_seen, tuple_less, IsSettled, ColumnOf, NumberedTable, heading_value, tuple_value, Table, table_value, IsWhole, Entry, same_tuple, common_name, on_rows, meets, beside, Meeting, within_limits, with_columns, labels_value, headings_value, Makes, columns_value, OpFault, table_with, block_column, table_settled, columns_part, columns_name_part, headings_part, columns_given, MakesBy, blocks_value, AreColumns, tuple_by_number, tuples_settled, settled_tuples, made_is_meant, made_is_settled, refused_on, on_rows_given, on_rows_seen, CellBlock, IsPlaceOf}, specs.{Faults.{align_refusal}, form.Infix.{tuple_before, common_names, joined_rows, joined_columns, with_joined, joined_infix}}},
+  column_core.proofs.cells.Common.{below_more},
   std.proofs.Common.{get_or-set_other, get_or-set_same},
-  index_core.proofs.RangeLaws.{length-range_labels},
+  label_align.{proofs.{index_core.RangeLaws.{length-range_labels}, align.{InsideLaws.{AreInside, joined_inside}, SeenLaws.{answer_seen, outer_seen}}}, specs.{align.{Faults.{AlignRefusal}, Joins.{Lists, outer}}, declared.fault.AlignFault.{AlignFault, TheVariants.{DuplicateLabels, TooLarge, NoMemory}}}},
   row_keys.specs.Keys.{same_tuple as same_numbers},
-  align_meaning.{specs.{Faults.{AlignRefusal}, Joins.{Lists, outer}}, proofs.{InsideLaws.{AreInside, joined_inside}, SeenLaws.{answer_seen, outer_seen}}},
-  label_align.specs.declared.fault.AlignFault.{AlignFault, TheVariants.{DuplicateLabels, TooLarge, NoMemory}},
-  form_meaning.specs.Infix.{tuple_before, common_names, joined_rows, joined_columns, with_joined, joined_infix},
   frame_ops.{specs.{Joining.{joined_value, side_on}, declared.{naming.Naming.{Naming}, other.Other.TheVariants.{Beside}}, Namings.{headings_by, named_by, IsSettledNaming}, Pairs.{all_met, kinds_meet, columns_meant, columns_for}}, proofs.{MeetingLaws.{kinds_seen, table_meant, beside_meetings}, HeadingLaws.{named_settled}}},
 }
-use Rattle.table_meaning.specs.Value as value
+use Rattle.frame_store.specs.tables.Value as value
 
 -- a tuple of so many labels, whose texts were given
 abbrev pub IsKept : List Text → ℕ → List Label → Type 0

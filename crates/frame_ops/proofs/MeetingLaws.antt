@@ -1,12 +1,10 @@
 -- What columns meet, and the columns that are made of it one after the other.
 use Rattle.{
-  form_parts.proofs.Common.{and_parts, nat_tests, get_or_from_slice_get, length-map, map-append, list_all-map, All-push, All-replicate, arith, ◌≡◌, ℕ, zero, suc, Bool, true, List, [], length, map, replicate, ◌+◌, ◌++◌, ◌∷◌, ◌<◌, refl, Some, Result, if◌then◌else◌, ap, Ok, Err, false, drop, nat_eq, sym, subst, add-one, append_assoc, All, drop-cons, slice_get, list_all, Kind, Cell, Na, IsLonger, AreGiven, IsGiven, Text, datum, holds, CellValue, Binary, wrong_kind, bad_value, levels, limit, then_value, FaultValue, Answers, ArrayFault, CellColumn, CellBlock, ColumnOf, NumberedTable, column_at, column_value, Table, IsSettled, value_of_column, within_limits, try_all, with_columns, Meeting, meets, met, on_levels, with_scalar, beside, spread, HaveRows, IsSingle, block_column, columns_value, OpFault, settled_later, seen_later, cells_settled, cells_given, column_settled, columns_settled, MakesBy, block_value, blocks_value, AreColumns},
-  meaning.proofs.Common.{length_push, scalar_binary, scalar_column},
-  column_core.specs.Columns.{column_value as cells_value},
-  form_meaning.specs.Infix.{infix_table, swapped, across, turned, same_count, has_one},
+  frame_parts.{proofs.Common.{and_parts, nat_tests, get_or_from_slice_get, length-map, map-append, list_all-map, All-push, All-replicate, arith, ◌≡◌, ℕ, zero, suc, Bool, true, List, [], length, map, replicate, ◌+◌, ◌++◌, ◌∷◌, ◌<◌, refl, Some, Result, if◌then◌else◌, ap, Ok, Err, false, drop, nat_eq, sym, subst, add-one, append_assoc, All, drop-cons, slice_get, list_all, Kind, Cell, Na, IsLonger, AreGiven, IsGiven, Text, datum, holds, CellValue, Binary, wrong_kind, bad_value, levels, limit, then_value, FaultValue, Answers, ArrayFault, CellColumn, CellBlock, ColumnOf, NumberedTable, column_at, column_value, Table, IsSettled, value_of_column, within_limits, try_all, with_columns, Meeting, meets, met, on_levels, with_scalar, beside, spread, HaveRows, IsSingle, block_column, columns_value, OpFault, settled_later, seen_later, cells_settled, cells_given, column_settled, columns_settled, MakesBy, block_value, blocks_value, AreColumns}, specs.form.Infix.{infix_table, swapped, across, turned, same_count, has_one}},
+  column_core.{proofs.cells.Common.{length_push, scalar_binary, scalar_column}, specs.Columns.{column_value as cells_value}},
   frame_ops.specs.{declared.other.Other.{Other, TheVariants.{Across, Scalar, Beside}}, Pairs.{turned_pair, repeated, pair_at, series_cell, kind_beside, kinds_meet, meeting_value, column_meant, Pair, pairs_from, meetings_value, columns_meant, IsOpposite, IsGivenOther}},
 }
-use Rattle.table_meaning.specs.Value as value
+use Rattle.frame_store.specs.tables.Value as value
 
 pub map-replicate : {X Y : Type 0} (f : X → Y) (n : ℕ) (x : X) → map f (replicate n x) ≡ replicate n (f x)
 map-replicate f zero x = refl

@@ -1,12 +1,11 @@
 -- Frames under joined labels of columns, and a Series in each row of a frame.
 use Rattle.{
-  form_parts.proofs.Common.{◌≢◌, ◌≡◌, ◌∙◌, ◌<◌, ◌+◌, ◌++◌, ℕ, zero, suc, pos, List, [], ◌∷◌, length, map, take, replicate, refl, ap, sym, arith, add-one, All, Option, Some, None, Result, slice_index_or, Bool, true, false, Ok, Err, if◌then◌else◌, ◌&&◌, ◌||◌, nat_eq, drop, map_more, length-map, length-replicate, map-append, All-nil, All-cons, All-head, All-tail, All-map, All-replicate, list_all-map, get_or_from_slice_get, nat_tests, drop-cons, slice_get, IsSome, unwrap_or, list_any, single_block, HeadingList, block_column, table_column, labels_value, headings_value, columns_value, IsKnownTable, OpFault, Refused, NoMemory, settled_by, table_settled, columns_settled, columns_given, columns_name_part, level_names_part, labels_part, headings_part, columns_part, Cell, Na, Label, Kind, Shape, Frame, Series, AreGiven, IsGiven, AreDistinct, Text, LabelValue, int, na_cell, datum, limit, FaultValue, wrong_kind, bad_value, not_aligned, then_value, fault_of, Binary, CellBlock, CellColumn, IsPlaceOf, AxisValue, HaveLevels, IsSettled, ColumnOf, NumberedTable, column_at, column_value, table_value, Table, heading_value, tuple_value, AreHeadings, IsWhole, within_limits, Entry, column_labels, unless_repeated, limited_table, column_of_value, same_kind, tuple_heading, columns_or_missing, spread, same_tuple, on_levels, compares, labels_fit, MakesBy, tuple_by_number, tuples_settled},
-  meaning.proofs.Common.{get_or-map},
+  frame_parts.{proofs.Common.{◌≢◌, ◌≡◌, ◌∙◌, ◌<◌, ◌+◌, ◌++◌, ℕ, zero, suc, pos, List, [], ◌∷◌, length, map, take, replicate, refl, ap, sym, arith, add-one, All, Option, Some, None, Result, slice_index_or, Bool, true, false, Ok, Err, if◌then◌else◌, ◌&&◌, ◌||◌, nat_eq, drop, map_more, length-map, length-replicate, map-append, All-nil, All-cons, All-head, All-tail, All-map, All-replicate, list_all-map, get_or_from_slice_get, nat_tests, drop-cons, slice_get, IsSome, unwrap_or, list_any, single_block, HeadingList, block_column, table_column, labels_value, headings_value, columns_value, IsKnownTable, OpFault, Refused, NoMemory, settled_by, table_settled, columns_settled, columns_given, columns_name_part, level_names_part, labels_part, headings_part, columns_part, Cell, Na, Label, Kind, Shape, Frame, Series, AreGiven, IsGiven, AreDistinct, Text, LabelValue, int, na_cell, datum, limit, FaultValue, wrong_kind, bad_value, not_aligned, then_value, fault_of, Binary, CellBlock, CellColumn, IsPlaceOf, AxisValue, HaveLevels, IsSettled, ColumnOf, NumberedTable, column_at, column_value, table_value, Table, heading_value, tuple_value, AreHeadings, IsWhole, within_limits, Entry, column_labels, unless_repeated, limited_table, column_of_value, same_kind, tuple_heading, columns_or_missing, spread, same_tuple, on_levels, compares, labels_fit, MakesBy, tuple_by_number, tuples_settled}, specs.form.Infix.{column_or_missing, on_columns, spread_series, spread_frame, takes_each, joined_turned, across_unequal}},
+  column_core.proofs.cells.Common.{get_or-map},
   frame_store.specs.Parts.{with_heading},
-  selections.{proofs.{AnswerLaws.{column_seen}, HeadingLaws.{different, repeated_seen}, RefusalLaws.{repeated_settled}}, specs.Headings.{repeated_heading, NamesRepeated}},
+  frame_select.{proofs.{AnswerLaws.{column_seen}, HeadingLaws.{different, repeated_seen}, RefusalLaws.{repeated_settled}}, specs.Headings.{repeated_heading, NamesRepeated}},
   frame_ops.{proofs.{MeetingLaws.{map-replicate, levels_one}, HeadingLaws.{one_label, heading_at}, InfixLaws.{series_given}}, specs.{Joining.{AreApart, AreSideRows}, Widening.{heading_tuple, labels_axis, headings_of_keys, widened, AreColumnKeys, spread_table}, Pairs.{repeated}}},
-  form_meaning.specs.Infix.{column_or_missing, on_columns, spread_series, spread_frame, takes_each, joined_turned, across_unequal},
-  pick_meaning.specs.Rows.{rows_where, are_some},
+  label_align.specs.pick.Rows.{rows_where, are_some},
   row_keys.specs.{Keys.{same_tuple as same_numbers}, Partners.{rows_with}},
 }
 

@@ -3,16 +3,16 @@ use Rattle.std.specs.Prelude.{◌≡◌, ◌≢◌, ◌≤◌, ◌^◌, ℕ, tru
 use Rattle.std.specs.List.{list_all}
 use Rattle.cell_core.specs.declared.cell.Cell.TheVariants.{Na}
 use Rattle.cell_core.specs.declared.cell.Label.{Label}
-use Rattle.meaning.specs.Text.{Text}
-use Rattle.meaning.specs.Fault.{FaultValue, bad_value, not_aligned}
-use Rattle.meaning.specs.Symbol.{Binary}
+use Rattle.column_core.specs.cells.Text.{Text}
+use Rattle.column_core.specs.cells.Fault.{FaultValue, bad_value, not_aligned}
+use Rattle.column_core.specs.cells.Symbol.{Binary}
 use Rattle.column_core.specs.Moves.{IsPlaceOf}
 use Rattle.multi_index.specs.Axes.{AxisValue, HaveLevels, range_axis}
 use Rattle.label_align.specs.declared.joined.Joined.{Joined}
-use Rattle.table_meaning.specs.Table.{NumberedTable, Table}
-use Rattle.table_meaning.specs.Value.{Entry}
-use Rattle.form_meaning.specs.Infix as meant
-use Rattle.form_meaning.specs.Infix.{on_rows, on_levels, meets, beside, same_count, compares}
+use Rattle.frame_store.specs.tables.Table.{NumberedTable, Table}
+use Rattle.frame_store.specs.tables.Value.{Entry}
+use Rattle.frame_parts.specs.form.Infix as meant
+use Rattle.frame_parts.specs.form.Infix.{on_rows, on_levels, meets, beside, same_count, compares}
 use Rattle.frame_store.specs.Parts.{table_with, headings_of}
 use Rattle.frame_store.specs.Shown.{labels_value}
 use Rattle.frame_ops.specs.declared.other.Other.TheVariants.{Beside}

@@ -1,9 +1,9 @@
 -- The headings of a table that an operator makes.
 use Rattle.std.specs.Prelude.{◌≡◌, List, [], ◌∷◌}
 use Rattle.cell_core.specs.declared.grid.Shape.TheVariants.{Series, Frame}
-use Rattle.meaning.specs.Text.{Text}
-use Rattle.table_meaning.specs.Settled.{IsSettled}
-use Rattle.table_meaning.specs.Table.{NumberedTable, heading_value}
+use Rattle.column_core.specs.cells.Text.{Text}
+use Rattle.frame_store.specs.tables.Settled.{IsSettled}
+use Rattle.frame_store.specs.tables.Table.{NumberedTable, heading_value}
 use Rattle.frame_store.specs.Parts.{HeadingList, headings_of, headings_with, table_with, axis_of}
 use Rattle.frame_ops.specs.declared.naming.Naming.{Naming}
 use Rattle.frame_ops.specs.declared.naming.Naming.TheVariants.{Kept, Name, ColumnsName}

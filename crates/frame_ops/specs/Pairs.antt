@@ -4,17 +4,17 @@ use Rattle.std.specs.List.{list_all}
 use Rattle.cell_core.specs.declared.cell.Kind.{Kind}
 use Rattle.cell_core.specs.declared.cell.Cell.{Cell}
 use Rattle.cell_core.specs.declared.cell.Cell.TheVariants.{Na}
-use Rattle.meaning.specs.Text.{Text}
-use Rattle.meaning.specs.Cell.{CellValue, datum, AreGiven, IsGiven}
-use Rattle.meaning.specs.Fault.{FaultValue, wrong_kind, bad_value, levels, limit}
-use Rattle.meaning.specs.Column.{ColumnValue, ColumnFault}
-use Rattle.meaning.specs.Operator.{operator_kind, scalar_kind, binary_column}
-use Rattle.meaning.specs.Symbol.{Binary}
-use Rattle.table_meaning.specs.Table.{ColumnOf, NumberedTable, column_at, column_value}
-use Rattle.form_meaning.specs.Finish.{value_of_column, within_limits, try_all}
-use Rattle.form_meaning.specs.Infix.{Meeting, met, meets}
+use Rattle.column_core.specs.cells.Text.{Text}
+use Rattle.column_core.specs.cells.Cell.{CellValue, datum, AreGiven, IsGiven}
+use Rattle.column_core.specs.cells.Fault.{FaultValue, wrong_kind, bad_value, levels, limit}
+use Rattle.column_core.specs.cells.Column.{ColumnValue, ColumnFault}
+use Rattle.column_core.specs.cells.Operator.{operator_kind, scalar_kind, binary_column}
+use Rattle.column_core.specs.cells.Symbol.{Binary}
+use Rattle.frame_store.specs.tables.Table.{ColumnOf, NumberedTable, column_at, column_value}
+use Rattle.frame_parts.specs.form.Finish.{value_of_column, within_limits, try_all}
+use Rattle.frame_parts.specs.form.Infix.{Meeting, met, meets}
 use Rattle.column_core.specs.Blocks.{CellBlock}
-use Rattle.form_parts.specs.Makes.{AreColumns}
+use Rattle.frame_parts.specs.Makes.{AreColumns}
 use Rattle.frame_ops.specs.declared.other.Other.{Other}
 use Rattle.frame_ops.specs.declared.other.Other.TheVariants.{Scalar, Beside, Across}
 

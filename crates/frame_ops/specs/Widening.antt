@@ -4,8 +4,8 @@ use Rattle.cell_core.specs.declared.cell.Cell.TheVariants.{Na}
 use Rattle.cell_core.specs.declared.cell.Label.{Label}
 use Rattle.cell_core.specs.declared.cell.Label.TheVariants.{Int}
 use Rattle.multi_index.specs.Axes.{AxisValue, HaveLevels, nameless_axis}
-use Rattle.table_meaning.specs.Table.{NumberedTable, column_at}
-use Rattle.form_meaning.specs.Infix.{tuple_heading, columns_or_missing}
+use Rattle.frame_store.specs.tables.Table.{NumberedTable, column_at}
+use Rattle.frame_parts.specs.form.Infix.{tuple_heading, columns_or_missing}
 use Rattle.frame_store.specs.Parts.{HeadingList, table_with, axis_of}
 use Rattle.frame_ops.specs.Joining.{AreApart}
 use Rattle.frame_ops.specs.Pairs.{repeated}

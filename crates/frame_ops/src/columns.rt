@@ -1,13 +1,13 @@
 // The columns that an operator makes.
 ghost use Rattle.std.specs.Prelude.{◌≡◌, ◌<◌, All, length, true, IfOk};
 ghost use Rattle.std.specs.List.{list_all};
-ghost use Rattle.meaning.specs.Cell.{AreGiven, IsLonger};
+ghost use Rattle.column_core.specs.cells.Cell.{AreGiven, IsLonger};
 ghost use Rattle.nullable_array.specs.Answers.{Answers};
 ghost use Rattle.column_operators.specs.Tasks.{operator_of};
-ghost use Rattle.form_meaning.specs.Finish.{try_all};
-ghost use Rattle.form_meaning.specs.Infix.{met};
+ghost use Rattle.frame_parts.specs.form.Finish.{try_all};
+ghost use Rattle.frame_parts.specs.form.Infix.{met};
 ghost use Rattle.frame_store.specs.Parts.{IsSingle, block_column};
-ghost use Rattle.form_parts.specs.Makes.{MakesBy, block_value, blocks_value};
+ghost use Rattle.frame_parts.specs.Makes.{MakesBy, block_value, blocks_value};
 ghost use Rattle.frame_ops.specs.Pairs.{met_at, all_met, kinds_meet, meeting_value, meetings_value, column_meant, columns_for, AreColumnsFor, IsOpposite, IsGivenOther};
 
 use crate::kinds::{all_meet, levels_fit};
@@ -15,7 +15,7 @@ use crate::other::Other;
 use cell_core::{Code, Grid, Reason, TextDict};
 use column_core::{Block, Column};
 use column_operators::{Operator, binary, with_scalar};
-use form_parts::{block_of, within_limits};
+use frame_parts::{block_of, within_limits};
 use frame_store::{Blocks, ObjRef, OpFault};
 use nullable_array::ArrayFault;
 use std::alloc::Global;

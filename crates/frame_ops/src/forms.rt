@@ -1,7 +1,7 @@
 // The forms: an operator on one or two values of an expression.
-ghost use Rattle.meaning.specs.Cell.{IsLonger};
+ghost use Rattle.column_core.specs.cells.Cell.{IsLonger};
 ghost use Rattle.column_operators.specs.Tasks.{operator_of};
-ghost use Rattle.form_meaning.specs.Infix.{infix_result, sign_result};
+ghost use Rattle.frame_parts.specs.form.Infix.{infix_result, sign_result};
 ghost use Rattle.frame_store.specs.Arguments.{IsLive};
 ghost use Rattle.frame_store.specs.Objects.{tables};
 ghost use Rattle.frame_store.specs.Shown.{Makes};

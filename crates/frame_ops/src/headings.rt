@@ -2,10 +2,10 @@
 ghost use Rattle.std.specs.Prelude.{◌≡◌};
 ghost use Rattle.frame_store.specs.Shown.{headings_value, labels_value};
 ghost use Rattle.frame_store.specs.World.{IsKnownTable};
-ghost use Rattle.form_meaning.specs.Infix as meant;
+ghost use Rattle.frame_parts.specs.form.Infix as meant;
 
 use cell_core::{Grid, TextDict};
-use form_parts::same_heading;
+use frame_parts::same_heading;
 use frame_store::ObjRef;
 
 /// Whether two tables have the same labels at the same columns.

@@ -1,14 +1,14 @@
 // Whether an operator takes the kinds of its operands.
 ghost use Rattle.std.specs.Prelude.{◌≡◌, ◌<◌, ◌≤◌, length, is_some, true, if◌then◌else◌};
 ghost use Rattle.std.specs.List.{list_all};
-ghost use Rattle.meaning.specs.Text.{Text};
-ghost use Rattle.meaning.specs.Operator.{operator_kind};
+ghost use Rattle.column_core.specs.cells.Text.{Text};
+ghost use Rattle.column_core.specs.cells.Operator.{operator_kind};
 ghost use Rattle.column_operators.specs.Tasks.{operator_of};
-ghost use Rattle.pick_meaning.specs.Rows.{are_some};
-ghost use Rattle.table_meaning.specs.Table.{column_at};
-ghost use Rattle.form_meaning.specs.Finish as finish;
-ghost use Rattle.form_meaning.specs.Infix as meant;
-ghost use Rattle.form_meaning.specs.Infix.{compares};
+ghost use Rattle.label_align.specs.pick.Rows.{are_some};
+ghost use Rattle.frame_store.specs.tables.Table.{column_at};
+ghost use Rattle.frame_parts.specs.form.Finish as finish;
+ghost use Rattle.frame_parts.specs.form.Infix as meant;
+ghost use Rattle.frame_parts.specs.form.Infix.{compares};
 ghost use Rattle.frame_ops.specs.declared.other.Other.TheVariants.{Beside};
 ghost use Rattle.frame_ops.specs.Pairs.{kind_beside, met_at, all_met, kinds_meet, levels_fit, IsOpposite};
 

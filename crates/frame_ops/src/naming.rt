@@ -1,6 +1,6 @@
 // The headings of a table that an operator makes.
 ghost use Rattle.std.specs.Prelude.{◌≡◌, IfOk};
-ghost use Rattle.table_meaning.specs.Valid.{IsWhole};
+ghost use Rattle.frame_store.specs.tables.Valid.{IsWhole};
 ghost use Rattle.frame_ops.specs.Namings.{headings_by};
 
 use cell_core::{Grid, Label, NoMemory};

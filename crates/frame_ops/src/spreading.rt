@@ -3,13 +3,13 @@ ghost use Rattle.std.specs.Prelude.{◌≡◌, ◌≤◌, length, map, None, All
 ghost use Rattle.cell_core.specs.declared.grid.Shape.TheVariants.{Series as one_column, Frame as columns};
 ghost use Rattle.multi_index.specs.Axes.{HaveLevels};
 ghost use Rattle.row_keys.specs.Keys.{same_tuple as same_numbers};
-ghost use Rattle.table_meaning.specs.Table.{column_at, table_value};
-ghost use Rattle.form_meaning.specs.Infix as meant;
-ghost use Rattle.form_meaning.specs.Infix.{tuple_heading};
+ghost use Rattle.frame_store.specs.tables.Table.{column_at, table_value};
+ghost use Rattle.frame_parts.specs.form.Infix as meant;
+ghost use Rattle.frame_parts.specs.form.Infix.{tuple_heading};
 ghost use Rattle.frame_store.specs.Parts.{columns_of, IsSingle};
 ghost use Rattle.frame_store.specs.World.{IsKnownTable};
-ghost use Rattle.form_parts.specs.Makes.{MakesBy};
-ghost use Rattle.selections.specs.Headings.{repeated_heading, NamesRepeated};
+ghost use Rattle.frame_parts.specs.Makes.{MakesBy};
+ghost use Rattle.frame_select.specs.Headings.{repeated_heading, NamesRepeated};
 ghost use Rattle.frame_ops.specs.Pairs.{repeated};
 ghost use Rattle.frame_ops.specs.Widening.{heading_tuple, headings_of_keys};
 
@@ -17,10 +17,10 @@ use crate::kinds::fits_rows;
 use crate::widening::heading_tuples;
 use cell_core::{Code, Grid, Label, NoMemory, TextDict};
 use column_core::{ColRef, Column};
-use form_parts::within_limits;
+use frame_parts::within_limits;
+use frame_select::different_headings;
 use frame_store::{Blocks, Headings, ObjRef, OpFault, Table};
 use row_keys::find_partners;
-use selections::different_headings;
 use std::alloc::Global;
 
 /// Whether each column under a label that a Series has is of the Series' kind. Texts are told apart by their numbers.

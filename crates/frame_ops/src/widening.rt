@@ -3,16 +3,16 @@ ghost use Rattle.std.specs.Prelude.{◌≡◌, ◌∷◌, [], length, map, All, 
 ghost use Rattle.cell_core.specs.declared.cell.Cell.TheVariants.{Na};
 ghost use Rattle.cell_core.specs.declared.grid.Shape.TheVariants.{Frame as columns};
 ghost use Rattle.column_core.specs.Moves.{IsPlaceOf};
-ghost use Rattle.table_meaning.specs.Settled.{IsSettled};
-ghost use Rattle.table_meaning.specs.Table.{table_value};
-ghost use Rattle.table_meaning.specs.Valid.{IsWhole};
-ghost use Rattle.form_meaning.specs.Finish.{column_labels};
-ghost use Rattle.form_meaning.specs.Infix as meant;
-ghost use Rattle.form_meaning.specs.Infix.{columns_or_missing, column_or_missing};
+ghost use Rattle.frame_store.specs.tables.Settled.{IsSettled};
+ghost use Rattle.frame_store.specs.tables.Table.{table_value};
+ghost use Rattle.frame_store.specs.tables.Valid.{IsWhole};
+ghost use Rattle.frame_parts.specs.form.Finish.{column_labels};
+ghost use Rattle.frame_parts.specs.form.Infix as meant;
+ghost use Rattle.frame_parts.specs.form.Infix.{columns_or_missing, column_or_missing};
 ghost use Rattle.frame_store.specs.Parts.{columns_of, table_column, IsSingle};
 ghost use Rattle.frame_store.specs.Shown.{labels_value};
 ghost use Rattle.frame_store.specs.World.{IsKnownTable};
-ghost use Rattle.form_parts.specs.Makes.{MakesBy};
+ghost use Rattle.frame_parts.specs.Makes.{MakesBy};
 ghost use Rattle.frame_ops.specs.Joining.{joined_value, AreSideRows};
 ghost use Rattle.frame_ops.specs.Widening.{heading_tuple, labels_axis, headings_of_keys, widened, AreColumnKeys};
 
@@ -118,7 +118,7 @@ fn column_or_missing(
 }
 
 // The columns at these places of a side, where those of the other stand opposite.
-#[tactic(auto, using(crate::proofs::WideLaws::wide_step, form_parts::proofs::GapLaws::single_on))]
+#[tactic(auto, using(crate::proofs::WideLaws::wide_step, frame_parts::proofs::GapLaws::single_on))]
 fn columns_or_missing(
     alloc: Global,
     own: &ObjRef<'_>,

@@ -1,10 +1,9 @@
 -- Columns that are put and removed, and whole tables.
 use Rattle.{
-  meaning.proofs.Common.{cond_both, map-set, map-append, length-map, length-set, take-map, drop-map, All-set, All-push, All-map, All-append, All-take, All-drop, length-remove, rules, ◌≡◌, ◌∙◌, ℕ, suc, ◌<◌, List, length, take, drop, map, sym, arith, nat_lt, Option, All, remove, Rows, Shape, Series, Cell, Na, Label},
+  meaning_tables.{proofs.cells.Common.{cond_both, map-set, map-append, length-map, length-set, take-map, drop-map, All-set, All-push, All-map, All-append, All-take, All-drop, length-remove, rules, ◌≡◌, ◌∙◌, ℕ, suc, ◌<◌, List, length, take, drop, map, sym, arith, nat_lt, Option, All, remove, Rows, Shape, Series, Cell, Na, Label}, specs.{Table.{ColumnOf, NumberedTable, column_at}, Change.{put_at, strided_column, cut_columns, with_column, without_column}, Valid.{AreHeadings, IsWhole}}},
   std.proofs.lemmas.List.{length-append},
   multi_index.specs.Axes.{AxisValue},
   column_core.{specs.Blocks.{CellBlock}, proofs.ColumnLaws.{length-tabulate}},
-  table_meaning.specs.{Table.{ColumnOf, NumberedTable, column_at}, Change.{put_at, strided_column, cut_columns, with_column, without_column}, Valid.{AreHeadings, IsWhole}},
   frame_store.specs.Parts.{HeadingList, table_with, block_column},
 }
 

@@ -1,7 +1,6 @@
 -- Cells that are counted.
 use Rattle.{
-  meaning.proofs.Common.{◌≡◌, ℕ, ◌+◌, ◌≤◌, List, [], ◌∷◌, min, sum_by, arith, sum_by-cons},
-  table_meaning.specs.Table.{NumberedTable},
+  meaning_tables.{proofs.cells.Common.{◌≡◌, ℕ, ◌+◌, ◌≤◌, List, [], ◌∷◌, min, sum_by, arith, sum_by-cons}, specs.Table.{NumberedTable}},
   frame_store.specs.Objects.{cells_in},
 }
 

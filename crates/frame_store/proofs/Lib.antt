@@ -6,3 +6,6 @@ pub mod ObjectLaws
 pub mod Settling
 pub mod RowLaws
 pub mod ObjectMade
+-- laws of crates below, passed on to the crates above
+pub use Rattle.meaning_tables.proofs.cells as cells
+pub use Rattle.meaning_tables.proofs as tables

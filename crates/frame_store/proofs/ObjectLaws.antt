@@ -1,7 +1,6 @@
 -- The tables of objects.
 use Rattle.{
-  meaning.proofs.Common.{inl, inr, ◌≡◌, ℕ, zero, suc, ◌<◌, List, [], ◌∷◌, length, ap, arith, nat_eq, if◌then◌else◌, Option, Some, None, IsSome, length-set, set-get_or, get_or-set_same, get_or-set_other, cases_eq, nat_tests, ◌≢◌, Result, IfOk, is_some, slice_index_or, slice_set},
-  table_meaning.specs.Table.{NumberedTable},
+  meaning_tables.{proofs.cells.Common.{inl, inr, ◌≡◌, ℕ, zero, suc, ◌<◌, List, [], ◌∷◌, length, ap, arith, nat_eq, if◌then◌else◌, Option, Some, None, IsSome, length-set, set-get_or, get_or-set_same, get_or-set_other, cases_eq, nat_tests, ◌≢◌, Result, IfOk, is_some, slice_index_or, slice_set}, specs.Table.{NumberedTable}},
   frame_store.specs.{declared.object.ObjId.{ObjId}, Objects.{Tables, with_object, table_or}},
 }
 

@@ -1,7 +1,6 @@
 -- The object that is made of a table.
 use Rattle.{
-  meaning.proofs.Common.{◌≡◌, List, arith, Some, None, Result, Ok, Err, nat_tests, IsLonger, Text, FaultValue},
-  table_meaning.specs.{Settled.{IsSettled}, Table.{NumberedTable}, Value.{Entry}},
+  meaning_tables.{proofs.cells.Common.{◌≡◌, List, arith, Some, None, Result, Ok, Err, nat_tests, IsLonger, Text, FaultValue}, specs.{Settled.{IsSettled}, Table.{NumberedTable}, Value.{Entry}}},
   frame_store.{specs.{declared.{arguments.Value.{Value, TheVariants.{Object}}, object.ObjId.{ObjId}, fault.OpFault.{OpFault, TheVariants.{NoMemory}}}, Objects.{Tables, with_object}, Shown.{shown, Makes, FormAnswers}}, proofs.Settling.{settled_later, seen_later, shown_with}},
 }
 

@@ -1,8 +1,7 @@
 -- Blocks of one column, and columns that are cut from others.
 use Rattle.{
-  meaning.proofs.Common.{◌≡◌, ℕ, ◌+◌, ◌<◌, List, [], ◌∷◌, ◌++◌, length, take, map, ap, arith, Some, All, take_more, map-append, get_or-map, length-map, All-push, get_or_from_slice_get, slice_index_or, slice_get, AreRowsBelow, Rows, Cell, Na},
+  meaning_tables.{proofs.cells.Common.{◌≡◌, ℕ, ◌+◌, ◌<◌, List, [], ◌∷◌, ◌++◌, length, take, map, ap, arith, Some, All, take_more, map-append, get_or-map, length-map, All-push, get_or_from_slice_get, slice_index_or, slice_get, AreRowsBelow, Rows, Cell, Na}, specs.{Table.{ColumnOf, column_at}, Change.{strided_column, cut_columns}}},
   column_core.specs.Blocks.{CellBlock},
-  table_meaning.specs.{Table.{ColumnOf, column_at}, Change.{strided_column, cut_columns}},
   frame_store.specs.Parts.{block_column, single_block, IsSingle, HaveRows},
 }
 

@@ -1,10 +1,10 @@
 -- A row of parts, as the list of them.
 use mathlib.Core.Former.{Count}
 use Rattle.{
-  meaning.proofs.Common.{◌≡◌, refl, List, Text},
+  meaning_tables.proofs.cells.Common.{◌≡◌, refl, List, Text},
   frame_store.specs.{declared.arguments.{Argument.{Argument, Table, Table', Row_of-Entries-pairs-2, end_of-Entries-pairs-2, more_of-Entries-pairs-2, items-the_row-Entries-pairs-2, items_hidden-the_row-Entries-pairs-2-0}, Item.{Item, Row, Row', Row_of-Item, end_of-Item, more_of-Item, items-the_row-Item, items_hidden-the_row-Item-0}, Items.{Items}, Entries.{Entries}}, Objects.{Tables}, Arguments.{item_of, items_row, items_of, argument_of, entries_row, entries_of, IsLiveItem, IsLiveRow, AreLiveItems, IsLiveArgument, AreLiveEntries, AreLivePairs}},
 }
-use Rattle.table_meaning.specs.Value as value
+use Rattle.meaning_tables.specs.Value as value
 
 items_row-list : (tables : Tables) (texts : List Text) (n : Count) (row : Row_of-Item n) → items_row tables texts row ≡ items_of tables texts (items-the_row-Item n row)
 items_row-list _ _ _ end_of-Item = refl

@@ -1,8 +1,7 @@
 -- Laws of what is settled.
 use Rattle.{
-  meaning.proofs.Common.{get_or_append_left, get_or-map, cases_lt, cond_both, nat_tests, inl, inr, ◌≡◌, ◌∙◌, ◌≤◌, refl, ap, sym, List, [], ◌∷◌, ◌++◌, length, replicate, append_assoc, Some, option_map, ℕ, suc, zero, nat_eq, if◌then◌else◌, All, slice_index_or, arith, AreGiven, IsLonger, IsGiven, Cell, CellValue, datum, Text},
+  meaning_tables.{proofs.cells.Common.{get_or_append_left, get_or-map, cases_lt, cond_both, nat_tests, inl, inr, ◌≡◌, ◌∙◌, ◌≤◌, refl, ap, sym, List, [], ◌∷◌, ◌++◌, length, replicate, append_assoc, Some, option_map, ℕ, suc, zero, nat_eq, if◌then◌else◌, All, slice_index_or, arith, AreGiven, IsLonger, IsGiven, Cell, CellValue, datum, Text}, specs.{Settled.{IsSettled}, Table.{ColumnOf, NumberedTable, table_value, heading_value, column_value, no_column}}},
   std.proofs.{lemmas.List.{get_or-replicate}, Common.{append-nil}},
-  table_meaning.specs.{Settled.{IsSettled}, Table.{ColumnOf, NumberedTable, table_value, heading_value, column_value, no_column}},
   frame_store.specs.{Objects.{Tables, with_object}, Shown.{shown, with_shown, labels_value, headings_value, columns_value, cells_value}},
 }
 use Rattle.cell_core.specs.declared.cell.Cell.TheVariants as cell

@@ -1,8 +1,7 @@
 -- Cells that are put into columns.
 use Rattle.{
-  meaning.proofs.Common.{◌≡◌, ◌∙◌, ℕ, zero, suc, ◌+◌, ◌/◌, ◌%◌, ◌<◌, List, [], ◌∷◌, length, drop, map, refl, arith, Some, map-set, length-set, get_or_default, get_or_from_slice_get, drop-cons, slice_index_or, slice_index, slice_get, slice_set, Cell, Na},
+  meaning_tables.{proofs.cells.Common.{◌≡◌, ◌∙◌, ℕ, zero, suc, ◌+◌, ◌/◌, ◌%◌, ◌<◌, List, [], ◌∷◌, length, drop, map, refl, arith, Some, map-set, length-set, get_or_default, get_or_from_slice_get, drop-cons, slice_index_or, slice_index, slice_get, slice_set, Cell, Na}, specs.{Table.{ColumnOf, column_at, no_column}, Change.{with_cell_at, with_cell, with_values_from}}},
   column_core.specs.Blocks.{CellBlock},
-  table_meaning.specs.{Table.{ColumnOf, column_at, no_column}, Change.{with_cell_at, with_cell, with_values_from}},
   frame_store.{specs.Parts.{block_column, single_block, HaveRows}, proofs.PartLaws.{column_of_block}},
 }
 

@@ -2,11 +2,11 @@
 use Rattle.std.specs.Prelude.{List, [], ◌∷◌, map, IsSome}
 use Rattle.cell_core.specs.declared.cell.Label.{Label}
 use Rattle.cell_core.specs.declared.grid.Shape.{Shape}
-use Rattle.meaning.specs.Text.{Text}
-use Rattle.meaning.specs.Cell.{LabelValue, datum, label_datum}
-use Rattle.table_meaning.specs.Table.{Table, table_value}
-use Rattle.table_meaning.specs.Value as value
-use Rattle.table_meaning.specs.Value.{Entry, Given, GivenList, GivenPairs, GivenSub, NamedGiven}
+use Rattle.meaning_tables.specs.cells.Text.{Text}
+use Rattle.meaning_tables.specs.cells.Cell.{LabelValue, datum, label_datum}
+use Rattle.meaning_tables.specs.Table.{Table, table_value}
+use Rattle.meaning_tables.specs.Value as value
+use Rattle.meaning_tables.specs.Value.{Entry, Given, GivenList, GivenPairs, GivenSub, NamedGiven}
 use Rattle.frame_store.specs.Objects.{Tables, table_at}
 use Rattle.frame_store.specs.declared.object.ObjId.{ObjId}
 use Rattle.frame_store.specs.declared.arguments.Value.{Value}

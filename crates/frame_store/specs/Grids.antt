@@ -3,7 +3,7 @@ use Rattle.std.specs.Prelude.{[], length, slice_index_or, None}
 use Rattle.cell_core.specs.declared.cell.Cell.TheVariants.{Na}
 use Rattle.cell_core.specs.declared.cell.Label.TheVariants as label
 use Rattle.cell_core.specs.Grids.{GridValue}
-use Rattle.table_meaning.specs.Table.{NumberedTable, column_at}
+use Rattle.meaning_tables.specs.Table.{NumberedTable, column_at}
 
 abbrev pub grid_of : NumberedTable → GridValue
 grid_of t =

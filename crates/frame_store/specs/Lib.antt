@@ -7,3 +7,6 @@ pub mod Arguments
 pub mod Readers
 pub mod Shown
 pub mod World
+-- definitions of crates below, passed on to the crates above
+pub use Rattle.meaning_tables.specs.cells as cells
+pub use Rattle.meaning_tables.specs as tables

@@ -2,8 +2,8 @@
 use Rattle.std.specs.Prelude.{◌≡◌, ℕ, ◌-◌, ◌*◌, ◌^◌, length, sum_by, min, nat_eq, Option, Some, None, IsSome, if◌then◌else◌}
 use Rattle.slab.specs.Slab.{get, entries}
 use Rattle.cell_core.specs.declared.cell.Label.{Label}
-use Rattle.table_meaning.specs.Table.{NumberedTable, no_table, column_at}
-use Rattle.table_meaning.specs.Change.{with_column}
+use Rattle.meaning_tables.specs.Table.{NumberedTable, no_table, column_at}
+use Rattle.meaning_tables.specs.Change.{with_column}
 use Rattle.frame_store.specs.declared.object.ObjId.{ObjId}
 use Rattle.frame_store.specs.declared.store.Store.{Store}
 

@@ -9,10 +9,10 @@ use Rattle.cell_core.specs.declared.grid.Shape.{Shape}
 use Rattle.column_core.specs.Blocks.{CellBlock}
 use Rattle.column_core.specs.Columns.{CellColumn}
 use Rattle.multi_index.specs.Axes.{AxisValue}
-use Rattle.meaning.specs.Cell.{holds, datum}
-use Rattle.table_meaning.specs.Change.{put_at, cut_columns, without_column}
-use Rattle.table_meaning.specs.Table.{ColumnOf, NumberedTable, column_at}
-use Rattle.table_meaning.specs.Valid.{AreHeadings}
+use Rattle.meaning_tables.specs.cells.Cell.{holds, datum}
+use Rattle.meaning_tables.specs.Change.{put_at, cut_columns, without_column}
+use Rattle.meaning_tables.specs.Table.{ColumnOf, NumberedTable, column_at}
+use Rattle.meaning_tables.specs.Valid.{AreHeadings}
 
 -- the headings of the columns, and the name that the columns have together
 pub record HeadingList : Type 0 where

@@ -4,9 +4,9 @@ use Rattle.std.specs.Borrow.{Bor}
 use Rattle.std.specs.Option.{option_map}
 use Rattle.cell_core.specs.declared.cell.Label.{Label}
 use Rattle.cell_core.specs.declared.cell.Cell.{Cell}
-use Rattle.meaning.specs.Text.{Text}
-use Rattle.meaning.specs.Cell.{CellValue, datum}
-use Rattle.table_meaning.specs.Value.{Given, GivenList, GivenPairs}
+use Rattle.meaning_tables.specs.cells.Text.{Text}
+use Rattle.meaning_tables.specs.cells.Cell.{CellValue, datum}
+use Rattle.meaning_tables.specs.Value.{Given, GivenList, GivenPairs}
 use Rattle.frame_store.specs.Objects.{Tables}
 use Rattle.frame_store.specs.Arguments.{items_of, argument_of, entries_of, AreLiveItems, IsLiveArgument, AreLivePairs}
 use Rattle.frame_store.specs.declared.arguments.Argument.{Argument}

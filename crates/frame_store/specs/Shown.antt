@@ -3,14 +3,14 @@ use Rattle.std.specs.Prelude.{◌≡◌, ℕ, List, map, nat_eq, Option, Some, N
 use Rattle.cell_core.specs.declared.cell.Label.{Label}
 use Rattle.cell_core.specs.declared.cell.Cell.{Cell}
 use Rattle.cell_core.specs.declared.code.Code.{Code}
-use Rattle.meaning.specs.Text.{Text}
-use Rattle.meaning.specs.Cell.{CellValue, LabelValue, datum}
-use Rattle.meaning.specs.Fault.{FaultValue}
-use Rattle.meaning.specs.FaultOf.{fault_of}
-use Rattle.table_meaning.specs.Settled.{IsSettled}
-use Rattle.table_meaning.specs.Table.{ColumnOf, NumberedTable, Table, no_table, table_value, heading_value, tuple_value, column_value}
-use Rattle.table_meaning.specs.Value as value
-use Rattle.table_meaning.specs.Value.{Entry}
+use Rattle.meaning_tables.specs.cells.Text.{Text}
+use Rattle.meaning_tables.specs.cells.Cell.{CellValue, LabelValue, datum}
+use Rattle.meaning_tables.specs.cells.Fault.{FaultValue}
+use Rattle.meaning_tables.specs.cells.FaultOf.{fault_of}
+use Rattle.meaning_tables.specs.Settled.{IsSettled}
+use Rattle.meaning_tables.specs.Table.{ColumnOf, NumberedTable, Table, no_table, table_value, heading_value, tuple_value, column_value}
+use Rattle.meaning_tables.specs.Value as value
+use Rattle.meaning_tables.specs.Value.{Entry}
 use Rattle.frame_store.specs.Objects.{Tables, with_object}
 use Rattle.frame_store.specs.declared.object.ObjId.{ObjId}
 use Rattle.frame_store.specs.declared.arguments.Value.{Value}

@@ -1,7 +1,7 @@
 -- The table that an object keeps.
 use Rattle.std.specs.Prelude.{map, All}
-use Rattle.table_meaning.specs.Table.{NumberedTable}
-use Rattle.table_meaning.specs.Valid.{IsWhole}
+use Rattle.meaning_tables.specs.Table.{NumberedTable}
+use Rattle.meaning_tables.specs.Valid.{IsWhole}
 use Rattle.frame_store.specs.Parts.{block_column, IsSingle}
 use Rattle.frame_store.specs.declared.table.Table.TheInside.{Inside}
 

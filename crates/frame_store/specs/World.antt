@@ -1,13 +1,13 @@
 -- Objects and texts together, and what forms know of what they are given and say of what they give.
 use Rattle.std.specs.Prelude.{◌≡◌, ℕ, List, IsSome, ⊤, Result}
 use Rattle.cell_core.specs.declared.cell.Label.{Label}
-use Rattle.meaning.specs.Text.{Text}
-use Rattle.meaning.specs.Cell.{IsLonger}
-use Rattle.meaning.specs.Fault.{FaultValue}
-use Rattle.table_meaning.specs.Settled.{IsSettled}
-use Rattle.table_meaning.specs.Table.{NumberedTable, Table, table_value}
-use Rattle.table_meaning.specs.Valid.{IsWhole}
-use Rattle.table_meaning.specs.Value.{Entry, Given, NamedGiven, GivenSub}
+use Rattle.meaning_tables.specs.cells.Text.{Text}
+use Rattle.meaning_tables.specs.cells.Cell.{IsLonger}
+use Rattle.meaning_tables.specs.cells.Fault.{FaultValue}
+use Rattle.meaning_tables.specs.Settled.{IsSettled}
+use Rattle.meaning_tables.specs.Table.{NumberedTable, Table, table_value}
+use Rattle.meaning_tables.specs.Valid.{IsWhole}
+use Rattle.meaning_tables.specs.Value.{Entry, Given, NamedGiven, GivenSub}
 use Rattle.frame_store.specs.Objects.{Tables, tables}
 use Rattle.frame_store.specs.Arguments.{entry_of, item_of, items_of, argument_of, entries_of, arguments_of, subscript_of, IsLive, IsLiveItem, AreLiveItems, IsLiveArgument, AreLivePairs, AreLive, IsLiveSubscript}
 use Rattle.frame_store.specs.Shown.{Shown, shown, FormAnswers, Changes}

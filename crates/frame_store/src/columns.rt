@@ -2,7 +2,7 @@
 ghost use Rattle.std.specs.Prelude.{◌≡◌, ◌<◌, ◌≤◌, length, vec_len, vec_capacity, All, IfOk};
 ghost use Rattle.cell_core.specs.declared.cell.Cell.TheVariants.{Na};
 ghost use Rattle.cell_core.specs.Grids.{AreRowsBelow};
-ghost use Rattle.table_meaning.specs.Change.{put_at, strided_column, cut_columns};
+ghost use Rattle.meaning_tables.specs.Change.{put_at, strided_column, cut_columns};
 ghost use Rattle.frame_store.specs.Parts.{block_column, columns_of, single_block, AreBelow, IsSingle, HaveRows};
 
 use cell_core::{NoMemory, Places, Rows};

@@ -1,6 +1,6 @@
 // What an argument and a part of one are.
 ghost use Rattle.std.specs.Prelude.{◌≡◌, IfSome};
-ghost use Rattle.table_meaning.specs.Value.{scalar_in, object_in, tuple_in, list_in, dict_in};
+ghost use Rattle.meaning_tables.specs.Value.{scalar_in, object_in, tuple_in, list_in, dict_in};
 ghost use Rattle.frame_store.specs.Arguments.{object_value, IsLiveObject, item_of, argument_of, IsLiveItem, IsLiveArgument};
 ghost use Rattle.frame_store.specs.Readers.{AgreesSeen, IsLiveWith, cell_seen, lent_items, lent_pairs, AreLiveLentItems, AreLiveLentPairs};
 

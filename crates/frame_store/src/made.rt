@@ -2,10 +2,10 @@
 ghost use Rattle.std.specs.Prelude.{◌≡◌, ◌∷◌, [], length, List, Result, None, All, IfOk, OnErr};
 ghost use Rattle.cell_core.specs.declared.grid.Shape.TheVariants.{Series};
 ghost use Rattle.cell_core.specs.Texts.{IsLonger};
-ghost use Rattle.meaning.specs.Text.{Text};
-ghost use Rattle.meaning.specs.Fault.{FaultValue};
-ghost use Rattle.table_meaning.specs.Valid.{IsWhole};
-ghost use Rattle.table_meaning.specs.Value.{Entry};
+ghost use Rattle.meaning_tables.specs.cells.Text.{Text};
+ghost use Rattle.meaning_tables.specs.cells.Fault.{FaultValue};
+ghost use Rattle.meaning_tables.specs.Valid.{IsWhole};
+ghost use Rattle.meaning_tables.specs.Value.{Entry};
 ghost use Rattle.frame_store.specs.Objects.{tables};
 ghost use Rattle.frame_store.specs.Parts.{headings_of, headings_with, table_of, table_with, table_column, axis_of, IsSingle};
 ghost use Rattle.frame_store.specs.Shown.{Makes};

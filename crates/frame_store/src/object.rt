@@ -1,6 +1,6 @@
 // Objects by number, and their tables to be read.
 ghost use Rattle.std.specs.Prelude.{◌≡◌, ◌<◌, length};
-ghost use Rattle.table_meaning.specs.Table.{column_at};
+ghost use Rattle.meaning_tables.specs.Table.{column_at};
 ghost use Rattle.frame_store.specs.Grids.{grid_of};
 ghost use Rattle.frame_store.specs.Parts.{axis_of, table_column};
 
@@ -21,7 +21,7 @@ pub struct ObjRef<'a> {
 }
 
 impl<'a> Model for ObjRef<'a> {
-    ghost use Rattle.table_meaning.specs.Table.{NumberedTable};
+    ghost use Rattle.meaning_tables.specs.Table.{NumberedTable};
 
     ghost Value = { NumberedTable };
 

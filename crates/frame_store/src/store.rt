@@ -2,9 +2,9 @@
 ghost use Rattle.std.specs.Prelude.{◌≡◌, ◌≢◌, ◌↔◌, ◌*◌, ◌<◌, ◌≤◌, length, All, Some, None, IsTrue, IfOk, OnOk, OnErr};
 ghost use Rattle.cell_core.specs.declared.grid.Shape.TheVariants.{Series};
 ghost use Rattle.cell_core.specs.Grids.{AreRowsBelow};
-ghost use Rattle.table_meaning.specs.Table.{column_at};
-ghost use Rattle.table_meaning.specs.Change.{with_column, without_column, with_labels, with_values};
-ghost use Rattle.table_meaning.specs.Valid.{AreHeadings, IsWhole};
+ghost use Rattle.meaning_tables.specs.Table.{column_at};
+ghost use Rattle.meaning_tables.specs.Change.{with_column, without_column, with_labels, with_values};
+ghost use Rattle.meaning_tables.specs.Valid.{AreHeadings, IsWhole};
 ghost use Rattle.multi_index.specs.Axes.{HaveLevels};
 ghost use Rattle.frame_store.specs.Parts.{block_column, table_column, table_of, cut_table, axis_of, AreRowsOf, AreColumnsOf, FitsRows, IsSingle, HaveRows, AreHeld, TakesHeading, SparesHeading};
 

@@ -3,9 +3,9 @@ ghost use Rattle.std.specs.Prelude.{◌≡◌, ◌*◌, ◌<◌, ◌≤◌, leng
 ghost use Rattle.cell_core.specs.declared.cell.Cell.TheVariants.{Na};
 ghost use Rattle.cell_core.specs.declared.grid.Shape.TheVariants.{Series, Frame};
 ghost use Rattle.cell_core.specs.Grids.{AreRowsBelow};
-ghost use Rattle.table_meaning.specs.Table.{column_at};
-ghost use Rattle.table_meaning.specs.Change.{cut_columns, with_column, without_column, with_labels, with_values};
-ghost use Rattle.table_meaning.specs.Valid.{IsWhole};
+ghost use Rattle.meaning_tables.specs.Table.{column_at};
+ghost use Rattle.meaning_tables.specs.Change.{cut_columns, with_column, without_column, with_labels, with_values};
+ghost use Rattle.meaning_tables.specs.Valid.{IsWhole};
 ghost use Rattle.multi_index.specs.Axes.{HaveLevels};
 ghost use Rattle.frame_store.specs.Parts.{block_column, columns_of, table_column, table_of, axis_of, count_of, AreRowsOf, AreColumnsOf, FitsRows, IsSingle, HaveRows, AreHeld, TakesHeading, SparesHeading};
 
@@ -32,7 +32,7 @@ pub struct Table {
 }
 
 impl Model for Table {
-    ghost use Rattle.table_meaning.specs.Table.{NumberedTable};
+    ghost use Rattle.meaning_tables.specs.Table.{NumberedTable};
 
     ghost Value = { NumberedTable };
 

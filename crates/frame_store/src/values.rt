@@ -1,7 +1,7 @@
 // Cells that are put into columns.
 ghost use Rattle.std.specs.Prelude.{◌≡◌, ◌*◌, ◌<◌, length, vec_len, All};
-ghost use Rattle.table_meaning.specs.Change.{with_cell_at, with_cell, with_values_from};
-ghost use Rattle.table_meaning.specs.Table.{column_at};
+ghost use Rattle.meaning_tables.specs.Change.{with_cell_at, with_cell, with_values_from};
+ghost use Rattle.meaning_tables.specs.Table.{column_at};
 ghost use Rattle.frame_store.specs.Parts.{block_column, columns_of, single_block, AreBelow, IsSingle, IsHeld, HaveRows, AreHeld};
 
 use cell_core::{Cell, Cells, Places};

@@ -1,13 +1,12 @@
 -- What the calls on groups answer, as columns.
 use Rattle.{
-  meaning.proofs.Common.{arith, ◌≡◌, ap, refl, sym, ℕ, true, false, List, [], ◌∷◌, map, length, slice_index_or, Option, Ok, cases_lt, get_or_past, All-map, Cell, Na, Kind, na_cell, datum, IsGiven, AreGiven, tabulate, gap_cell, taken, cumulation_takes},
+  column_core.{proofs.cells.Common.{arith, ◌≡◌, ap, refl, sym, ℕ, true, false, List, [], ◌∷◌, map, length, slice_index_or, Option, Ok, cases_lt, get_or_past, All-map, Cell, Na, Kind, na_cell, datum, IsGiven, AreGiven, tabulate, gap_cell, taken, cumulation_takes}, specs.Columns.{CellColumn, column_value}},
   std.proofs.Math.ListN.{get_or-map},
   cell_core.specs.{declared.cell.Kind.TheVariants.{Text as string}, contracts.cell.KindPartialEq.TheImpl.{eq-value}},
-  column_core.specs.Columns.{CellColumn, column_value},
-  group_meaning.specs.{Rows.{GroupsValue}, Reductions.{GroupReduction, group_takes, group_kind, reduced_cells, running_cell, transform_groups, cumsum_groups}},
+  factorize.specs.group.{Rows.{GroupsValue}, Reductions.{GroupReduction, group_takes, group_kind, reduced_cells, running_cell, transform_groups, cumsum_groups}},
   group_by.{specs.Counted.{AreNumbers}, proofs.NumberLaws.{numbers_value}},
 }
-use Rattle.meaning.specs.Cumulate as cumulation
+use Rattle.column_core.specs.cells.Cumulate as cumulation
 
 -- all kinds but texts are summed
 kind_summed : (k : Kind) → eq-value.it k string ≡ false → cumulation_takes cumulation.sum k ≡ true

@@ -1,14 +1,12 @@
 -- How many different cells each group has, with one cell more.
 use Rattle.{
-  meaning.proofs.Common.{◌≡◌, ◌∙◌, ◌+◌, ◌<◌, ◌≤◌, ◌^◌, refl, arith, ℕ, Bool, true, false, not, ◌&&◌, ◌||◌, cond, List, [], ◌∷◌, ◌++◌, filter, take, length, slice_index_or, All, Option, Some, None, length-append, false≢true, eqb-true, length-map, get_or_default, filter-append, list_any-append, list_any, IsEquivalence, nat_eq_equiv, Cell, CellValue, na_cell, datum, AreDistinct, IsGiven, is_present, present, same_cell, distinct, distinct_count},
+  column_core.{proofs.cells.Common.{◌≡◌, ◌∙◌, ◌+◌, ◌<◌, ◌≤◌, ◌^◌, refl, arith, ℕ, Bool, true, false, not, ◌&&◌, ◌||◌, cond, List, [], ◌∷◌, ◌++◌, filter, take, length, slice_index_or, All, Option, Some, None, length-append, false≢true, eqb-true, length-map, get_or_default, filter-append, list_any-append, list_any, IsEquivalence, nat_eq_equiv, Cell, CellValue, na_cell, datum, AreDistinct, IsGiven, is_present, present, same_cell, distinct, distinct_count}, specs.Moves.{IsPlaceOf}},
   std.{proofs.Common.{append-nil}, specs.Cmp.{on_equiv, and_equiv}},
   indexmap.specs.IndexSet.{insert_key},
   cell_core.specs.contracts.cell.CellEq.TheImpl.Laws.{laws-law},
   nullable_array.proofs.DistinctLaws.{numbers_apart, truths_apart, texts_apart},
-  row_keys.proofs.DistinctLaws.{covers_more},
-  group_meaning.specs.Rows.{is_in, rows_of_group, cells_of_group},
+  factorize.{proofs.row_keys.DistinctLaws.{covers_more}, specs.group.Rows.{is_in, rows_of_group, cells_of_group}},
   group_by.{specs.{Distincts.{is_missing, same_by_number, same_member, noted, new_in}, Counted.{IsCounted}}, proofs.{RowLaws.{is_in_some, cells_more, cells_same}, NumberLaws.{rows_few}}},
-  column_core.specs.Moves.{IsPlaceOf},
 }
 
 -- one more at the end, which is new or not

@@ -1,9 +1,8 @@
 -- What is gathered with one cell more.
 use Rattle.{
-  meaning.proofs.Common.{◌≡◌, ◌∙◌, ◌<◌, ◌^◌, mod-eq_of_lt, ℕ, true, cond, arith, All, map, ℤ, pos, List, [], ◌∷◌, ◌++◌, length, slice_index_or, set, fold, Option, Some, eqb-false, length-set, get_or-set_same, get_or-set_other, length-map, get_or-map, fill_by_all, filter-append, cast_signed, Cell, Na, Kind, CellValue, na_cell, int_cell, datum, holds, AreGiven, is_present, present},
+  column_core.{proofs.cells.Common.{◌≡◌, ◌∙◌, ◌<◌, ◌^◌, mod-eq_of_lt, ℕ, true, cond, arith, All, map, ℤ, pos, List, [], ◌∷◌, ◌++◌, length, slice_index_or, set, fold, Option, Some, eqb-false, length-set, get_or-set_same, get_or-set_other, length-map, get_or-map, fill_by_all, filter-append, cast_signed, Cell, Na, Kind, CellValue, na_cell, int_cell, datum, holds, AreGiven, is_present, present}, specs.Columns.{CellColumn}},
   std.{specs.Int.{int_wrap, w64}, proofs.lemmas.List.Sums.{fold-append}},
-  column_core.specs.Columns.{CellColumn},
-  group_meaning.specs.{Rows.{GroupsValue}, Reductions.{GroupReduction, group_cell, reduced_cells}},
+  factorize.specs.group.{Rows.{GroupsValue}, Reductions.{GroupReduction, group_cell, reduced_cells}},
   group_by.specs.{Cells.{IsCellOf}, Gathered.{if_present, plus, total_of, total_cell, TakesIn, HaveGathered}},
 }
 

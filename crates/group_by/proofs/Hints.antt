@@ -1,8 +1,7 @@
 -- Laws that the goals of functions want, by the name of the first that does.
 use Rattle.{
-  meaning.proofs.Common.{length-replicate, length-map, with_items_is},
+  column_core.proofs.{cells.Common.{length-replicate, length-map, with_items_is}, ColumnLaws.{length-tabulate}},
   group_by.proofs.{DistinctLaws.{noted_there, new_there, noted_missing}, GatherLaws.{cells_held, column_given}},
-  column_core.proofs.ColumnLaws.{length-tabulate},
 }
 
 pub ruleset places = (length-replicate)

@@ -1,9 +1,7 @@
 -- Columns of numbers, one row more at a time, and what is counted of groups.
 use Rattle.{
-  meaning.proofs.Common.{replicate, ◌≡◌, ◌+◌, ◌<◌, ◌≤◌, ◌^◌, refl, sym, subst, arith, ℕ, Bool, true, false, cond, List, [], ◌∷◌, ◌++◌, map, take, length, slice_index_or, All, Option, None, Result, IfOk, length-append, map-append, length-take-le, get_or_default, All-replicate, All-push, fill_by_all, false≢true, range_with_len, Cell, Int64, CellValue, datum, holds, IsGiven, tabulate},
-  column_core.{specs.{Columns.{CellColumn, column_value}, Moves.{IsPlaceOf}}, proofs.CellRows.{map-map}},
-  pick_meaning.specs.Rows.{rows_where},
-  group_meaning.specs.{Rows.{is_in, rows_of_group}, Reductions.{of_group, count_cell}},
+  column_core.{proofs.{cells.Common.{replicate, ◌≡◌, ◌+◌, ◌<◌, ◌≤◌, ◌^◌, refl, sym, subst, arith, ℕ, Bool, true, false, cond, List, [], ◌∷◌, ◌++◌, map, take, length, slice_index_or, All, Option, None, Result, IfOk, length-append, map-append, length-take-le, get_or_default, All-replicate, All-push, fill_by_all, false≢true, range_with_len, Cell, Int64, CellValue, datum, holds, IsGiven, tabulate}, CellRows.{map-map}}, specs.{Columns.{CellColumn, column_value}, Moves.{IsPlaceOf}}},
+  factorize.specs.{pick.Rows.{rows_where}, group.{Rows.{is_in, rows_of_group}, Reductions.{of_group, count_cell}}},
   group_by.{specs.Counted.{IsCounted, AreNumbers}, proofs.RowLaws.{is_in_some, rows_more, rows_same}},
 }
 use Rattle.cell_core.specs.declared.cell.Cell.TheVariants as cell

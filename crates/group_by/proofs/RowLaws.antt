@@ -1,8 +1,7 @@
 -- The rows and cells of a group with one row more.
 use Rattle.{
-  meaning.proofs.Common.{arith, ◌≡◌, ◌+◌, ◌<◌, sym, ℕ, true, false, List, [], ◌∷◌, ◌++◌, take, length, slice_index_or, Option, Some, None, false≢true, eq-eqb, eqb-true, map-append, Cell, Na, CellValue, na_cell, datum},
-  pick_meaning.proofs.RowLaws.{rows_more_yes, rows_more_no},
-  group_meaning.specs.{Rows.{is_in, rows_of_group, cells_of_group}, Reductions.{GroupReduction, group_cell}},
+  column_core.proofs.cells.Common.{arith, ◌≡◌, ◌+◌, ◌<◌, sym, ℕ, true, false, List, [], ◌∷◌, ◌++◌, take, length, slice_index_or, Option, Some, None, false≢true, eq-eqb, eqb-true, map-append, Cell, Na, CellValue, na_cell, datum},
+  factorize.{proofs.pick.RowLaws.{rows_more_yes, rows_more_no}, specs.group.{Rows.{is_in, rows_of_group, cells_of_group}, Reductions.{GroupReduction, group_cell}}},
   group_by.specs.Gathered.{TakesIn},
 }
 

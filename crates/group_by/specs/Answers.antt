@@ -1,6 +1,6 @@
 -- What a call answers.
 use Rattle.std.specs.Prelude.{◌≡◌, ℕ, List, Result, Ok, Err}
-use Rattle.meaning.specs.Column.{ColumnValue, ColumnFault, kind_mismatch}
+use Rattle.column_core.specs.cells.Column.{ColumnValue, ColumnFault, kind_mismatch}
 use Rattle.column_core.specs.Columns.{CellColumn, column_value}
 use Rattle.group_by.specs.declared.ops.GroupFault.{GroupFault}
 use Rattle.group_by.specs.declared.ops.GroupFault.TheVariants.{KindMismatch, NoMemory}

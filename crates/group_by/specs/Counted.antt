@@ -1,9 +1,9 @@
 -- Numbers that are counted, and columns of numbers.
 use Rattle.std.specs.Prelude.{◌≡◌, ℕ, ◌+◌, ◌<◌, List, length, map, slice_index_or, Option, if◌then◌else◌}
 use Rattle.cell_core.specs.declared.cell.Kind.TheVariants.{Int64}
-use Rattle.meaning.specs.Cell.{CellValue, datum, AreGiven}
+use Rattle.column_core.specs.cells.Cell.{CellValue, datum, AreGiven}
 use Rattle.column_core.specs.Columns.{CellColumn}
-use Rattle.group_meaning.specs.Rows.{is_in, rows_of_group}
+use Rattle.factorize.specs.group.Rows.{is_in, rows_of_group}
 
 -- one more is counted of a group, if there is one
 pub record IsCounted (group : Option ℕ) (before after : List ℕ) : Type 0 where

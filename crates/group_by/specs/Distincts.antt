@@ -4,9 +4,9 @@ use Rattle.std.specs.List.{list_any}
 use Rattle.indexmap.specs.IndexSet.{insert_key}
 use Rattle.cell_core.specs.declared.cell.Cell.{Cell}
 use Rattle.cell_core.specs.declared.cell.Cell.TheVariants.{Na}
-use Rattle.meaning.specs.Cell.{CellValue}
-use Rattle.meaning.specs.Reduce.{distinct_count}
-use Rattle.group_meaning.specs.Rows.{cells_of_group}
+use Rattle.column_core.specs.cells.Cell.{CellValue}
+use Rattle.column_core.specs.cells.Reduce.{distinct_count}
+use Rattle.factorize.specs.group.Rows.{cells_of_group}
 use Rattle.cell_core.specs.contracts.cell.CellPartialEq.TheImpl.{eq-value}
 
 abbrev pub is_missing : Cell → Bool

@@ -3,10 +3,10 @@ use Rattle.std.specs.Prelude.{◌≡◌, ◌<◌, ℕ, ℤ, pos, ◌+ℤ◌, fal
 use Rattle.std.specs.Int.{int_wrap, w64}
 use Rattle.cell_core.specs.declared.cell.Cell.{Cell}
 use Rattle.cell_core.specs.declared.cell.Cell.TheVariants.{Na}
-use Rattle.meaning.specs.Cell.{CellValue, na_cell, int_cell, datum}
-use Rattle.meaning.specs.Reduce.{is_present, present}
-use Rattle.group_meaning.specs.Rows.{is_in, cells_of_group}
-use Rattle.group_meaning.specs.Reductions.{GroupReduction, group_cell}
+use Rattle.column_core.specs.cells.Cell.{CellValue, na_cell, int_cell, datum}
+use Rattle.column_core.specs.cells.Reduce.{is_present, present}
+use Rattle.factorize.specs.group.Rows.{is_in, cells_of_group}
+use Rattle.factorize.specs.group.Reductions.{GroupReduction, group_cell}
 
 -- what is read of a cell, where it is present
 abbrev pub if_present : {A : Type 0} → CellValue → A → Option A

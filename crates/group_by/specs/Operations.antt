@@ -1,5 +1,5 @@
 -- The reductions of groups.
-use Rattle.group_meaning.specs.Reductions as meant
+use Rattle.factorize.specs.group.Reductions as meant
 use Rattle.group_by.specs.declared.ops.GroupOp.{GroupOp}
 use Rattle.group_by.specs.declared.ops.GroupOp.TheVariants.{Sum, Min, Max, Count, First, Last, Distinct}
 

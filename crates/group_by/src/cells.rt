@@ -1,9 +1,9 @@
 // Cells, read and gathered into columns.
 ghost use Rattle.std.specs.Prelude.{◌≡◌, ◌<◌, ◌^◌, ℕ, true, not, List, All, IfOk};
 ghost use Rattle.cell_core.specs.declared.cell.Kind.TheVariants.{Int64};
-ghost use Rattle.meaning.specs.Cell.{datum, holds};
-ghost use Rattle.meaning.specs.Reduce.{is_present};
-ghost use Rattle.group_meaning.specs.Reductions.{count_cell};
+ghost use Rattle.column_core.specs.cells.Cell.{datum, holds};
+ghost use Rattle.column_core.specs.cells.Reduce.{is_present};
+ghost use Rattle.factorize.specs.group.Reductions.{count_cell};
 ghost use Rattle.group_by.specs.Distincts.{is_missing};
 
 use cell_core::{Cell, Kind, NoMemory};

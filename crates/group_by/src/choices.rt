@@ -1,10 +1,10 @@
 // The reductions that are gathered cell by cell.
 ghost use Rattle.std.specs.Prelude.{◌≡◌, pos, refl};
-ghost use Rattle.meaning.specs.Cell.{datum};
-ghost use Rattle.meaning.specs.Operator.{cell_cmp};
-ghost use Rattle.meaning.specs.Reduce.{number_in, lesser, greater};
-ghost use Rattle.group_meaning.specs.Reductions.{earlier, later};
-ghost use Rattle.group_meaning.specs.Reductions as meant;
+ghost use Rattle.column_core.specs.cells.Cell.{datum};
+ghost use Rattle.column_core.specs.cells.Operator.{cell_cmp};
+ghost use Rattle.column_core.specs.cells.Reduce.{number_in, lesser, greater};
+ghost use Rattle.factorize.specs.group.Reductions.{earlier, later};
+ghost use Rattle.factorize.specs.group.Reductions as meant;
 
 use crate::cells::is_na;
 use crate::gather::{Amount, Choice};

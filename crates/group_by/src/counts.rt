@@ -1,9 +1,9 @@
 // Rows of groups, counted.
 ghost use Rattle.std.specs.Prelude.{◌≡◌, ◌<◌, ◌+◌, ◌^◌, ℕ, true, List, length, map, slice_index_or, All, IfOk};
 ghost use Rattle.cell_core.specs.declared.cell.Kind.TheVariants.{Int64};
-ghost use Rattle.meaning.specs.Cell.{datum, holds};
+ghost use Rattle.column_core.specs.cells.Cell.{datum, holds};
 ghost use Rattle.column_core.specs.Moves.{IsPlaceOf};
-ghost use Rattle.group_meaning.specs.Reductions.{count_cell, of_group, group_sizes, group_places};
+ghost use Rattle.factorize.specs.group.Reductions.{count_cell, of_group, group_sizes, group_places};
 ghost use Rattle.group_by.specs.Counted.{IsCounted, HaveCounted, AreNumbers};
 
 use crate::cells::counted;

@@ -2,8 +2,8 @@
 ghost use Rattle.std.specs.Prelude.{◌≡◌, length, map, Some, None, All, IfOk, OnOk, if◌then◌else◌};
 ghost use Rattle.std.specs.List.{list_any};
 ghost use Rattle.indexmap.specs.IndexSet.{insert_key};
-ghost use Rattle.meaning.specs.Cell.{datum, AreDistinct, AreGiven};
-ghost use Rattle.group_meaning.specs.Reductions.{reduced_cells, nunique};
+ghost use Rattle.column_core.specs.cells.Cell.{datum, AreDistinct, AreGiven};
+ghost use Rattle.factorize.specs.group.Reductions.{reduced_cells, nunique};
 ghost use Rattle.group_by.specs.Counted.{AreNumbers};
 ghost use Rattle.group_by.specs.Distincts.{same_member, noted, new_in, HaveDistinct};
 

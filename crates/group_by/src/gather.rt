@@ -3,8 +3,8 @@ ghost use Rattle.std.specs.Prelude.{◌≡◌, ℕ, ℤ, ◌+ℤ◌, List, [], �
 ghost use Rattle.std.specs.Int.{int_wrap, w64};
 ghost use Rattle.cell_core.specs.declared.cell.Kind.{Kind as CellKind};
 ghost use Rattle.cell_core.specs.declared.cell.Kind.TheVariants.{Int64};
-ghost use Rattle.meaning.specs.Cell.{CellValue, int_cell, datum};
-ghost use Rattle.group_meaning.specs.Reductions.{GroupReduction, group_cell, group_kind};
+ghost use Rattle.column_core.specs.cells.Cell.{CellValue, int_cell, datum};
+ghost use Rattle.factorize.specs.group.Reductions.{GroupReduction, group_cell, group_kind};
 ghost use Rattle.group_by.specs.Cells.{IsCellOf};
 ghost use Rattle.group_by.specs.Gathered.{if_present, plus, total_cell, chosen_cell};
 

@@ -1,8 +1,8 @@
 // The calls on codes.
 ghost use Rattle.std.specs.Prelude.{◌≡◌, ℕ, List, length, IfOk};
-ghost use Rattle.meaning.specs.Cell.{AreGiven};
+ghost use Rattle.column_core.specs.cells.Cell.{AreGiven};
 ghost use Rattle.column_core.specs.Columns.{column_value};
-ghost use Rattle.group_meaning.specs.Reductions.{reduce_groups, transform_groups, cumsum_groups, group_sizes, group_places};
+ghost use Rattle.factorize.specs.group.Reductions.{reduce_groups, transform_groups, cumsum_groups, group_sizes, group_places};
 ghost use Rattle.group_by.specs.Operations.{reduction_of};
 ghost use Rattle.group_by.specs.Answers.{Answers};
 

@@ -2,7 +2,7 @@
 //!
 //! [`group_reduce`] has one cell for each group, [`group_transform`] gives each row the cell of its group, and
 //! [`group_cumsum`] sums within groups row by row; [`group_size`] and [`group_cumcount`] count rows. Each is one pass
-//! over the rows. What is answered is defined in `group_meaning`.
+//! over the rows. What is answered is defined in `meaning_group`.
 //!
 //! ```text
 //! let codes = factorize(alloc, &dict, &keys, true, true)?;

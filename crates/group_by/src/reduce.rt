@@ -1,10 +1,10 @@
 // One cell for each group.
 ghost use Rattle.std.specs.Prelude.{◌≡◌, [], length, map, All, IfOk};
 ghost use Rattle.cell_core.specs.declared.cell.Kind.{Kind as CellKind};
-ghost use Rattle.meaning.specs.Cell.{datum, AreGiven};
+ghost use Rattle.column_core.specs.cells.Cell.{datum, AreGiven};
 ghost use Rattle.column_core.specs.Columns.{column_value};
 ghost use Rattle.column_core.specs.Moves.{IsPlaceOf};
-ghost use Rattle.group_meaning.specs.Reductions.{group_cell, group_kind, group_takes, reduced_cells};
+ghost use Rattle.factorize.specs.group.Reductions.{group_cell, group_kind, group_takes, reduced_cells};
 ghost use Rattle.group_by.specs.Cells.{IsCellOf};
 ghost use Rattle.group_by.specs.Gathered.{TakesIn, HaveGathered};
 ghost use Rattle.group_by.specs.Operations.{reduction_of};

@@ -2,11 +2,11 @@
 ghost use Rattle.std.specs.Prelude.{◌≡◌, ℕ, pos, true, List, length, map, slice_index_or, Some, All, IfOk};
 ghost use Rattle.cell_core.specs.declared.cell.Cell.TheVariants.{Na as Missing, Int};
 ghost use Rattle.cell_core.specs.declared.cell.Kind.TheVariants.{Int64};
-ghost use Rattle.meaning.specs.Cell.{datum, holds};
-ghost use Rattle.meaning.specs.Column.{tabulate};
-ghost use Rattle.meaning.specs.Cumulate.{unless_missing};
+ghost use Rattle.column_core.specs.cells.Cell.{datum, holds};
+ghost use Rattle.column_core.specs.cells.Column.{tabulate};
+ghost use Rattle.column_core.specs.cells.Cumulate.{unless_missing};
 ghost use Rattle.column_core.specs.Moves.{IsPlaceOf};
-ghost use Rattle.group_meaning.specs.Reductions.{of_group, running_cell, sum};
+ghost use Rattle.factorize.specs.group.Reductions.{of_group, running_cell, sum};
 ghost use Rattle.group_by.specs.Gathered.{TakesIn};
 ghost use Rattle.group_by.specs.Counted.{AreNumbers};
 

@@ -1,8 +1,7 @@
 -- The place of a bound that must stand once.
 use Rattle.{
-  meaning.proofs.Common.{arith, ◌≡◌, ℕ, ◌+◌, ◌<◌, ◌≤◌, Bool, true, false, List, [], ◌∷◌, length, take, drop, slice_index_or, Option, Some, None, Err, take-append-drop, take_all},
+  meaning_pick.{proofs.{cells.Common.{arith, ◌≡◌, ℕ, ◌+◌, ◌<◌, ◌≤◌, Bool, true, false, List, [], ◌∷◌, length, take, drop, slice_index_or, Option, Some, None, Err, take-append-drop, take_all}, RowLaws.{rows_where-append, rows_more_yes}}, specs.{Faults.{bound_not_unique}, Rows.{rows_where}, Slices.{one_row}}},
   std.specs.Option.{option_to_list, is_some},
-  pick_meaning.{specs.{Faults.{bound_not_unique}, Rows.{rows_where}, Slices.{one_row}}, proofs.RowLaws.{rows_where-append, rows_more_yes}},
 }
 
 module _ {X : Type 0} (p : X → Bool) (xs : List X) where

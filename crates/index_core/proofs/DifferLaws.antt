@@ -1,8 +1,7 @@
 -- Labels of which none stands twice.
 use Rattle.{
-  meaning.proofs.Common.{rules, ◌≡◌, refl, arith, ℕ, zero, suc, ◌+◌, ◌<◌, Bool, true, false, not, ◌||◌, List, [], ◌∷◌, length, drop, slice_index_or, map, drop_more, list_any-append, list_any, range_with_len, Label},
+  meaning_pick.{proofs.cells.Common.{rules, ◌≡◌, refl, arith, ℕ, zero, suc, ◌+◌, ◌<◌, Bool, true, false, not, ◌||◌, List, [], ◌∷◌, length, drop, slice_index_or, map, drop_more, list_any-append, list_any, range_with_len, Label}, specs.Labels.{all_differ}},
   indexmap.specs.IndexSet.{insert_key},
-  pick_meaning.specs.Labels.{all_differ},
   index_core.{specs.{Labels.{same_number}, Ranges.{number_label, range_labels}}, proofs.NumberLaws.{label_decides, not_same}},
 }
 

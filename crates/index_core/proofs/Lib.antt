@@ -6,3 +6,6 @@ pub mod LinkLaws
 pub mod DifferLaws
 pub mod BoundLaws
 pub mod TextLaws
+-- laws of crates below, passed on to the crates above
+pub use Rattle.meaning_pick.proofs.cells as cells
+pub use Rattle.meaning_pick.proofs as pick

@@ -1,8 +1,7 @@
 -- Rows of a label that are found from the first one to the next.
 use Rattle.{
-  meaning.proofs.Common.{rules, ◌≡◌, ap, sym, refl, arith, ℕ, ◌+◌, ◌-◌, ◌<◌, ◌≤◌, Bool, true, cond, List, [], ◌∷◌, ◌++◌, length, drop, slice_index_or, Option, Some, None, same_from_decides, drop-drop, drop_more, length-drop, get_or-drop, get_or_default, position_from, lookup, Label},
+  meaning_pick.{proofs.cells.Common.{rules, ◌≡◌, ap, sym, refl, arith, ℕ, ◌+◌, ◌-◌, ◌<◌, ◌≤◌, Bool, true, cond, List, [], ◌∷◌, ◌++◌, length, drop, slice_index_or, Option, Some, None, same_from_decides, drop-drop, drop_more, length-drop, get_or-drop, get_or_default, position_from, lookup, Label}, specs.Rows.{rows_where, only_row, are_some}},
   std.{proofs.lemmas.List.{append_assoc}, specs.Option.{is_some}},
-  pick_meaning.specs.Rows.{rows_where, only_row, are_some},
   index_core.specs.{Labels.{same_number, places_in}, Found.{HaveFirstRows, HaveNextRows}},
 }
 

@@ -1,7 +1,6 @@
 -- The places of a range: by the number of a label, and by the numbers of two bounds.
 use Rattle.{
-  meaning.proofs.Common.{◌≡◌, ◌∙◌, ap, sym, refl, arith, rules, ℕ, zero, suc, ◌+◌, ◌-◌, ◌<◌, ◌≤◌, ℤ, pos, negsuc, Bool, true, false, not, cond, List, [], ◌∷◌, length, slice_index_or, Some, min, nat_lt, map, nat_tests, get_or-map-range_with_len, unsigned_abs, int_lt as lt_z, Decides, range_with_len, is_lt, Less, Equal, Greater, Label, place_from, Text},
-  pick_meaning.{specs.{Rows.{rows_where, rows_of, rows_between}, Slices.{goes_on_in_order, is_in_order}}, proofs.RowLaws.{rows_in_interval}},
+  meaning_pick.{proofs.{cells.Common.{◌≡◌, ◌∙◌, ap, sym, refl, arith, rules, ℕ, zero, suc, ◌+◌, ◌-◌, ◌<◌, ◌≤◌, ℤ, pos, negsuc, Bool, true, false, not, cond, List, [], ◌∷◌, length, slice_index_or, Some, min, nat_lt, map, nat_tests, get_or-map-range_with_len, unsigned_abs, int_lt as lt_z, Decides, range_with_len, is_lt, Less, Equal, Greater, Label, place_from, Text}, RowLaws.{rows_in_interval}}, specs.{Rows.{rows_where, rows_of, rows_between}, Slices.{goes_on_in_order, is_in_order}}},
   index_core.{specs.{Labels.{same_number, order_in}, Ranges.{number_label, range_labels}, Splits.{IsSplitAt, BeginsAt, EndsAt}}, proofs.RangeLaws.{length-range_labels}},
 }
 use Rattle.cell_core.specs.declared.cell.Label.TheVariants as label

@@ -1,6 +1,6 @@
 -- The labels of a range, one by one.
 use Rattle.{
-  meaning.proofs.Common.{◌≡◌, ℕ, ◌<◌, List, length, slice_get, Some, arith, length-map-range_with_len, get_or-map-range_with_len, slice_get-get_or, Label},
+  meaning_pick.proofs.cells.Common.{◌≡◌, ℕ, ◌<◌, List, length, slice_get, Some, arith, length-map-range_with_len, get_or-map-range_with_len, slice_get-get_or, Label},
   index_core.specs.Ranges.{number_label, range_labels},
 }
 

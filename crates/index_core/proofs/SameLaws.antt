@@ -1,6 +1,6 @@
 -- Lists that are the same place by place.
 use Rattle.{
-  meaning.proofs.Common.{◌≡◌, ℕ, suc, ◌+◌, ◌<◌, Bool, true, List, [], ◌∷◌, ◌++◌, length, take, slice_index_or, refl, arith, Option, Some, None, take_more, map-append, get_or_from_slice_get, slice_get, Decides, Label},
+  meaning_pick.proofs.cells.Common.{◌≡◌, ℕ, suc, ◌+◌, ◌<◌, Bool, true, List, [], ◌∷◌, ◌++◌, length, take, slice_index_or, refl, arith, Option, Some, None, take_more, map-append, get_or_from_slice_get, slice_get, Decides, Label},
   cell_core.specs.declared.cell.Label.TheVariants.{Na},
   index_core.{specs.{Labels.{labels_at}, Ranges.{range_labels}}, proofs.RangeLaws.{length-range_labels}},
 }

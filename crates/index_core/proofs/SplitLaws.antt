@@ -1,8 +1,7 @@
 -- Lists in order that are split at a bound.
 use Rattle.{
-  meaning.proofs.Common.{◌≡◌, ap, sym, subst, refl, arith, ℕ, zero, suc, ◌+◌, ◌-◌, ◌<◌, ◌≤◌, Bool, true, false, not, ◌&&◌, List, length, slice_index_or, Option, Ok, if◌then◌else◌, ranks_by, IsTotalOrder, is_lt, is_gt, Ordering, label_datum, Label, Rows, label_total, Text},
+  meaning_pick.{proofs.{cells.Common.{◌≡◌, ap, sym, subst, refl, arith, ℕ, zero, suc, ◌+◌, ◌-◌, ◌<◌, ◌≤◌, Bool, true, false, not, ◌&&◌, List, length, slice_index_or, Option, Ok, if◌then◌else◌, ranks_by, IsTotalOrder, is_lt, is_gt, Ordering, label_datum, Label, Rows, label_total, Text}, OrderLaws.{sorted_in_order, below_too, within_too, not_so}, RowLaws.{rows_in_interval}}, specs.{Rows.{rows_of, rows_between}, Slices.{is_in_order, reaches, stays_within, sorted_slice, unsorted_slice, label_slice}}},
   std.{proofs.lemmas.{Cmp.{on_total}, List.Sorted.{sorted_far}}, specs.List.Sorted.{IsPartitionedBy}},
-  pick_meaning.{specs.{Rows.{rows_of, rows_between}, Slices.{is_in_order, reaches, stays_within, sorted_slice, unsorted_slice, label_slice}}, proofs.{OrderLaws.{sorted_in_order, below_too, within_too, not_so}, RowLaws.{rows_in_interval}}},
   index_core.{specs.{Labels.{order_in}, Ranges.{range_labels}, Splits.{IsSplitAt, BeginsAt, EndsAt}}, proofs.NumberLaws.{range_in_order}},
 }
 

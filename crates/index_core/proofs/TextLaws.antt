@@ -1,8 +1,7 @@
 -- Labels that are told apart by the numbers of their texts, with the texts themselves.
 use Rattle.{
-  meaning.proofs.Common.{arith, ◌≡◌, ℕ, Bool, List, map, All, Option, same_from_decides, is_eq, Label, AreDistinct, IsGivenLabel, LabelValue, label_cmp, label_datum, value_decides, Text},
+  meaning_pick.{proofs.{cells.Common.{arith, ◌≡◌, ℕ, Bool, List, map, All, Option, same_from_decides, is_eq, Label, AreDistinct, IsGivenLabel, LabelValue, label_cmp, label_datum, value_decides, Text}, SeenLaws.{rows_of_key-map, label_slice-map, masked_rows-map}, KeyLaws.{IsOfKey, picked_by_label-map}}, specs.{Faults.{pick_seen}, Keys.{LabelKey, key_seen, picked_by_label}, Labels.{rows_of_key}, Masks.{masked_rows}, Slices.{label_slice}}},
   std.specs.Option.{option_map},
-  pick_meaning.{specs.{Faults.{pick_seen}, Keys.{LabelKey, key_seen, picked_by_label}, Labels.{rows_of_key}, Masks.{masked_rows}, Slices.{label_slice}}, proofs.{SeenLaws.{rows_of_key-map, label_slice-map, masked_rows-map}, KeyLaws.{IsOfKey, picked_by_label-map}}},
   index_core.specs.Labels.{same_number, order_in},
 }
 

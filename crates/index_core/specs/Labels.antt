@@ -5,8 +5,8 @@ use Rattle.cell_core.specs.Values.{label_cmp, label_datum}
 use Rattle.cell_core.specs.declared.cell.Label.{Label}
 use Rattle.cell_core.specs.declared.cell.Label.TheVariants.{Na}
 use Rattle.cell_core.specs.contracts.cell.LabelPartialEq.TheImpl.{eq-value}
-use Rattle.meaning.specs.Text.{Text}
-use Rattle.pick_meaning.specs.Rows.{rows_where}
+use Rattle.meaning_pick.specs.cells.Text.{Text}
+use Rattle.meaning_pick.specs.Rows.{rows_where}
 
 -- equal labels, where equal texts have one number
 abbrev pub same_number : Label → Label → Bool

@@ -5,3 +5,6 @@ pub mod Picks
 pub mod Splits
 pub mod Found
 pub mod Known
+-- definitions of crates below, passed on to the crates above
+pub use Rattle.meaning_pick.specs.cells as cells
+pub use Rattle.meaning_pick.specs as pick

@@ -1,7 +1,7 @@
 -- What a call answers for a label or a slice.
 use Rattle.std.specs.Prelude.{◌≡◌, Result, Ok, Err}
 use Rattle.cell_core.specs.declared.cell.Label.{Label}
-use Rattle.pick_meaning.specs.Faults.{PickFault, not_there, bound_not_unique}
+use Rattle.meaning_pick.specs.Faults.{PickFault, not_there, bound_not_unique}
 use Rattle.index_core.specs.declared.fault.IndexFault.{IndexFault}
 use Rattle.index_core.specs.declared.fault.IndexFault.TheVariants.{NotThere, BoundNotUnique, NoMemory}
 

@@ -1,8 +1,8 @@
 -- A list that is split by a test.
 use Rattle.std.specs.Prelude.{◌≡◌, ℕ, ◌<◌, ◌≤◌, Bool, true, false, not, List, length, slice_index_or, Option}
 use Rattle.cell_core.specs.declared.cell.Label.{Label}
-use Rattle.meaning.specs.Text.{Text}
-use Rattle.pick_meaning.specs.Slices.{reaches, stays_within}
+use Rattle.meaning_pick.specs.cells.Text.{Text}
+use Rattle.meaning_pick.specs.Slices.{reaches, stays_within}
 use Rattle.index_core.specs.Labels.{order_in}
 
 -- from a place on all pass the test, and before it none does

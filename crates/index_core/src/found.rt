@@ -1,6 +1,6 @@
 // The rows of each label of a list.
 ghost use Rattle.std.specs.Prelude.{◌≡◌, ◌++◌, OnOk, IfOk};
-ghost use Rattle.pick_meaning.specs.Rows.{only_row, are_some};
+ghost use Rattle.meaning_pick.specs.Rows.{only_row, are_some};
 ghost use Rattle.index_core.specs.Labels.{places_in};
 ghost use Rattle.index_core.specs.Ranges.{range_labels};
 

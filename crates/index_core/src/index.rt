@@ -2,9 +2,9 @@
 ghost use Rattle.std.specs.Prelude.{◌≡◌, ◌^◌, ◌<◌, ◌≤◌, length, slice_get, Some, IfOk, All};
 ghost use Rattle.std.specs.Bool.{Decides};
 ghost use Rattle.cell_core.specs.Grids.{AreRowsBelow};
-ghost use Rattle.pick_meaning.specs.Labels.{rows_of_key, all_differ};
-ghost use Rattle.pick_meaning.specs.Rows.{rows_of};
-ghost use Rattle.pick_meaning.specs.Slices.{is_in_order, label_slice};
+ghost use Rattle.meaning_pick.specs.Labels.{rows_of_key, all_differ};
+ghost use Rattle.meaning_pick.specs.Rows.{rows_of};
+ghost use Rattle.meaning_pick.specs.Slices.{is_in_order, label_slice};
 ghost use Rattle.index_core.specs.Labels.{same_number, order_in, labels_at};
 ghost use Rattle.index_core.specs.Picks.{PicksBy, TellsBy, as_it_is};
 ghost use Rattle.index_core.specs.Ranges.{range_labels};

@@ -1,9 +1,9 @@
 // The places of labels in a list.
 ghost use Rattle.std.specs.Prelude.{◌≡◌, ◌<◌, ◌≤◌, true, length, IfOk};
 ghost use Rattle.cell_core.specs.Grids.{AreRowsBelow};
-ghost use Rattle.pick_meaning.specs.Labels.{rows_of_key, all_differ};
-ghost use Rattle.pick_meaning.specs.Rows.{rows_of};
-ghost use Rattle.pick_meaning.specs.Slices.{is_in_order, row_of_bound, first_row, end_row, label_slice};
+ghost use Rattle.meaning_pick.specs.Labels.{rows_of_key, all_differ};
+ghost use Rattle.meaning_pick.specs.Rows.{rows_of};
+ghost use Rattle.meaning_pick.specs.Slices.{is_in_order, row_of_bound, first_row, end_row, label_slice};
 ghost use Rattle.index_core.specs.Labels.{same_number, order_in};
 ghost use Rattle.index_core.specs.Picks.{PicksBy, TellsBy, as_it_is};
 ghost use Rattle.index_core.specs.Splits.{BeginsAt, EndsAt};
@@ -44,7 +44,7 @@ pub(crate) fn all_differ(alloc: Global, labels: &[Label]) -> Result<bool, NoMemo
 }
 
 // Whether no label is less than the one before.
-#[tactic(auto, using(pick_meaning::proofs::OrderLaws::order_kept))]
+#[tactic(auto, using(meaning_pick::proofs::OrderLaws::order_kept))]
 pub(crate) fn is_sorted(dict: &TextDict, labels: &[Label]) -> bool
     ensures { result ≡ is_in_order (order_in dict.now) labels.now }
 {

@@ -1,9 +1,8 @@
 -- Answers and refusals that are handed on.
 use Rattle.{
-  meaning.proofs.Common.{◌≡◌, ◌∙◌, sym, arith, ℕ, ◌<◌, true, false, List, [], ◌∷◌, All, Some, Result, Ok, Err, length, refl, map, slice_index_or, get_or-map, IfOk, slice_get, pointwise, Label},
-  index_core.specs.Labels.{same_number},
+  column_core.proofs.cells.Common.{◌≡◌, ◌∙◌, sym, arith, ℕ, ◌<◌, true, false, List, [], ◌∷◌, All, Some, Result, Ok, Err, length, refl, map, slice_index_or, get_or-map, IfOk, slice_get, pointwise, Label},
+  index_core.{specs.{Labels.{same_number}, pick.{Faults.{PickFault, not_there, pick_seen}, Keys.{Pick}, Labels.{unless_none, rows_of_key}, Leading.{leads}, Rows.{rows_where, are_some}}}, proofs.pick.RowLaws.{some_there, rows_where-same}},
   multi_index.{specs.Axes.{HaveLevels, single_tuples}, proofs.{PickLaws.{rows_seen}, TupleLaws.{only_label_is}}},
-  pick_meaning.{specs.{Faults.{PickFault, not_there, pick_seen}, Keys.{Pick}, Labels.{unless_none, rows_of_key}, Leading.{leads}, Rows.{rows_where, are_some}}, proofs.RowLaws.{some_there, rows_where-same}},
   indexers.specs.{declared.keys.{Picked.{Picked}, KeyFault.{KeyFault}}, Picks.{PicksBy, pick_of, as_it_is}},
 }
 

@@ -3,3 +3,5 @@ pub mod AnswerLaws
 pub mod SpanLaws
 pub mod MaskLaws
 pub mod TextLaws
+-- laws of crates below, passed on to the crates above
+pub use Rattle.index_core.proofs.pick as pick

@@ -1,9 +1,8 @@
 -- Masks, by position and by labels.
 use Rattle.{
-  meaning.proofs.Common.{◌≡◌, ◌∙◌, ap, sym, refl, arith, ℕ, ◌+◌, ◌<◌, Bool, true, false, List, [], ◌∷◌, length, map, All, Some, Ok, Err, slice_index_or, ◌&&◌, same_from_decides, get_or-map, length-map, All-head, All-tail, get_or_from_slice_get, slice_get_within, slice_get, Decides, pointwise, pointwise_decides, as_long, Cell, Label},
-  index_core.{specs.Labels.{same_number}, proofs.NumberLaws.{label_decides}},
+  column_core.proofs.cells.Common.{◌≡◌, ◌∙◌, ap, sym, refl, arith, ℕ, ◌+◌, ◌<◌, Bool, true, false, List, [], ◌∷◌, length, map, All, Some, Ok, Err, slice_index_or, ◌&&◌, same_from_decides, get_or-map, length-map, All-head, All-tail, get_or_from_slice_get, slice_get_within, slice_get, Decides, pointwise, pointwise_decides, as_long, Cell, Label},
+  index_core.{specs.{Labels.{same_number}, pick.{Faults.{no_mask_label, pick_seen}, Masks.{cell_or_fault, kept_rows, kept_by_label, masked_rows}, Rows.{rows_where, only_row}}}, proofs.{NumberLaws.{label_decides}, pick.{InsideLaws.{rows_inside}, RowLaws.{when_so, when_not}, SeenLaws.{kept_by_label-map}}}},
   multi_index.specs.Axes.{HaveLevels, single_tuples},
-  pick_meaning.{specs.{Faults.{no_mask_label, pick_seen}, Masks.{cell_or_fault, kept_rows, kept_by_label, masked_rows}, Rows.{rows_where, only_row}}, proofs.{InsideLaws.{rows_inside}, RowLaws.{when_so, when_not}, SeenLaws.{kept_by_label-map}}},
   indexers.specs.Masks.{is_true, as_tuple},
 }
 

@@ -1,8 +1,7 @@
 -- Rows at equal distances.
 use Rattle.{
-  meaning.proofs.Common.{◌≡◌, sym, subst, refl, arith, ℕ, zero, suc, ◌+◌, ◌-◌, ◌≤◌, ℤ, pos, negsuc, true, false, List, [], ◌∷◌, ◌++◌, map, nat_tests, map-range_with_len_more, unsigned_abs, int_lt, ◌≢◌, div_ceil, range_with_len, AreRowsBelow},
-  index_core.proofs.NumberLaws.{run_rows},
-  pick_meaning.{specs.Rows.{rows_of}, proofs.PositionLaws.{forward_below, backward_below}},
+  column_core.proofs.cells.Common.{◌≡◌, sym, subst, refl, arith, ℕ, zero, suc, ◌+◌, ◌-◌, ◌≤◌, ℤ, pos, negsuc, true, false, List, [], ◌∷◌, ◌++◌, map, nat_tests, map-range_with_len_more, unsigned_abs, int_lt, ◌≢◌, div_ceil, range_with_len, AreRowsBelow},
+  index_core.{proofs.{NumberLaws.{run_rows}, pick.PositionLaws.{forward_below, backward_below}}, specs.pick.Rows.{rows_of}},
 }
 
 -- one place more

@@ -1,8 +1,7 @@
 -- Masks, and labels of which none stands twice, with the texts themselves; and a slice that goes back.
 use Rattle.{
-  meaning.proofs.Common.{◌≡◌, refl, arith, ℕ, suc, negsuc, zero, Bool, List, [], ◌∷◌, map, All, Some, None, Ok, list_any, pointwise, AreDistinct, IsGivenLabel, datum, label_datum, Cell, Label, Text},
-  pick_meaning.{specs.{Faults.{pick_seen}, Labels.{all_differ}, Masks.{is_kept, masked_rows}, Positions.{backward, position_slice}}, proofs.SeenLaws.{pointwise-map, masked_rows-map}},
-  index_core.{specs.Labels.{same_number}, proofs.TextLaws.{same_text, number_alike}},
+  column_core.proofs.cells.Common.{◌≡◌, refl, arith, ℕ, suc, negsuc, zero, Bool, List, [], ◌∷◌, map, All, Some, None, Ok, list_any, pointwise, AreDistinct, IsGivenLabel, datum, label_datum, Cell, Label, Text},
+  index_core.{specs.{pick.{Faults.{pick_seen}, Labels.{all_differ}, Masks.{is_kept, masked_rows}, Positions.{backward, position_slice}}, Labels.{same_number}}, proofs.{pick.SeenLaws.{pointwise-map, masked_rows-map}, TextLaws.{same_text, number_alike}}},
   indexers.specs.Masks.{is_true},
 }
 

@@ -1,8 +1,8 @@
 -- Keys that are answered one after the other.
 use Rattle.{
-  meaning.proofs.Common.{arith, ◌≡◌, ℕ, ◌+◌, ◌<◌, ℤ, Bool, List, [], ◌∷◌, ◌++◌, length, drop, slice_index_or, Result, Ok, Err, if◌then◌else◌, drop_more},
+  column_core.proofs.cells.Common.{arith, ◌≡◌, ℕ, ◌+◌, ◌<◌, ℤ, Bool, List, [], ◌∷◌, ◌++◌, length, drop, slice_index_or, Result, Ok, Err, if◌then◌else◌, drop_more},
   std.proofs.lemmas.List.{append_assoc},
-  pick_meaning.specs.{Faults.{PickFault, then_pick}, Labels.{rows_of_key, rows_of_keys}, Masks.{cell_of_label, kept_by_label}, Positions.{row_at, rows_at}},
+  index_core.specs.pick.{Faults.{PickFault, then_pick}, Labels.{rows_of_key, rows_of_keys}, Masks.{cell_of_label, kept_by_label}, Positions.{row_at, rows_at}},
 }
 
 -- the rows so far, before those that are still to come

@@ -1,7 +1,7 @@
 -- Keys as they are meant.
 use Rattle.std.specs.Prelude.{ℕ, List, IfSome}
 use Rattle.cell_core.specs.declared.cell.Label.{Label}
-use Rattle.pick_meaning.specs.Keys.{LabelKey, all_rows, one_key, each_key, between, PlaceKey, one_place, each_place, place_slice}
+use Rattle.index_core.specs.pick.Keys.{LabelKey, all_rows, one_key, each_key, between, PlaceKey, one_place, each_place, place_slice}
 use Rattle.multi_index.specs.Axes.{HaveLevels, AreLeading}
 use Rattle.indexers.specs.declared.keys.LocKey.{LocKey}
 use Rattle.indexers.specs.declared.keys.LocKey.TheVariants as loc

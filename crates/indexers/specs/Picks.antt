@@ -5,11 +5,11 @@ use Rattle.std.specs.Option.{is_some}
 use Rattle.cell_core.specs.Grids.{AreRowsBelow}
 use Rattle.cell_core.specs.declared.cell.Label.{Label}
 use Rattle.cell_core.specs.declared.grid.Rows.{Rows}
-use Rattle.pick_meaning.specs.Faults.{PickFault, not_there, bound_not_unique, out_of_range, no_mask_label, step_zero, pick_seen}
-use Rattle.meaning.specs.Text.{Text}
-use Rattle.pick_meaning.specs.Keys.{Pick, LabelKey, picked_by_label}
-use Rattle.pick_meaning.specs.Masks.{cell_or_fault, cell_of_label, kept_by_label, masked_rows}
-use Rattle.pick_meaning.specs.Rows.{rows_of, only_row}
+use Rattle.index_core.specs.pick.Faults.{PickFault, not_there, bound_not_unique, out_of_range, no_mask_label, step_zero, pick_seen}
+use Rattle.column_core.specs.cells.Text.{Text}
+use Rattle.index_core.specs.pick.Keys.{Pick, LabelKey, picked_by_label}
+use Rattle.index_core.specs.pick.Masks.{cell_or_fault, cell_of_label, kept_by_label, masked_rows}
+use Rattle.index_core.specs.pick.Rows.{rows_of, only_row}
 use Rattle.index_core.specs.Labels.{same_number, order_in}
 use Rattle.multi_index.specs.Axes.{AxisValue}
 use Rattle.multi_index.specs.declared.fault.AxisFault.{AxisFault}

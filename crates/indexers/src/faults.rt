@@ -5,7 +5,7 @@ ghost use Rattle.cell_core.specs.Grids.{AreRowsBelow};
 ghost use Rattle.multi_index.specs.declared.fault.AxisFault.TheVariants.{TooManyLevels};
 ghost use Rattle.multi_index.specs.Axes.{AreLeading};
 ghost use Rattle.multi_index.specs.Picks.{leading_rows, leading_slice};
-ghost use Rattle.pick_meaning.specs.Rows.{rows_of};
+ghost use Rattle.index_core.specs.pick.Rows.{rows_of};
 ghost use Rattle.indexers.specs.Picks.{PicksBy, as_it_is, IsSameFault};
 
 use crate::keys::KeyFault;

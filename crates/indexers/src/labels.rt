@@ -1,8 +1,8 @@
 // The rows of labels.
 ghost use Rattle.std.specs.Prelude.{◌≡◌, ◌<◌, ◌==◌, ◌&&◌, ◌++◌, [], length, nat_lt, if◌then◌else◌, IfOk, OnOk, All};
-ghost use Rattle.pick_meaning.specs.Keys.{has_one};
-ghost use Rattle.pick_meaning.specs.Keys as key;
-ghost use Rattle.pick_meaning.specs.Rows.{are_some};
+ghost use Rattle.index_core.specs.pick.Keys.{has_one};
+ghost use Rattle.index_core.specs.pick.Keys as key;
+ghost use Rattle.index_core.specs.pick.Rows.{are_some};
 ghost use Rattle.multi_index.specs.Axes.{AreLeading, HaveLevels};
 ghost use Rattle.indexers.specs.Keys.{label_key, FitsLevels};
 ghost use Rattle.indexers.specs.Picks.{PicksBy, pick_of, loc_pick, IsSpanned};

@@ -2,7 +2,7 @@
 //!
 //! [`loc_places`], [`iloc_places`] and [`mask_places`] answer row numbers and look at no column but a mask's. The
 //! rules are those of the pandas user guide, "Indexing and selecting data" and "MultiIndex / advanced indexing";
-//! `pick_meaning` defines them. Axes have one to four levels.
+//! `meaning_pick` defines them. Axes have one to four levels.
 //!
 //! ```text
 //! let key = LocKey::Span(Some(Tuple::of(alloc, &[Label::Int(2)])), None);

@@ -1,7 +1,7 @@
 // The rows that a mask keeps.
 ghost use Rattle.std.specs.Prelude.{◌≡◌, ◌<◌, [], map, length, slice_index_or, IfOk, All};
 ghost use Rattle.cell_core.specs.declared.cell.Kind.TheVariants.{Boolean};
-ghost use Rattle.pick_meaning.specs.Masks.{kept_rows};
+ghost use Rattle.index_core.specs.pick.Masks.{kept_rows};
 ghost use Rattle.multi_index.specs.Axes.{HaveLevels};
 ghost use Rattle.indexers.specs.Masks.{is_true};
 ghost use Rattle.indexers.specs.Picks.{PicksBy, as_it_is, mask_rows, cell_at, rows_by_label, cell_there, rows_by_tuple};

@@ -2,10 +2,10 @@
 ghost use Rattle.std.specs.Prelude.{◌≡◌, ◌≢◌, ◌<◌, ◌≤◌, ◌-◌, pos, unsigned_abs, IfOk, All};
 ghost use Rattle.std.specs.Int.{div_ceil};
 ghost use Rattle.cell_core.specs.Grids.{AreRowsBelow};
-ghost use Rattle.meaning.specs.Place.{place_of as row_of};
-ghost use Rattle.pick_meaning.specs.Keys.{picked_by_place};
-ghost use Rattle.pick_meaning.specs.Keys as key;
-ghost use Rattle.pick_meaning.specs.Positions as meant;
+ghost use Rattle.column_core.specs.cells.Place.{place_of as row_of};
+ghost use Rattle.index_core.specs.pick.Keys.{picked_by_place};
+ghost use Rattle.index_core.specs.pick.Keys as key;
+ghost use Rattle.index_core.specs.pick.Positions as meant;
 ghost use Rattle.indexers.specs.Keys.{place_key};
 ghost use Rattle.indexers.specs.Picks.{PicksBy, pick_of, as_it_is, IsSpanned};
 

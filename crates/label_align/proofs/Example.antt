@@ -1,8 +1,5 @@
 -- Left b a a with right a c a, and what is found of them.
-use Rattle.{
-  meaning.proofs.Common.{◌≡◌, ◌==◌, [], ◌∷◌, Some, None, Ok, Err, nat_lt, refl},
-  align_meaning.specs.{Faults.{duplicate_labels}, Joins.{outer}, Targets.{reindexed}},
-}
+use Rattle.meaning_align.{proofs.cells.Common.{◌≡◌, ◌==◌, [], ◌∷◌, Some, None, Ok, Err, nat_lt, refl}, specs.{Faults.{duplicate_labels}, Joins.{outer}, Targets.{reindexed}}}
 
 joined : outer ◌==◌ nat_lt (2 ∷ 1 ∷ 1 ∷ []) (1 ∷ 3 ∷ 1 ∷ []) ≡ Ok record {
   keys = 1 ∷ 1 ∷ 1 ∷ 1 ∷ 2 ∷ 3 ∷ [];

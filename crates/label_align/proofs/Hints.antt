@@ -1,6 +1,6 @@
 -- Laws that the goals of functions want, by the name of the first that does.
 use Rattle.{
-  meaning.proofs.Common.{get_or-range_with_len, length-range_with_len},
+  meaning_align.proofs.cells.Common.{get_or-range_with_len, length-range_with_len},
   label_align.proofs.{OuterJoinLaws.{order_inside as rows_inside, counted_outer, total_outer, keys_inside, outer_shown, too_many}, TargetLaws.{as_they_are, found_in_sequence}},
   std.proofs.lemmas.Grind.{same_number_lists},
   index_core.proofs.SameLaws.{holds},

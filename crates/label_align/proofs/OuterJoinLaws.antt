@@ -1,12 +1,10 @@
 -- Entries, one more at a time, and how many there are.
 use Rattle.{
-  meaning.proofs.Common.{◌≡◌, ◌<◌, ◌≤◌, ◌+◌, ◌*◌, ℕ, List, [], ◌∷◌, ◌++◌, ◌∙◌, map, take, length, Option, Some, slice_index_or, arith, max, Ok, Err, suc, Bool, true, false, not, cond, filter, refl, ap, All, sym, ◌-◌, drop, subst, Result, zero, map-map, length-map, append-nil, take_more, map-append, drop-drop, ext_get_or, flat_map-map, flat_map-append, All-tail, All-map, filter-append, All-nil, All-cons, All-head, sum_by-cons, ranks_by, length-map-range_with_len, get_or-map-range_with_len, false≢true, nat_tests, tied_itself, take-append_seam, drop-append_seam, flat_map, list_any, range_with_len, Decides, IsStrictWeakOrder, pointwise, pointwise_decides, lists_total, slice_cmp-IsAntisymmetric, IfOk, All-append as all_append, distinct, Text, Label, AreDistinct, IsGivenLabel, LabelValue, label_datum, label_total},
+  meaning_align.{proofs.{cells.Common.{◌≡◌, ◌<◌, ◌≤◌, ◌+◌, ◌*◌, ℕ, List, [], ◌∷◌, ◌++◌, ◌∙◌, map, take, length, Option, Some, slice_index_or, arith, max, Ok, Err, suc, Bool, true, false, not, cond, filter, refl, ap, All, sym, ◌-◌, drop, subst, Result, zero, map-map, length-map, append-nil, take_more, map-append, drop-drop, ext_get_or, flat_map-map, flat_map-append, All-tail, All-map, filter-append, All-nil, All-cons, All-head, sum_by-cons, ranks_by, length-map-range_with_len, get_or-map-range_with_len, false≢true, nat_tests, tied_itself, take-append_seam, drop-append_seam, flat_map, list_any, range_with_len, Decides, IsStrictWeakOrder, pointwise, pointwise_decides, lists_total, slice_cmp-IsAntisymmetric, IfOk, All-append as all_append, distinct, Text, Label, AreDistinct, IsGivenLabel, LabelValue, label_datum, label_total}, OrderLaws.{all_flat, all_in_order, all_distinct, all_put_in}, pick.{RowLaws.{rows_where-append}, InsideLaws.{rows_inside}}}, specs.{Faults.{too_large}, Joins.{Entry, or_gap, entry, entries_with, entries_of, most_rows, lists_of, within_limit, outer_entries, keys_in_order}, OuterJoin.{IsOuterJoin, rows_of_key}, pick.Rows.{rows_where}}},
   std.{proofs.{lemmas.List.{length-append, append_assoc}, Math.ListN.{get_or-map}}, specs.List.Sorted.{ties, IsStableBy}},
-  align_meaning.{specs.{Faults.{too_large}, Joins.{Entry, or_gap, entry, entries_with, entries_of, most_rows, lists_of, within_limit, outer_entries, keys_in_order}, OuterJoin.{IsOuterJoin, rows_of_key}}, proofs.OrderLaws.{all_flat, all_in_order, all_distinct, all_put_in}},
   label_align.specs.{declared.{joined.{JoinedRows.{JoinedRows}, Joined.{Joined}}, runs.Run.{Run}, fault.AlignFault.{AlignFault}}, Joined.{HasMore, entries_seen, lists_seen, entries_shown}, Runs.{no_run, with_row, gathered, runs_from, rows_in, total, entries_in, run_entries, count_in, counted, tuple_of_row, label_of_row, same_row, AreGivenTuples}, Tuples.{tuple_seen, tuple_less, labels_of, row_less}, Answers.{AlignsBy}},
   sorting.{specs.Sorting.{put_in, in_order}, proofs.{SortLaws.{irreflexive, Ascends, in_order_ascends, in_order_ties, one_order}, OrderLaws.{in_order_same}}},
   row_keys.{proofs.{KeyLaws.{any_at}, RecodeLaws.{Apart, apart_distinct}}, specs.Keys.{same_tuple, label_in}},
-  pick_meaning.{specs.Rows.{rows_where}, proofs.{RowLaws.{rows_where-append}, InsideLaws.{rows_inside}}},
   cell_core.{specs.declared.cell.Label.TheVariants.{Na}, proofs.LabelLaws.{value_same}},
   index_core.proofs.{NumberLaws.{label_decides}, TextLaws.{label_one}},
   multi_index.specs.Axes.{HaveLevels, single_tuples, tuples_at},

@@ -1,10 +1,8 @@
 -- The row of each target, by codes.
 use Rattle.{
-  meaning.proofs.Common.{◌≡◌, ◌∙◌, ◌<◌, ◌≤◌, ◌==◌, ◌+◌, ℕ, zero, suc, Bool, true, false, cond, List, [], ◌∷◌, map, length, refl, ap, sym, slice_index_or, arith, All, Option, Some, None, Ok, Err, nat_lt, map-map, nat_tests, get_or-map, length-map, get_or-map-range_with_len, All-map, Decides, range_with_len, Label},
+  meaning_align.{proofs.cells.Common.{◌≡◌, ◌∙◌, ◌<◌, ◌≤◌, ◌==◌, ◌+◌, ℕ, zero, suc, Bool, true, false, cond, List, [], ◌∷◌, map, length, refl, ap, sym, slice_index_or, arith, All, Option, Some, None, Ok, Err, nat_lt, map-map, nat_tests, get_or-map, length-map, get_or-map-range_with_len, All-map, Decides, range_with_len, Label}, specs.{pick.Rows.{rows_where, only_row}, Faults.{duplicate_labels}, Targets.{first_where, first_repeated, unless_repeated, rows_of_targets, reindexed}}},
   std.proofs.Common.{le-ltb},
-  pick_meaning.specs.Rows.{rows_where, only_row},
   multi_index.proofs.LevelLaws.{maps_alike},
-  align_meaning.specs.{Faults.{duplicate_labels}, Targets.{first_where, first_repeated, unless_repeated, rows_of_targets, reindexed}},
   row_keys.{specs.{Keys.{same_tuple}, Buckets.{buckets_of}}, proofs.{KeyLaws.{position_in}, JoinLaws.{rank, count, left_known, right_known, bucket_of_key}}},
   label_align.{specs.Targets.{repeats_at, IsFirstRepeat, NoneBefore, NoneRepeats, row_below}, proofs.OuterJoinLaws.{tuples_decide, tuple_laws}},
 }

@@ -1,7 +1,7 @@
 -- What a call answers for what is meant.
 use Rattle.std.specs.Prelude.{◌≡◌, List, Result, Ok, Err}
 use Rattle.cell_core.specs.declared.cell.Label.{Label}
-use Rattle.align_meaning.specs.Faults.{AlignRefusal, duplicate_labels, too_large}
+use Rattle.meaning_align.specs.Faults.{AlignRefusal, duplicate_labels, too_large}
 use Rattle.label_align.specs.declared.fault.AlignFault.{AlignFault}
 use Rattle.label_align.specs.declared.fault.AlignFault.TheVariants.{DuplicateLabels, TooLarge, NoMemory}
 pub use Rattle.index_core.specs.Picks.{as_it_is}

@@ -2,7 +2,7 @@
 use Rattle.std.specs.Prelude.{◌≡◌, ℕ, List, ◌++◌, map}
 use Rattle.cell_core.specs.declared.cell.Label.{Label}
 use Rattle.multi_index.specs.Axes.{tuples_at}
-use Rattle.align_meaning.specs.Joins.{Entry, Lists}
+use Rattle.meaning_align.specs.Joins.{Entry, Lists}
 use Rattle.label_align.specs.declared.joined.JoinedRows.{JoinedRows}
 use Rattle.label_align.specs.declared.joined.Joined.{Joined}
 

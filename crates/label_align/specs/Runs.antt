@@ -3,7 +3,7 @@ use Rattle.std.specs.Prelude.{ℕ, ◌+◌, ◌-◌, ◌*◌, Bool, true, not, n
 use Rattle.std.specs.List.{sum_by}
 use Rattle.cell_core.specs.declared.cell.Label.{Label}
 use Rattle.cell_core.specs.Texts.{IsGivenLabel}
-use Rattle.align_meaning.specs.Joins.{Entry, entries_of}
+use Rattle.meaning_align.specs.Joins.{Entry, entries_of}
 use Rattle.row_keys.specs.Keys.{same_tuple, label_in}
 use Rattle.label_align.specs.declared.runs.Run.{Run}
 

@@ -5,7 +5,7 @@ use Rattle.std.specs.Ordering.{is_lt}
 use Rattle.std.specs.Cmp.{IsStrictWeakOrder}
 use Rattle.std.specs.Cmp.Lexicographic.{slice_cmp, lists_total}
 use Rattle.std.proofs.lemmas.List.Sorted.{ranks_by}
-use Rattle.meaning.specs.Text.{Text}
+use Rattle.meaning_align.specs.cells.Text.{Text}
 use Rattle.cell_core.specs.declared.cell.Label.{Label}
 use Rattle.cell_core.specs.Values.{LabelValue, label_cmp, label_datum}
 use Rattle.cell_core.proofs.LabelLaws.{label_total}

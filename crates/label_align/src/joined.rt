@@ -1,6 +1,6 @@
 // Entries of the outer join, kept as three lists.
 ghost use Rattle.std.specs.Prelude.{◌≡◌, ◌∷◌, ◌-◌, ◌≤◌, [], length, map, IfOk, OnOk};
-ghost use Rattle.align_meaning.specs.Joins.{entry, entries_with, entries_of, lists_of};
+ghost use Rattle.meaning_align.specs.Joins.{entry, entries_with, entries_of, lists_of};
 ghost use Rattle.label_align.specs.Joined.{HasMore, entries_seen};
 ghost use Rattle.label_align.specs.Runs.{run_entries, total};
 

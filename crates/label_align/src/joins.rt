@@ -1,8 +1,8 @@
 // The outer join of two axes.
 ghost use Rattle.std.specs.Prelude.{◌≡◌, ◌<◌, ◌≤◌, ◌++◌, All, IfOk, None, length, replicate};
 ghost use Rattle.multi_index.specs.Axes.{HaveLevels};
-ghost use Rattle.align_meaning.specs.Joins as meant;
-ghost use Rattle.align_meaning.specs.OuterJoin.{IsOuterJoin};
+ghost use Rattle.meaning_align.specs.Joins as meant;
+ghost use Rattle.meaning_align.specs.OuterJoin.{IsOuterJoin};
 ghost use Rattle.row_keys.specs.Keys.{same_tuple};
 ghost use Rattle.label_align.specs.Tuples.{tuple_less};
 ghost use Rattle.label_align.specs.Both.{tuples_of};

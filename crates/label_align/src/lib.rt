@@ -3,7 +3,7 @@
 //! [`outer`] joins two axes: all tuples of both sides in order, with each pair of their rows. [`reindex`]
 //! finds the row of each target tuple. Where both axes have the same tuples
 //! ([`multi_index::Axis::same_labels`], a test without memory) rows meet by position, and a caller joins
-//! nothing. What is answered is defined in `align_meaning`.
+//! nothing. What is answered is defined in `meaning_align`.
 //!
 //! ```text
 //! let joined = outer(alloc, &dict, &a, &b)?;

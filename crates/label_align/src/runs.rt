@@ -1,7 +1,7 @@
 // Runs of rows in order that carry one key.
 ghost use Rattle.std.specs.Prelude.{◌≡◌, ◌<◌, ◌≤◌, ◌+◌, ◌^◌, All, IfOk, SomeIff, drop, length, slice_index};
 ghost use Rattle.multi_index.specs.Axes.{HaveLevels};
-ghost use Rattle.align_meaning.specs.Joins.{most_rows};
+ghost use Rattle.meaning_align.specs.Joins.{most_rows};
 ghost use Rattle.label_align.specs.Both.{tuples_of};
 ghost use Rattle.label_align.specs.Runs as runs;
 

@@ -3,8 +3,8 @@ ghost use Rattle.std.specs.Prelude.{◌≡◌, ◌<◌, ◌+◌, [], IfOk, Match
 ghost use Rattle.std.specs.Bool.{Decides};
 ghost use Rattle.std.specs.List.{range_with_len};
 ghost use Rattle.multi_index.specs.Axes.{HaveLevels};
-ghost use Rattle.pick_meaning.specs.Rows.{only_row};
-ghost use Rattle.align_meaning.specs.Targets.{reindexed};
+ghost use Rattle.meaning_align.specs.pick.Rows.{only_row};
+ghost use Rattle.meaning_align.specs.Targets.{reindexed};
 ghost use Rattle.row_keys.specs.Keys.{same_tuple};
 ghost use Rattle.label_align.specs.Answers.{AlignsBy, as_it_is};
 ghost use Rattle.label_align.specs.Targets.{IsFirstRepeat, NoneRepeats, row_below};

@@ -1,11 +1,9 @@
 -- Values behind values, as cells.
 use Rattle.{
-  meaning.proofs.Common.{◌≡◌, ◌+◌, ◌-◌, ℕ, zero, suc, Bool, false, List, [], ◌∷◌, ◌++◌, length, take, replicate, map, refl, arith, Option, None, append_assoc, ◌<◌, ◌≤◌, true, cond, drop, slice_index_or, Some, Ok, Err, nat_lt, take_all, map-append, length-map, take_rest, map-range_with_len_more, length-flat_map, list_all-map, and_parts, same_from_decides, range_with_len, list_all, flat_map, Bor, Decides, pointwise, Cell, Na, Kind, Label, tabulate, ColumnValue, CellValue, datum},
+  column_core.{proofs.{cells.Common.{◌≡◌, ◌+◌, ◌-◌, ℕ, zero, suc, Bool, false, List, [], ◌∷◌, ◌++◌, length, take, replicate, map, refl, arith, Option, None, append_assoc, ◌<◌, ◌≤◌, true, cond, drop, slice_index_or, Some, Ok, Err, nat_lt, take_all, map-append, length-map, take_rest, map-range_with_len_more, length-flat_map, list_all-map, and_parts, same_from_decides, range_with_len, list_all, flat_map, Bor, Decides, pointwise, Cell, Na, Kind, Label, tabulate, ColumnValue, CellValue, datum}, ColumnLaws.{length-tabulate}, CellRows.{pushed_column}}, specs.{Lanes.{IsPushed}, Columns.{CellColumn, column_value}}},
   std.{proofs.{Common.{lt-ltb, le-ltb}, lemmas.Option.{cond_some}}, specs.List.{All}},
-  column_core.{specs.{Lanes.{IsPushed}, Columns.{CellColumn, column_value}}, proofs.{ColumnLaws.{length-tabulate}, CellRows.{pushed_column}}},
   merge_concat.specs.{Growing.{cells_of_values}, declared.parts.Part.{Part}, Parts.{part_kind, part_column, kind_of_all, cells_below, count_below}, Axes.{tuples_of_each}},
-  align_meaning.specs.Joins.{most_rows},
-  join_meaning.specs.Concat.{mixed_kinds, too_large, same_kind, column_below, rows_concatenated, are_equal},
+  meaning_join.specs.{align.Joins.{most_rows}, Concat.{mixed_kinds, too_large, same_kind, column_below, rows_concatenated, are_equal}},
   multi_index.specs.Axes.{AxisValue},
   row_keys.specs.Keys.{same_tuple},
   label_align.proofs.SameLaws.{tuples_decide},

@@ -1,12 +1,9 @@
 -- How often a pair stands among pairs.
 use Rattle.{
-  meaning.proofs.Common.{rules, ◌≡◌, ◌<◌, ◌+◌, ◌*◌, ◌&&◌, ◌++◌, refl, arith, ℕ, zero, suc, Bool, not, cond, List, [], ◌∷◌, map, filter, length, length-append, slice_index_or, nat_eq, Option, Some, None, ◌∙◌, ◌≤◌, sym, true, All, inl, inr, take, ap, max, Result, Ok, Err, slice_index, set, min, nat_lt, subst, false, drop, ne_eqb, eq-eqb, false≢true, eqb-true, cases_lt, eqb-false, map-id, map-append, append-nil, take_more, length-take-le, length-map, length-set, get_or-set_same, get_or-set_other, filter-append, All-head, All-tail, All-map, All-take, All-drop, sum_by-cons, flat_map-map, list_any-append, flat_map-append, length-flat_map, map-range_with_len_more, length-range_with_len, get_or-range_with_len, fill_by_all, length-map-range_with_len, map-map, take-append_seam, drop-append_seam, list_any, flat_map, range_with_len, position_or_len, option_map, IfOk, IsEquivalence, IsStrictWeakOrder, Decides, All-append as all_append, Label, Text, distinct, Side},
+  column_core.{proofs.cells.Common.{rules, ◌≡◌, ◌<◌, ◌+◌, ◌*◌, ◌&&◌, ◌++◌, refl, arith, ℕ, zero, suc, Bool, not, cond, List, [], ◌∷◌, map, filter, length, length-append, slice_index_or, nat_eq, Option, Some, None, ◌∙◌, ◌≤◌, sym, true, All, inl, inr, take, ap, max, Result, Ok, Err, slice_index, set, min, nat_lt, subst, false, drop, ne_eqb, eq-eqb, false≢true, eqb-true, cases_lt, eqb-false, map-id, map-append, append-nil, take_more, length-take-le, length-map, length-set, get_or-set_same, get_or-set_other, filter-append, All-head, All-tail, All-map, All-take, All-drop, sum_by-cons, flat_map-map, list_any-append, flat_map-append, length-flat_map, map-range_with_len_more, length-range_with_len, get_or-range_with_len, fill_by_all, length-map-range_with_len, map-map, take-append_seam, drop-append_seam, list_any, flat_map, range_with_len, position_or_len, option_map, IfOk, IsEquivalence, IsStrictWeakOrder, Decides, All-append as all_append, Label, Text, distinct, Side}, specs.Moves.{IsPlaceOf}},
   std.{proofs.{Common.{lt-ltb, le-ltb}, lemmas.List.{append_assoc, Sums.{sum_by_more_le, sum_by-le-sum_by, sum_by_push}, FromFn.{take-map-range_with_len}}}, specs.List.{sum_by}},
-  align_meaning.{specs.{Joins.{or_gap, most_rows, Entry, entries_with, entries_of, keys_in_order}, Targets.{first_where, first_repeated}}, proofs.OrderLaws.{all_flat, all_in_order}},
-  pick_meaning.{specs.Rows.{rows_where}, proofs.{RowLaws.{rows_where-map}, InsideLaws.{rows_inside}}},
-  join_meaning.specs.{Pairs.{Pair, pair, exchanged, partners, pairs_from, JoinRefusal, within_limit, too_large, pair_of_entry, key_pairs, RepeatedKey, repeated_key, unless_repeated, joined, not_one_to_one, repeated_on, or_else}, declared.{How.{How, TheVariants.{Inner, Left, Right, Outer}}, Validate.{Validate}}},
+  meaning_join.{specs.{align.{Joins.{or_gap, most_rows, Entry, entries_with, entries_of, keys_in_order}, Targets.{first_where, first_repeated}}, pick.Rows.{rows_where}, Pairs.{Pair, pair, exchanged, partners, pairs_from, JoinRefusal, within_limit, too_large, pair_of_entry, key_pairs, RepeatedKey, repeated_key, unless_repeated, joined, not_one_to_one, repeated_on, or_else}, declared.{How.{How, TheVariants.{Inner, Left, Right, Outer}}, Validate.{Validate}}}, proofs.{align.OrderLaws.{all_flat, all_in_order}, pick.{RowLaws.{rows_where-map}, InsideLaws.{rows_inside}}}},
   merge_concat.specs.{Joining.{same_row, how_often, once_if, same_pair, turned, AreAlike, IsJoin, IsJoinOf, JoinsAreAlike, SidesExchange, ExchangeChangesOrder, keeps_left, keeps_right}, declared.{pairs.{Pairs.{Pairs}, PairLists.{PairLists}}, fault.MergeFault.{MergeFault}}, Codes.{pairs_with, pairs_of, pairs_at, outer_pairs, count_of, count_with, counted_by_row, counted_by_key, repeated_from, AreCounts, keys_of, is_outer, code_pairs, repeated_in}, Pairs.{AreListed, HasMore, IsJoined, JoinsBy}},
-  column_core.specs.Moves.{IsPlaceOf},
   cell_core.specs.declared.cell.Label.TheVariants.{Na},
   row_keys.{specs.{Keys.{same_tuple, place_among}, Buckets.{rows_of_code, buckets_of}}, proofs.{PartnerLaws.{tuple_laws}, KeyLaws.{place_tells, position_in, any_at}, FillLaws.{rows_more}, RecodeLaws.{All-distinct}}},
   label_align.{proofs.{OrderLaws.{below_range}, SameLaws.{tuple_decides}, LawOfJoins.{tuple_weak}, OuterJoinLaws.{in_order_keeps, once}}, specs.Tuples.{tuple_less}},
@@ -14,7 +11,7 @@ use Rattle.{
   multi_index.specs.Axes.{HaveLevels},
 }
 use Rattle.factorize.proofs.KeyNumberLaws as numbers
-use Rattle.meaning.specs.Fault as side
+use Rattle.column_core.specs.cells.Fault as side
 
 module _ {X : Type 0} where
   abbrev pub count : (X → Bool) → List X → ℕ

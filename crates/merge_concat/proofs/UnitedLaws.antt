@@ -1,14 +1,12 @@
 -- Tuples of axes that are put one below the other, level by level.
 use Rattle.{
-  meaning.proofs.Common.{◌≡◌, ◌+◌, ◌-◌, ◌<◌, ℕ, zero, suc, true, List, [], ◌∷◌, ◌++◌, length, map, take, drop, replicate, slice_index_or, refl, arith, append_assoc, not, ◌≤◌, ◌&&◌, Bool, false, ◌==◌, slice_get, Some, None, append-nil, get_or-map, length-map, drop_more, drop_all, length-replicate, flat_map-map, All-append, All-tail, filter_more, get_or_from_slice_get, eqb-false, flat_map, list_any, Bor, Label, distinct},
+  column_core.proofs.cells.Common.{◌≡◌, ◌+◌, ◌-◌, ◌<◌, ℕ, zero, suc, true, List, [], ◌∷◌, ◌++◌, length, map, take, drop, replicate, slice_index_or, refl, arith, append_assoc, not, ◌≤◌, ◌&&◌, Bool, false, ◌==◌, slice_get, Some, None, append-nil, get_or-map, length-map, drop_more, drop_all, length-replicate, flat_map-map, All-append, All-tail, filter_more, get_or_from_slice_get, eqb-false, flat_map, list_any, Bor, Label, distinct},
   std.{proofs.lemmas.List.{length-append}, specs.List.{filter}},
   multi_index.specs.Axes.{AxisValue, HaveLevels, nameless_axis, single_tuples, tuples_with, with_level, tuples_at},
   row_keys.{specs.{Keys.{label_in, same_tuple, first_rows}, Partners.{rows_with}}, proofs.RecodeLaws.{drop_none, first_keys}},
   label_align.proofs.{EntryLaws.{flat_map_more}, SameLaws.{tuple_decides, tuple_laws}},
-  join_meaning.specs.Concat.{labels_under, united, repeated_on_any},
+  meaning_join.specs.{Concat.{labels_under, united, repeated_on_any}, pick.Rows.{rows_where}, align.Targets.{first_repeated}},
   merge_concat.specs.Axes.{tuples_of_each, tuples_in, keys_below},
-  pick_meaning.specs.Rows.{rows_where},
-  align_meaning.specs.Targets.{first_repeated},
 }
 
 pub lists_of_axes : (axes : List (Bor AxisValue)) → flat_map (λ tuples. tuples) (tuples_of_each axes) ≡ tuples_in axes

@@ -3,7 +3,7 @@ use Rattle.std.specs.Prelude.{◌≡◌, ℕ, ◌+◌, ◌≤◌, List, [], ◌�
 use Rattle.std.specs.List.{flat_map}
 use Rattle.std.specs.Borrow.{Bor}
 use Rattle.cell_core.specs.declared.cell.Label.{Label}
-use Rattle.join_meaning.specs.Concat.{labels_under}
+use Rattle.meaning_join.specs.Concat.{labels_under}
 use Rattle.multi_index.specs.Axes.{AxisValue}
 
 -- the tuples of each axis

@@ -2,13 +2,13 @@
 use Rattle.std.specs.Prelude.{◌≡◌, ◌+◌, ◌*◌, ◌<◌, ◌≤◌, ℕ, nat_eq, nat_lt, if◌then◌else◌, Bool, true, false, List, [], ◌∷◌, ◌++◌, map, max, min, length, slice_index, slice_index_or, Option, Some, None, option_map}
 use Rattle.std.specs.List.{flat_map, sum_by, range_with_len}
 use Rattle.cell_core.specs.declared.cell.Label.{Label}
-use Rattle.meaning.specs.Text.{Text}
-use Rattle.align_meaning.specs.Joins.{or_gap, most_rows}
-use Rattle.join_meaning.specs.declared.How.{How}
-use Rattle.join_meaning.specs.declared.How.TheVariants.{Inner, Left, Right, Outer}
-use Rattle.join_meaning.specs.Pairs.{Pair, pair, exchanged, pairs_from}
+use Rattle.column_core.specs.cells.Text.{Text}
+use Rattle.meaning_join.specs.align.Joins.{or_gap, most_rows}
+use Rattle.meaning_join.specs.declared.How.{How}
+use Rattle.meaning_join.specs.declared.How.TheVariants.{Inner, Left, Right, Outer}
+use Rattle.meaning_join.specs.Pairs.{Pair, pair, exchanged, pairs_from}
 use Rattle.row_keys.specs.Buckets.{rows_of_code}
-use Rattle.group_meaning.specs.Keys.{group_keys}
+use Rattle.factorize.specs.group.Keys.{group_keys}
 use Rattle.factorize.specs.Keys.{seen_rules}
 
 -- the keys of both sides, each once, in order where they are to be sorted

@@ -1,10 +1,10 @@
 -- What a call answers for what is put together.
 use Rattle.std.specs.Prelude.{◌≡◌, List, Result, Ok, Err}
 use Rattle.cell_core.specs.declared.cell.Label.{Label}
-use Rattle.join_meaning.specs.Concat.{ConcatRefusal, mixed_kinds, repeated_label, too_large}
+use Rattle.meaning_join.specs.Concat.{ConcatRefusal, mixed_kinds, repeated_label, too_large}
 use Rattle.merge_concat.specs.declared.fault.MergeFault.{MergeFault}
 use Rattle.merge_concat.specs.declared.fault.MergeFault.TheVariants.{NotOneToOne, DuplicateLabels, MixedKinds, TooLarge, NoMemory}
-pub use Rattle.index_core.specs.Picks.{as_it_is}
+pub use Rattle.label_align.specs.index_core.Picks.{as_it_is}
 
 -- what is answered is what is meant, as it is seen, or the fault is; want of memory may come in place of any answer
 abbrev pub ConcatsBy : {A B : Type 0} → (A → B) → Result A MergeFault → Result B (ConcatRefusal (List Label)) → Type 0

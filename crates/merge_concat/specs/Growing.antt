@@ -1,7 +1,7 @@
 -- The cells of rows that grow.
 use Rattle.std.specs.Prelude.{Bool, List, length, Option}
 use Rattle.cell_core.specs.declared.cell.Cell.{Cell}
-use Rattle.meaning.specs.Column.{tabulate}
+use Rattle.column_core.specs.cells.Column.{tabulate}
 use Rattle.column_core.specs.Lanes.{option_at, lane_row}
 use Rattle.column_core.specs.declared.lanes.Owned.{Owned}
 use Rattle.column_core.specs.declared.lanes.Lane.{Lane}

@@ -2,9 +2,9 @@
 use Rattle.std.specs.Prelude.{◌≡◌, ◌<◌, ◌&&◌, ℕ, nat_eq, Bool, true, false, not, if◌then◌else◌, List, All, map, filter, length, slice_index_or, Option, Some, None}
 use Rattle.std.specs.List.{list_any}
 use Rattle.column_core.specs.Moves.{IsPlaceOf}
-use Rattle.join_meaning.specs.declared.How.{How}
-use Rattle.join_meaning.specs.declared.How.TheVariants.{Inner, Left, Right, Outer}
-use Rattle.join_meaning.specs.Pairs.{Pair, pair, exchanged}
+use Rattle.meaning_join.specs.declared.How.{How}
+use Rattle.meaning_join.specs.declared.How.TheVariants.{Inner, Left, Right, Outer}
+use Rattle.meaning_join.specs.Pairs.{Pair, pair, exchanged}
 use Rattle.merge_concat.specs.declared.pairs.Pairs.{Pairs}
 use Rattle.merge_concat.specs.Pairs.{ArePairs}
 

@@ -1,8 +1,8 @@
 -- What a join answers for what is meant.
 use Rattle.std.specs.Prelude.{◌≡◌, List, ◌++◌, map, Result, Ok, Err}
 use Rattle.cell_core.specs.declared.cell.Label.{Label}
-use Rattle.meaning.specs.FaultOf.{side_of}
-use Rattle.join_meaning.specs.Pairs.{Pair, JoinRefusal, not_one_to_one, too_large}
+use Rattle.column_core.specs.cells.FaultOf.{side_of}
+use Rattle.meaning_join.specs.Pairs.{Pair, JoinRefusal, not_one_to_one, too_large}
 use Rattle.merge_concat.specs.declared.fault.MergeFault.{MergeFault}
 use Rattle.merge_concat.specs.declared.fault.MergeFault.TheVariants.{NotOneToOne, DuplicateLabels, MixedKinds, TooLarge, NoMemory}
 use Rattle.merge_concat.specs.declared.pairs.Pairs.{Pairs}

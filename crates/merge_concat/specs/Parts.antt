@@ -6,7 +6,7 @@ use Rattle.cell_core.specs.declared.cell.Kind.TheVariants.{Int64}
 use Rattle.cell_core.specs.declared.cell.Cell.{Cell}
 use Rattle.cell_core.specs.declared.cell.Cell.TheVariants as cell
 use Rattle.column_core.specs.Columns.{CellColumn}
-use Rattle.join_meaning.specs.Concat.{same_kind}
+use Rattle.meaning_join.specs.Concat.{same_kind}
 use Rattle.merge_concat.specs.declared.parts.Part.{Part}
 use Rattle.merge_concat.specs.declared.parts.Part.TheVariants.{Cells, Missing}
 

@@ -2,7 +2,7 @@
 ghost use Rattle.std.specs.Prelude.{◌≡◌, ◌≤◌, ◌<◌, ◌^◌, List, ℕ, map, All, IfOk, MatchOption};
 ghost use Rattle.cell_core.specs.declared.cell.Kind.TheVariants.{Int64};
 ghost use Rattle.column_core.specs.Columns.{column_value};
-ghost use Rattle.join_meaning.specs.Concat.{rows_concatenated};
+ghost use Rattle.meaning_join.specs.Concat.{rows_concatenated};
 ghost use Rattle.merge_concat.specs.Concats.{ConcatsBy};
 ghost use Rattle.merge_concat.specs.Parts.{part_kind, part_column, kind_of_all, cells_below, count_below};
 

@@ -1,9 +1,9 @@
 // Axes side by side.
 ghost use Rattle.std.specs.Prelude.{◌≡◌, ◌≤◌, ◌++◌, [], false, length, filter, IfOk, All};
 ghost use Rattle.std.specs.List.{list_any, list_all, flat_map};
-ghost use Rattle.align_meaning.specs.Targets.{first_repeated};
-ghost use Rattle.join_meaning.specs.Concat.{are_equal, first_axis, repeated_on_any, united, labels_within_limit, labels_concatenated};
-ghost use Rattle.meaning.specs.Reduce.{distinct};
+ghost use Rattle.meaning_join.specs.align.Targets.{first_repeated};
+ghost use Rattle.meaning_join.specs.Concat.{are_equal, first_axis, repeated_on_any, united, labels_within_limit, labels_concatenated};
+ghost use Rattle.column_core.specs.cells.Reduce.{distinct};
 ghost use Rattle.multi_index.specs.Axes.{HaveLevels};
 ghost use Rattle.row_keys.specs.Keys.{same_tuple};
 ghost use Rattle.merge_concat.specs.Concats.{ConcatsBy, as_it_is};

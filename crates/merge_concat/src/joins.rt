@@ -1,7 +1,7 @@
 // Rows of two sides whose keys are equal.
 ghost use Rattle.std.specs.Prelude.{◌≡◌, ◌≤◌, ◌++◌, IfOk};
 ghost use Rattle.multi_index.specs.Axes.{HaveLevels};
-ghost use Rattle.join_meaning.specs.Pairs.{joined};
+ghost use Rattle.meaning_join.specs.Pairs.{joined};
 ghost use Rattle.row_keys.specs.Keys.{same_tuple};
 ghost use Rattle.label_align.specs.Tuples.{tuple_less};
 ghost use Rattle.factorize.specs.Keys.{levels_of};
@@ -16,7 +16,7 @@ use crate::repeats::repeated_key;
 use crate::sides::SideCodes;
 use cell_core::{Side, TextDict, Tuples};
 use factorize::{KeyLevels, KeyTuples};
-use join_meaning::{How, Validate};
+use meaning_join::{How, Validate};
 use std::alloc::Global;
 
 // Whether the rows of both sides stay, and the keys are sorted.

@@ -3,7 +3,7 @@
 //! [`join_rows`] joins the rows of two sides by their keys, as the cells of some columns ([`factorize::KeyColumns`]), and
 //! [`join_pairs`] tuples of labels. [`concat_rows`] and [`concat_parts`] put columns one below the other, where a part may
 //! lack the column; [`axis_below`] puts labels of rows so, with a label for each part if there are such.
-//! [`concat_columns`] has the labels of axes that are put side by side. What is answered is defined in `join_meaning`.
+//! [`concat_columns`] has the labels of axes that are put side by side. What is answered is defined in `meaning_join`.
 //!
 //! ```text
 //! let once = Validate { left: true, right: false };

@@ -1,7 +1,7 @@
 // Pairs of rows.
 ghost use Rattle.std.specs.Prelude.{◌≡◌, ◌∷◌, ◌<◌, [], map, nat_eq, Some, OnOk, IfOk, MatchOption};
-ghost use Rattle.align_meaning.specs.Joins.{most_rows};
-ghost use Rattle.join_meaning.specs.Pairs.{pair, partners, pairs_from, within_limit};
+ghost use Rattle.meaning_join.specs.align.Joins.{most_rows};
+ghost use Rattle.meaning_join.specs.Pairs.{pair, partners, pairs_from, within_limit};
 ghost use Rattle.merge_concat.specs.Codes.{pairs_with, pairs_of, outer_pairs, code_pairs};
 ghost use Rattle.merge_concat.specs.Codes.{counted_by_row, counted_by_key, IsCount};
 ghost use Rattle.merge_concat.specs.Pairs.{ArePairs, AreListed, HasMore, JoinsBy};
@@ -9,7 +9,7 @@ ghost use Rattle.merge_concat.specs.Pairs.{ArePairs, AreListed, HasMore, JoinsBy
 use crate::fault::MergeFault;
 use crate::sides::{CodedRows, SideCodes, coded_rows};
 use cell_core::{Gaps, NoMemory};
-use join_meaning::How;
+use meaning_join::How;
 use std::alloc::Global;
 
 /// The rows of a join: for each the row of either side that it comes from, if there is one.

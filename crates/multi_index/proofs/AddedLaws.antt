@@ -1,6 +1,6 @@
 -- One more level, first or last.
 use Rattle.{
-  meaning.proofs.Common.{◌≡◌, ap, refl, arith, ℕ, zero, suc, ◌+◌, ◌-◌, ◌<◌, ◌≤◌, Bool, true, false, List, [], ◌∷◌, ◌++◌, length, take, set, replicate, slice_index_or, take-append_seam, length_push, take_more, length-take-le, All-cons, All-head, All-tail, Label},
+  index_core.proofs.cells.Common.{◌≡◌, ap, refl, arith, ℕ, zero, suc, ◌+◌, ◌-◌, ◌<◌, ◌≤◌, Bool, true, false, List, [], ◌∷◌, ◌++◌, length, take, set, replicate, slice_index_or, take-append_seam, length_push, take_more, length-take-le, All-cons, All-head, All-tail, Label},
   std.proofs.{Math.Seq.{set-append_seam, take-append-add}, lemmas.List.{append_assoc}},
   multi_index.specs.Axes.{HaveLevels, with_one, first_of, tuples_with},
 }

@@ -1,6 +1,6 @@
 -- Laws that the goals of functions want, by the name of the first that does.
 use Rattle.{
-  meaning.proofs.Common.{length-drop, length-range_with_len, length-remove, length-swap},
+  index_core.proofs.cells.Common.{length-drop, length-range_with_len, length-remove, length-swap},
   multi_index.proofs.LevelLaws.{levels_below, level_removed, levels_dropped, levels_swapped},
 }
 

@@ -1,8 +1,7 @@
 -- Some levels of an axis, by their places.
 use Rattle.{
-  meaning.proofs.Common.{◌≡◌, ◌∙◌, ap, sym, refl, arith, ℕ, ◌+◌, ◌<◌, List, [], ◌∷◌, ◌++◌, length, map, take, drop, set, remove, swap, slice_index_or, Option, None, All, take_more, take_more_set, map_more, map-append, map-id, map-set, take-map, drop-map, get_or-map, length-map, All-head, All-tail, All-map, fill_by_all, length-range_with_len, get_or-range_with_len, map-range_with_len_more, range_with_len, Label},
+  index_core.{proofs.cells.Common.{◌≡◌, ◌∙◌, ap, sym, refl, arith, ℕ, ◌+◌, ◌<◌, List, [], ◌∷◌, ◌++◌, length, map, take, drop, set, remove, swap, slice_index_or, Option, None, All, take_more, take_more_set, map_more, map-append, map-id, map-set, take-map, drop-map, get_or-map, length-map, All-head, All-tail, All-map, fill_by_all, length-range_with_len, get_or-range_with_len, map-range_with_len_more, range_with_len, Label}, specs.Labels.{labels_at}},
   cell_core.specs.declared.cell.Label.TheVariants.{Na},
-  index_core.specs.Labels.{labels_at},
   multi_index.specs.Axes.{AxisValue, HaveLevels, at_levels, without_level, without_leading, with_swapped},
 }
 

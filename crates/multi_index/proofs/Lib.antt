@@ -7,3 +7,7 @@ pub mod LevelLaws
 pub mod ListedLaws
 pub mod AddedLaws
 pub mod Hints
+-- laws of crates below, passed on to the crates above
+pub use Rattle.index_core.proofs as index_core
+pub use Rattle.index_core.proofs.cells as cells
+pub use Rattle.index_core.proofs.pick as pick

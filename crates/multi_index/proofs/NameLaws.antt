@@ -1,6 +1,6 @@
 -- The names of an axis among the four that it has room for.
 use Rattle.{
-  meaning.proofs.Common.{◌≡◌, ℕ, ◌<◌, ◌≤◌, List, length, take, slice_set, Option, ap, arith, length-take, Label},
+  index_core.proofs.cells.Common.{◌≡◌, ℕ, ◌<◌, ◌≤◌, List, length, take, slice_set, Option, ap, arith, length-take, Label},
   std.proofs.Math.Seq.{take-set-lt},
   multi_index.specs.Axes.{AxisValue, with_name},
 }

@@ -1,9 +1,7 @@
 -- What one level answers, as the answer of an axis.
 use Rattle.{
-  meaning.proofs.Common.{arith, ◌≡◌, List, [], ◌∷◌, length, Option, Some, Result, Err, slice_get, Label, Text},
+  index_core.{proofs.{cells.Common.{arith, ◌≡◌, List, [], ◌∷◌, length, Option, Some, Result, Err, slice_get, Label, Text}, pick.SeenLaws.{single_rows, single_slice}}, specs.{Labels.{same_number, order_in}, declared.fault.IndexFault.{IndexFault}, pick.{Faults.{PickFault, pick_seen}, Labels.{rows_of_key}, Leading.{leads, leading_cmp}, Slices.{label_slice}}}},
   std.specs.Option.{option_map},
-  index_core.specs.{Labels.{same_number, order_in}, declared.fault.IndexFault.{IndexFault}},
-  pick_meaning.{specs.{Faults.{PickFault, pick_seen}, Labels.{rows_of_key}, Leading.{leads, leading_cmp}, Slices.{label_slice}}, proofs.SeenLaws.{single_rows, single_slice}},
   multi_index.{specs.{Axes.{single_tuples}, Picks.{PicksOr, axis_fault}}, proofs.TupleLaws.{only_label_is}},
 }
 use Rattle.index_core.specs.Picks as index

@@ -1,7 +1,6 @@
 -- Axes whose tuples are the same.
 use Rattle.{
-  meaning.proofs.Common.{◌≡◌, ◌∙◌, ℕ, ◌<◌, Bool, List, [], ◌∷◌, length, refl, ap, sym, arith, Some, slice_index_or, slice_get-get_or, slice_get, Decides, Label},
-  index_core.proofs.SameLaws.{all_same},
+  index_core.proofs.{cells.Common.{◌≡◌, ◌∙◌, ℕ, ◌<◌, Bool, List, [], ◌∷◌, length, refl, ap, sym, arith, Some, slice_index_or, slice_get-get_or, slice_get, Decides, Label}, SameLaws.{all_same}},
   multi_index.specs.Axes.{AxisValue, HaveLevels, single_tuples, label_at},
 }
 

@@ -1,6 +1,6 @@
 -- Labels of tuples, one more at a time.
 use Rattle.{
-  meaning.proofs.Common.{arith, ◌≡◌, ◌∙◌, ℕ, ◌+◌, ◌<◌, ◌≤◌, List, [], ◌∷◌, ◌++◌, map, take, set, length, ap, Some, slice_index_or, take_more, take_all, take_more_set, map_more, slice_get-get_or, get_or_from_slice_get, slice_get, Label},
+  index_core.proofs.cells.Common.{arith, ◌≡◌, ◌∙◌, ℕ, ◌+◌, ◌<◌, ◌≤◌, List, [], ◌∷◌, ◌++◌, map, take, set, length, ap, Some, slice_index_or, take_more, take_all, take_more_set, map_more, slice_get-get_or, get_or_from_slice_get, slice_get, Label},
   std.proofs.lemmas.List.{append_assoc},
   cell_core.specs.declared.cell.Label.TheVariants.{Na},
   multi_index.specs.Axes.{AxisValue, label_at},

@@ -1,8 +1,7 @@
 -- The tuples of an axis.
 use Rattle.{
-  meaning.proofs.Common.{◌≡◌, ℕ, ◌+◌, ◌<◌, List, [], ◌∷◌, ◌++◌, length, take, slice_get, slice_index_or, Some, All, refl, arith, suc, take_more, map-append, get_or-map, length-map, All-map, get_or_from_slice_get, Label},
+  index_core.{proofs.cells.Common.{◌≡◌, ℕ, ◌+◌, ◌<◌, List, [], ◌∷◌, ◌++◌, length, take, slice_get, slice_index_or, Some, All, refl, arith, suc, take_more, map-append, get_or-map, length-map, All-map, get_or_from_slice_get, Label}, specs.Labels.{labels_at}},
   cell_core.specs.declared.cell.Label.TheVariants.{Na},
-  index_core.specs.Labels.{labels_at},
   multi_index.specs.Axes.{HaveLevels, single_tuples, tuples_at},
 }
 

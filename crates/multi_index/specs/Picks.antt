@@ -1,11 +1,11 @@
 -- What an axis answers for leading labels or a slice.
 use Rattle.std.specs.Prelude.{◌≡◌, ℕ, ◌<◌, List, [], ◌∷◌, length, Option, Result, Ok, Err}
 use Rattle.cell_core.specs.declared.cell.Label.{Label}
-use Rattle.meaning.specs.Text.{Text}
-use Rattle.pick_meaning.specs.Faults.{PickFault, not_there, bound_not_unique}
-use Rattle.pick_meaning.specs.Labels.{rows_of_key}
-use Rattle.pick_meaning.specs.Leading.{leads, leading_cmp}
-use Rattle.pick_meaning.specs.Slices.{slice_on}
+use Rattle.index_core.specs.cells.Text.{Text}
+use Rattle.index_core.specs.pick.Faults.{PickFault, not_there, bound_not_unique}
+use Rattle.index_core.specs.pick.Labels.{rows_of_key}
+use Rattle.index_core.specs.pick.Leading.{leads, leading_cmp}
+use Rattle.index_core.specs.pick.Slices.{slice_on}
 use Rattle.index_core.specs.Labels.{same_number, order_in}
 use Rattle.index_core.specs.declared.fault.IndexFault.{IndexFault}
 use Rattle.index_core.specs.declared.fault.IndexFault.TheVariants as index

@@ -3,10 +3,10 @@ ghost use Rattle.std.specs.Prelude.{◌≡◌, ◌^◌, ◌<◌, ◌≤◌, ◌�
 ghost use Rattle.std.specs.Bool.{Decides};
 ghost use Rattle.std.specs.Option.{option_copied, option_map};
 ghost use Rattle.cell_core.specs.Grids.{AreRowsBelow};
-ghost use Rattle.pick_meaning.specs.Labels.{rows_of_key};
-ghost use Rattle.pick_meaning.specs.Leading.{leads, leading_cmp};
-ghost use Rattle.pick_meaning.specs.Rows.{rows_of};
-ghost use Rattle.pick_meaning.specs.Slices.{label_slice};
+ghost use Rattle.index_core.specs.pick.Labels.{rows_of_key};
+ghost use Rattle.index_core.specs.pick.Leading.{leads, leading_cmp};
+ghost use Rattle.index_core.specs.pick.Rows.{rows_of};
+ghost use Rattle.index_core.specs.pick.Slices.{label_slice};
 ghost use Rattle.index_core.specs.Labels.{same_number, order_in};
 ghost use Rattle.multi_index.specs.Axes.{HaveLevels, AreLeading, nameless_axis, range_axis, single_tuples, tuples_at, label_at, with_name, taken_axis, at_levels, without_level, without_leading, with_swapped, with_level};
 ghost use Rattle.multi_index.specs.Picks.{AddsLevel, PicksBy, TellsBy, as_it_is, axis_fault, leading_rows, leading_slice};

@@ -2,10 +2,10 @@
 ghost use Rattle.std.specs.Prelude.{◌≡◌, true, not, length, IfOk};
 ghost use Rattle.std.specs.Option.{option_copied};
 ghost use Rattle.cell_core.specs.Grids.{AreRowsBelow};
-ghost use Rattle.pick_meaning.specs.Labels.{rows_of_key};
-ghost use Rattle.pick_meaning.specs.Leading.{leads, leading_cmp};
-ghost use Rattle.pick_meaning.specs.Rows.{rows_of};
-ghost use Rattle.pick_meaning.specs.Slices.{is_in_order, reaches, stays_within, leading_slice, unfound_slice};
+ghost use Rattle.index_core.specs.pick.Labels.{rows_of_key};
+ghost use Rattle.index_core.specs.pick.Leading.{leads, leading_cmp};
+ghost use Rattle.index_core.specs.pick.Rows.{rows_of};
+ghost use Rattle.index_core.specs.pick.Slices.{is_in_order, reaches, stays_within, leading_slice, unfound_slice};
 ghost use Rattle.index_core.specs.Labels.{same_number, order_in};
 ghost use Rattle.index_core.specs.Splits.{IsSplitAt};
 ghost use Rattle.multi_index.specs.Picks.{PicksBy, TellsBy, as_it_is};

@@ -1,8 +1,7 @@
 -- The numbers that texts are.
 use Rattle.{
-  meaning.{proofs.Common.{◌≡◌, ℕ, zero, suc, ◌<◌, true, List, [], ◌∷◌, slice_index, arith, ℤ, Option, Some, None, option_map, FitsSigned, w64, lt-ltb, ltb-true, eqb-true, IsUtf8-from_ascii, IsNumeralModel, numerals_by_value, IsAscii, IsUtf8, digits_value, TextId, Int64, Boolean, datum, text_of, cast_cell}, specs.Cast.{numeral_value, whole_number, truth_value, truth_of_number}},
+  column_core.{proofs.cells.Common.{◌≡◌, ℕ, zero, suc, ◌<◌, true, List, [], ◌∷◌, slice_index, arith, ℤ, Option, Some, None, option_map, FitsSigned, w64, lt-ltb, ltb-true, eqb-true, IsUtf8-from_ascii, IsNumeralModel, numerals_by_value, IsAscii, IsUtf8, digits_value, TextId, Int64, Boolean, datum, text_of, cast_cell}, specs.{cells.Cast.{numeral_value, whole_number, truth_value, truth_of_number}, Columns.{number_cell, truth_cell, text_cell}}},
   std.{proofs.lemmas.Str.Parse.{tells_all_ascii_digits}, specs.Str.{all_ascii_digits, Parse.{IsNumeral, without_leading_sign, signed_digits_value}}},
-  column_core.specs.Columns.{number_cell, truth_cell, text_cell},
   nullable_array.specs.Casts.{partial_cast},
 }
 

@@ -1,8 +1,7 @@
 -- What kernels answer, from rows of values to columns of cells.
 use Rattle.{
-  meaning.{proofs.Common.{suc, [], ◌∷◌, map, arith, ◌≡◌, ℕ, ℤ, List, refl, Option, Some, option_map, Result, Ok, Err, IfOk, range_with_len, Cell, Kind, Int64, CellValue, datum, AreGiven, ColumnValue, tabulate, try_each, column_of, cast_cell, cast_column}, specs.Column.{not_cast}},
+  column_core.{proofs.{cells.Common.{suc, [], ◌∷◌, map, arith, ◌≡◌, ℕ, ℤ, List, refl, Option, Some, option_map, Result, Ok, Err, IfOk, range_with_len, Cell, Kind, Int64, CellValue, datum, AreGiven, ColumnValue, tabulate, try_each, column_of, cast_cell, cast_column}, ColumnLaws.{given-plain}, CellRows.{map-map, each-rows}}, specs.{cells.Column.{not_cast}, Columns.{text_value, CellColumn, column_value, column_with, number_cell, number_given}, Rows.{try_rows, map_rows}}},
   nullable_array.specs.{declared.ops.ArrayFault.{ArrayFault}, Answers.{Answers}},
-  column_core.{specs.{Columns.{text_value, CellColumn, column_value, column_with, number_cell, number_given}, Rows.{try_rows, map_rows}}, proofs.{ColumnLaws.{given-plain}, CellRows.{map-map, each-rows}}},
 }
 
 -- given in each dictionary, so in one

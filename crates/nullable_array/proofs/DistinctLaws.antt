@@ -1,10 +1,9 @@
 -- The different values, seen one after another, are the different cells.
 use Rattle.{
-  meaning.proofs.Common.{◌≡◌, ℕ, ◌<◌, Bool, true, false, not, List, [], ◌∷◌, ◌++◌, length, map, refl, ap, sym, ◌∙◌, append_assoc, arith, Option, Some, None, Result, IfOk, fold, length-map, filter-append, same_from_decides, bytes_eq-Decides, beq, AllByRecursion, list_any, IsEquivalence, slice_cmp, is_eq, int_cmp, int_eq, bool_cmp, nat_cmp, ℤ, nat_eq, Cell, Int64, TextId, na_cell, datum, text_of, AreDistinct, AreGiven, tabulate, is_present, same_cell, distinct, distinct_count},
+  column_core.{proofs.cells.Common.{◌≡◌, ℕ, ◌<◌, Bool, true, false, not, List, [], ◌∷◌, ◌++◌, length, map, refl, ap, sym, ◌∙◌, append_assoc, arith, Option, Some, None, Result, IfOk, fold, length-map, filter-append, same_from_decides, bytes_eq-Decides, beq, AllByRecursion, list_any, IsEquivalence, slice_cmp, is_eq, int_cmp, int_eq, bool_cmp, nat_cmp, ℤ, nat_eq, Cell, Int64, TextId, na_cell, datum, text_of, AreDistinct, AreGiven, tabulate, is_present, same_cell, distinct, distinct_count}, specs.Columns.{CellColumn, column_value, column_with, number_cell, text_cell}},
   std.{proofs.{Common.{append-nil}, lemmas.Map.Text.{is_eq-slice_cmp}}, specs.List.{filter}},
   indexmap.specs.IndexSet.{insert_key},
   cell_core.specs.declared.cell.Kind.TheVariants.{Text as string},
-  column_core.specs.Columns.{CellColumn, column_value, column_with, number_cell, text_cell},
   nullable_array.{specs.{Folds.{folded}, Distincts.{present_values}}, proofs.FoldLaws.{values_folded, values_given, cells_present}},
 }
 

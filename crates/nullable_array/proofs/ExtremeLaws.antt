@@ -1,7 +1,6 @@
 -- The last of rows, told with a number that stands before all.
 use Rattle.{
-  meaning.proofs.Common.{◌≡◌, ℕ, ◌+◌, Bool, false, Option, None, arith, ℤ, unwrap_or, if◌then◌else◌, is_lt, Ordering},
-  column_core.specs.Rows.{flagged},
+  column_core.{proofs.cells.Common.{◌≡◌, ℕ, ◌+◌, Bool, false, Option, None, arith, ℤ, unwrap_or, if◌then◌else◌, is_lt, Ordering}, specs.Rows.{flagged}},
   nullable_array.{specs.Folds.{folded, greatest_step}, proofs.FoldLaws.{folded_more}},
 }
 

@@ -1,10 +1,9 @@
 -- What is gathered from rows is what is gathered from their cells.
 use Rattle.{
-  meaning.{proofs.Common.{◌≡◌, ℕ, zero, suc, ◌+◌, ◌<◌, Bool, true, false, not, ◌||◌, ◌&&◌, List, [], ◌∷◌, length, map, refl, ap, arith, ℤ, pos, ◌+ℤ◌, Option, Some, None, Ok, fold, beq, recursion_from_All, fold-map, map-range_with_len_more, int_wrap, AllByRecursion, range_with_len, Ordering, int_cmp, bool_cmp, nat_cmp, slice_cmp, Cell, Int, TextId, CellValue, na_cell, int_cell, truth_cell as truth_value_cell, datum, text_of, IsGiven, AreGiven, tabulate, is_present, present, number_in, reduction_cell}, specs.{Reduce.{lesser, greater, is_true, reduction_takes, reduce_column}, Operator.{cell_cmp}}},
+  column_core.{proofs.{cells.Common.{◌≡◌, ℕ, zero, suc, ◌+◌, ◌<◌, Bool, true, false, not, ◌||◌, ◌&&◌, List, [], ◌∷◌, length, map, refl, ap, arith, ℤ, pos, ◌+ℤ◌, Option, Some, None, Ok, fold, beq, recursion_from_All, fold-map, map-range_with_len_more, int_wrap, AllByRecursion, range_with_len, Ordering, int_cmp, bool_cmp, nat_cmp, slice_cmp, Cell, Int, TextId, CellValue, na_cell, int_cell, truth_cell as truth_value_cell, datum, text_of, IsGiven, AreGiven, tabulate, is_present, present, number_in, reduction_cell}, CellRows.{map-map}}, specs.{cells.{Reduce.{lesser, greater, is_true, reduction_takes, reduce_column}, Operator.{cell_cmp}}, Columns.{column_value, column_with, number_cell, truth_cell, text_cell}}},
   std.{proofs.lemmas.List.Sums.{fold_push}, specs.Int.{w64}},
   cell_core.specs.declared.cell.{Cell.TheVariants.{Bool as truth}, Kind.TheVariants.{Text as string}},
   nullable_array.specs.{declared.ops.Reduction.{Reduction, TheVariants.{Sum, Min, Max, Any, All, Count}}, Distincts.{present_values}, Folds.{step_row, folded, sum_step, one_of_truth, is_not_zero, least_step, greatest_step, reduction_of}},
-  column_core.{specs.Columns.{column_value, column_with, number_cell, truth_cell, text_cell}, proofs.CellRows.{map-map}},
 }
 
 -- one row more

@@ -1,6 +1,6 @@
 -- Numbers in order, of which each is kept once, are the different numbers.
 use Rattle.{
-  meaning.proofs.Common.{arith, ◌≡◌, ℕ, Bool, List, [], ◌∷◌, ◌++◌, length, refl, ap, sym, ◌∙◌, append_assoc, fold, Option, int_eq_equiv, ℤ, IsEquivalence, list_any, IsPermutation, IsSorted, int_cmp, int_eq, tabulate, distinct},
+  column_core.proofs.cells.Common.{arith, ◌≡◌, ℕ, Bool, List, [], ◌∷◌, ◌++◌, length, refl, ap, sym, ◌∙◌, append_assoc, fold, Option, int_eq_equiv, ℤ, IsEquivalence, list_any, IsPermutation, IsSorted, int_cmp, int_eq, tabulate, distinct},
   std.{specs.List.{IsDistinct, dedup, Retain.{IsFiltered, DiffersFromLast}}, proofs.{Common.{append-nil}, lemmas.{Cmp.{int_cmp_total}, List.{Filters.{dedup_is}, Kept.{IsStrictlySortedBy-dedup}, Sorted.{list_any-IsPermutation}}, Map.{Keys.{IsDistinct-from_sorted, IsDistinct-push}, Made.{length-from_same_keys}}}}},
   indexmap.specs.IndexSet.{insert_key},
   nullable_array.{specs.{Distincts.{present_values, then_value}, Folds.{folded}}, proofs.{FoldLaws.{values_folded}, DistinctLaws.{found-filter, all_seen}}},

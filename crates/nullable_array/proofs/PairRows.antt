@@ -1,7 +1,6 @@
 -- Rows that are pushed one after another.
 use Rattle.{
-  meaning.proofs.Common.{◌≡◌, ℕ, zero, suc, ◌+◌, ◌<◌, Bool, List, [], ◌∷◌, ◌++◌, length, slice_get, refl, arith, Option, Some, is_some, unwrap_or, inl, inr, cases_eq, get_or-append, get_or-append_seam},
-  column_core.specs.Rows.{flagged, AreWritten},
+  column_core.{proofs.cells.Common.{◌≡◌, ℕ, zero, suc, ◌+◌, ◌<◌, Bool, List, [], ◌∷◌, ◌++◌, length, slice_get, refl, arith, Option, Some, is_some, unwrap_or, inl, inr, cases_eq, get_or-append, get_or-append_seam}, specs.Rows.{flagged, AreWritten}},
   nullable_array.specs.Pairs.{AreFlagged, AreValued},
 }
 

@@ -1,6 +1,6 @@
 -- Numbers that are counted by marks at their places.
 use Rattle.{
-  meaning.proofs.Common.{◌≡◌, ℕ, ◌+◌, ◌≤◌, ℤ, Bool, cond, List, [], length, Option, arith, int_eq},
+  column_core.proofs.cells.Common.{◌≡◌, ℕ, ◌+◌, ◌≤◌, ℤ, Bool, cond, List, [], length, Option, arith, int_eq},
   indexmap.specs.IndexSet.{insert_key},
   nullable_array.{specs.{Distincts.{AreMarked, IsMarkedMore}, Folds.{step_row, folded}}, proofs.FoldLaws.{folded_more}},
 }

@@ -1,11 +1,10 @@
 -- What is gathered at each row is the cumulation of the cells.
 use Rattle.{
-  meaning.proofs.Common.{◌≡◌, ℕ, zero, suc, ◌+◌, Bool, true, List, map, refl, sym, ap, arith, ℤ, pos, ◌+ℤ◌, Option, Some, None, unwrap_or, Ok, map-range_with_len_more, int_wrap, int_cmp, range_with_len, Cell, Kind, Int64, Boolean, CellValue, na_cell, datum, tabulate, reduction_cell, is_present, number_in, running, unless_missing, cumulation_cell, cumulation_takes, cumulate_column},
+  column_core.{proofs.{cells.Common.{◌≡◌, ℕ, zero, suc, ◌+◌, Bool, true, List, map, refl, sym, ap, arith, ℤ, pos, ◌+ℤ◌, Option, Some, None, unwrap_or, Ok, map-range_with_len_more, int_wrap, int_cmp, range_with_len, Cell, Kind, Int64, Boolean, CellValue, na_cell, datum, tabulate, reduction_cell, is_present, number_in, running, unless_missing, cumulation_cell, cumulation_takes, cumulate_column}, CellRows.{map-map}}, specs.Columns.{CellColumn, column_value, column_with, number_cell, truth_cell}},
   std.specs.Int.{w64},
-  column_core.{specs.Columns.{CellColumn, column_value, column_with, number_cell, truth_cell}, proofs.CellRows.{map-map}},
   nullable_array.{specs.{declared.ops.{Cumulation.{Cumulation}, Reduction.TheVariants.{Min, Max}}, Folds.{folded, sum_step, running_step, running_row, one_of_truth, least_step, greatest_step, cumulation_of}}, proofs.FoldLaws.{folded_more, folded_seen, numbers_reduced}},
 }
-use Rattle.meaning.specs.Reduce as reduction
+use Rattle.column_core.specs.cells.Reduce as reduction
 use Rattle.nullable_array.specs.declared.ops.Cumulation.TheVariants as cumulations
 
 -- a sum that has begun

@@ -1,6 +1,6 @@
 -- Laws of the spaces at the ends of a text.
 use Rattle.{
-  meaning.{proofs.Common.{◌≡◌, ◌≤◌, [], ◌∷◌, length, refl, arith, Text, after_spaces}, specs.Cast.{without_spaces}},
+  column_core.{proofs.cells.Common.{◌≡◌, ◌≤◌, [], ◌∷◌, length, refl, arith, Text, after_spaces}, specs.cells.Cast.{without_spaces}},
   std.proofs.lemmas.List.{length-reverse, reverse-reverse},
 }
 

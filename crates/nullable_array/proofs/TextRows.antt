@@ -1,9 +1,8 @@
 -- Laws of the texts of rows.
 use Rattle.{
-  meaning.proofs.Common.{◌≡◌, ℕ, ◌+◌, ◌<◌, List, ◌++◌, length, take, slice_set, arith, append_assoc, Bool, Option, is_some, unwrap_or, inl, inr, get_or-append, cases_eq, take_at, TextId, text_of, AreGiven, IsLonger, tabulate},
+  column_core.{proofs.{cells.Common.{◌≡◌, ℕ, ◌+◌, ◌<◌, List, ◌++◌, length, take, slice_set, arith, append_assoc, Bool, Option, is_some, unwrap_or, inl, inr, get_or-append, cases_eq, take_at, TextId, text_of, AreGiven, IsLonger, tabulate}, ColumnLaws.{given-tabulate}, CellRows.{map-map, range-same}, RowsMade.{option-set_same, option-set_other}}, specs.{Lanes.{option_at}, Columns.{CellColumn, text_cell, text_value, column_value, column_with}, Rows.{IsTextRow, AreTexts}}},
   std.proofs.lemmas.List.{length-append},
   cell_core.specs.declared.cell.Kind.TheVariants.{Text as string},
-  column_core.{specs.{Lanes.{option_at}, Columns.{CellColumn, text_cell, text_value, column_value, column_with}, Rows.{IsTextRow, AreTexts}}, proofs.{ColumnLaws.{given-tabulate}, CellRows.{map-map, range-same}, RowsMade.{option-set_same, option-set_other}}},
 }
 
 pub longer_trans : (a b c : List (List ℕ)) → IsLonger a b → IsLonger b c → IsLonger a c

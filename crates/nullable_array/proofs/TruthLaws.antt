@@ -1,9 +1,8 @@
 -- Truth values are told by two flags: whether one is True, and whether all are.
 use Rattle.{
-  meaning.proofs.Common.{◌∙◌, ◌≡◌, ℕ, Bool, true, false, not, ◌&&◌, ◌||◌, List, [], ◌∷◌, length, length-append, refl, arith, Option, fold, beq, list_any-append, list_any, tabulate, distinct, distinct_count, Boolean},
+  column_core.{proofs.cells.Common.{◌∙◌, ◌≡◌, ℕ, Bool, true, false, not, ◌&&◌, ◌||◌, List, [], ◌∷◌, length, length-append, refl, arith, Option, fold, beq, list_any-append, list_any, tabulate, distinct, distinct_count, Boolean}, specs.Columns.{CellColumn, column_value, column_with, truth_cell}},
   std.specs.Cmp.{bool_eq_equiv},
   indexmap.specs.IndexSet.{insert_key},
-  column_core.specs.Columns.{CellColumn, column_value, column_with, truth_cell},
   nullable_array.{specs.Distincts.{present_values, truths_told, truths_of}, proofs.{DistinctLaws.{all_seen, distinct_seen, truths_apart, anything}, FoldLaws.{values_folded}}},
 }
 

@@ -1,8 +1,8 @@
 -- What a call answers.
 use Rattle.std.specs.Prelude.{◌≡◌, ℕ, List, Result, Ok, Err}
 use Rattle.cell_core.specs.declared.cell.Cell.{Cell}
-use Rattle.meaning.specs.Cell.{CellValue, datum}
-use Rattle.meaning.specs.Column.{ColumnValue, ColumnFault, kind_mismatch, zero_division, not_cast}
+use Rattle.column_core.specs.cells.Cell.{CellValue, datum}
+use Rattle.column_core.specs.cells.Column.{ColumnValue, ColumnFault, kind_mismatch, zero_division, not_cast}
 use Rattle.nullable_array.specs.declared.ops.ArrayFault.{ArrayFault}
 use Rattle.nullable_array.specs.declared.ops.ArrayFault.TheVariants.{KindMismatch, ZeroDivision, NotCast, NoMemory}
 use Rattle.column_core.specs.Columns.{CellColumn, column_value}

@@ -6,8 +6,8 @@ use Rattle.std.specs.List.{range_with_len}
 use Rattle.std.specs.declared.cmp.Ordering.{Ordering}
 use Rattle.cell_core.specs.declared.cell.Kind.{Kind}
 use Rattle.cell_core.specs.declared.cell.Kind.TheVariants.{Int64, Boolean}
-use Rattle.meaning.specs.Reduce as reduction
-use Rattle.meaning.specs.Cumulate as cumulation
+use Rattle.column_core.specs.cells.Reduce as reduction
+use Rattle.column_core.specs.cells.Cumulate as cumulation
 use Rattle.nullable_array.specs.declared.ops.Cumulation.{Cumulation}
 use Rattle.nullable_array.specs.declared.ops.Cumulation.TheVariants as running
 use Rattle.nullable_array.specs.declared.ops.Reduction.{Reduction}

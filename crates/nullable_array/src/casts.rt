@@ -1,9 +1,9 @@
 // Casts of columns.
 ghost use Rattle.std.specs.Prelude.{◌≡◌, ◌<◌, ℕ, List, true, false, Option, Some, None, IfOk, reverse};
 ghost use Rattle.cell_core.specs.declared.cell.Kind.TheVariants.{Int64, Boolean};
-ghost use Rattle.meaning.specs.Cell.{datum, text_of, AreGiven, IsLonger};
-ghost use Rattle.meaning.specs.Column.{column_of, not_cast};
-ghost use Rattle.meaning.specs.Cast.{after_spaces, without_spaces, numeral_value, whole_number, truth_value, truth_of_number, number_of_truth, cast_column};
+ghost use Rattle.column_core.specs.cells.Cell.{datum, text_of, AreGiven, IsLonger};
+ghost use Rattle.column_core.specs.cells.Column.{column_of, not_cast};
+ghost use Rattle.column_core.specs.cells.Cast.{after_spaces, without_spaces, numeral_value, whole_number, truth_value, truth_of_number, number_of_truth, cast_column};
 ghost use Rattle.column_core.specs.Columns.{column_value, column_with, truth_cell};
 ghost use Rattle.column_core.specs.Views.{borrowed_column};
 ghost use Rattle.column_core.specs.Rows.{try_rows, map_rows};

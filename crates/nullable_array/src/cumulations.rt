@@ -1,7 +1,7 @@
 // Cumulations of columns.
 ghost use Rattle.std.specs.Prelude.{◌≡◌, ◌<◌, ℕ, List, length, Option, Some, None, IfOk, if◌then◌else◌};
-ghost use Rattle.meaning.specs.Cell.{AreGiven};
-ghost use Rattle.meaning.specs.Cumulate.{cumulate_column};
+ghost use Rattle.column_core.specs.cells.Cell.{AreGiven};
+ghost use Rattle.column_core.specs.cells.Cumulate.{cumulate_column};
 ghost use Rattle.cell_core.specs.declared.cell.Kind.TheVariants.{Int64};
 ghost use Rattle.column_core.specs.Columns.{column_value, column_with, number_cell};
 ghost use Rattle.column_core.specs.Views.{borrowed_column};

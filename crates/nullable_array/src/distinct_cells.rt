@@ -2,9 +2,9 @@
 ghost use Rattle.std.specs.Prelude.{◌≡◌, ℕ, ℤ, pos, ◌+ℤ◌, List, [], length, IfSome, IfOk, OnOk};
 ghost use Rattle.std.specs.Ordering.{int_eq};
 ghost use Rattle.indexmap.specs.IndexSet.{insert_key};
-ghost use Rattle.meaning.specs.Cell.{AreDistinct, AreGiven};
-ghost use Rattle.meaning.specs.Column.{tabulate};
-ghost use Rattle.meaning.specs.Reduce.{distinct_count, distinct as each_once};
+ghost use Rattle.column_core.specs.cells.Cell.{AreDistinct, AreGiven};
+ghost use Rattle.column_core.specs.cells.Column.{tabulate};
+ghost use Rattle.column_core.specs.cells.Reduce.{distinct_count, distinct as each_once};
 ghost use Rattle.column_core.specs.Columns.{column_value};
 ghost use Rattle.nullable_array.specs.Distincts.{present_values, then_value, truths_of, AreMarked, IsMarkedMore};
 ghost use Rattle.nullable_array.specs.Folds.{step_row};

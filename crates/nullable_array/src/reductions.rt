@@ -1,8 +1,8 @@
 // Reductions of columns.
 ghost use Rattle.std.specs.Prelude.{◌≡◌, true, ◌<◌, ℕ, List, IfOk};
 ghost use Rattle.cell_core.specs.declared.cell.Kind.TheVariants.{Int64, Boolean, Text as string};
-ghost use Rattle.meaning.specs.Cell.{datum, holds, AreGiven, IsGiven};
-ghost use Rattle.meaning.specs.Reduce.{reduction_cell, reduce_column};
+ghost use Rattle.column_core.specs.cells.Cell.{datum, holds, AreGiven, IsGiven};
+ghost use Rattle.column_core.specs.cells.Reduce.{reduction_cell, reduce_column};
 ghost use Rattle.column_core.specs.Columns.{column_value, column_with, number_cell, truth_cell};
 ghost use Rattle.column_core.specs.Views.{borrowed_column};
 ghost use Rattle.nullable_array.specs.Folds.{reduction_of, reduced_kind};

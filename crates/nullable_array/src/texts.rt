@@ -2,9 +2,9 @@
 ghost use Rattle.std.specs.Prelude.{◌≡◌, ◌<◌, ℕ, [], List, length, Option, Some, option_map, IfOk, string_bytes};
 ghost use Rattle.std.specs.Fmt.{signed_decimal};
 ghost use Rattle.cell_core.specs.declared.cell.Kind.TheVariants.{Text as string};
-ghost use Rattle.meaning.specs.Cell.{AreGiven, IsLonger};
-ghost use Rattle.meaning.specs.Column.{tabulate};
-ghost use Rattle.meaning.specs.Cast.{truth_text};
+ghost use Rattle.column_core.specs.cells.Cell.{AreGiven, IsLonger};
+ghost use Rattle.column_core.specs.cells.Column.{tabulate};
+ghost use Rattle.column_core.specs.cells.Cast.{truth_text};
 ghost use Rattle.column_core.specs.Columns.{text_value, column_value};
 ghost use Rattle.column_core.specs.Rows.{text_if, IsTextRow, AreTexts};
 

@@ -1,6 +1,6 @@
 -- Bytes put at an end one piece after another.
 use Rattle.{
-  meaning.proofs.Common.{◌≡◌, ℕ, List, [], ◌++◌, Option, append_assoc, arith, append-nil},
+  meaning_cells.proofs.Common.{◌≡◌, ℕ, List, [], ◌++◌, Option, append_assoc, arith, append-nil},
   outside_io.specs.Sink.{appended},
 }
 

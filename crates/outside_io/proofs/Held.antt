@@ -1,6 +1,6 @@
 -- Held files: one of them, and other bytes for one of them.
 use Rattle.{
-  meaning.proofs.Common.{◌≡◌, ◌≢◌, ℕ, zero, suc, ◌<◌, ◌≤◌, nat_eq, List, [], ◌∷◌, ◌++◌, length, get_or, set, refl, ap, arith, eqb-true, eq-eqb, Vec},
+  meaning_cells.proofs.Common.{◌≡◌, ◌≢◌, ℕ, zero, suc, ◌<◌, ◌≤◌, nat_eq, List, [], ◌∷◌, ◌++◌, length, get_or, set, refl, ap, arith, eqb-true, eq-eqb, Vec},
   outside_io.specs.{declared.shelf.{HeldFile.{HeldFile}, Reading.{Reading, TheVariants.{Replaced}}}, Shelf.{bytes_at, with_bytes, reading_bytes, least_held, kept_reading}},
 }
 

@@ -1,6 +1,6 @@
 -- How far a fetched file was read, and what that says of the file that is held.
 use Rattle.{
-  meaning.proofs.Common.{arith, ◌≡◌, ◌<◌, ℕ, List, ◌++◌, length, Option, Some, IfSome, Text, Contents},
+  meaning_cells.proofs.Common.{arith, ◌≡◌, ◌<◌, ℕ, List, ◌++◌, length, Option, Some, IfSome, Text, Contents},
   outside_io.specs.{declared.files.Fetch.TheVariants.{Fetched}, Files.{Fetches}, Whole.{IsWholeFile, IsLonger}},
 }
 

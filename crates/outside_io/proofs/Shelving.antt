@@ -1,6 +1,6 @@
 -- A shelf after a path was given bytes: what it holds, and what is left of the file that is read.
 use Rattle.{
-  meaning.proofs.Common.{nat_eq, ◌≡◌, ℕ, ◌≤◌, List, [], ◌∷◌, ◌++◌, length, drop, Some, None, ◌∙◌, ap, arith, position, insert, Vec, Text},
+  meaning_cells.proofs.Common.{nat_eq, ◌≡◌, ℕ, ◌≤◌, List, [], ◌∷◌, ◌++◌, length, drop, Some, None, ◌∙◌, ap, arith, position, insert, Vec, Text},
   outside_io.{specs.{declared.shelf.{HeldFile.{HeldFile}, Reading.{Reading, TheVariants.{Replaced}}}, Shelf.{Shelved, map_of, is_under, bytes_at, with_bytes, reading_bytes, least_held, kept_reading}}, proofs.{Held.{length-with_bytes, reading_bytes-with_bytes, reading_bytes-push}, Under.{map_of-with_bytes, map_of-push}}},
 }
 

@@ -1,6 +1,6 @@
 -- The first file under a path, and the map of held files.
 use Rattle.{
-  meaning.proofs.Common.{rules, ◌≡◌, ℕ, zero, suc, ◌+◌, Bool, true, false, cond, nat_eq, List, [], ◌∷◌, ◌++◌, map, Some, None, refl, sym, ◌∙◌, ap, arith, map-append, position, position_from, nat_cmp, slice_cmp, pointwise, get, insert, slice_cmp-IsAntisymmetric, Vec, Text},
+  meaning_cells.proofs.Common.{rules, ◌≡◌, ℕ, zero, suc, ◌+◌, Bool, true, false, cond, nat_eq, List, [], ◌∷◌, ◌++◌, map, Some, None, refl, sym, ◌∙◌, ap, arith, map-append, position, position_from, nat_cmp, slice_cmp, pointwise, get, insert, slice_cmp-IsAntisymmetric, Vec, Text},
   std.{proofs.lemmas.{Cmp.{nat_list_cmp_total, eq_by_cmp_equiv}, Iterator.Adapters.{position_from-zero}}, specs.{Ordering.{eq_by_cmp}, Cmp.Lexicographic.{texts_ties}, FinMap.{find, get-from_entries, get-insert, same_map, from_entries_push, nat_cmp-IsAntisymmetric}}},
   outside_io.specs.{declared.shelf.HeldFile.{HeldFile}, Shelf.{entry_of, map_of, is_under, bytes_at, with_bytes}},
 }

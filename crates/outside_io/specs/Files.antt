@@ -1,7 +1,7 @@
 -- What the calls of a source of files do.
 use Rattle.std.specs.Prelude.{◌≡◌, ◌<◌, ◌≤◌, ℕ, List, [], take, drop, length, Option, Some, None}
 use Rattle.std.specs.FinMap.{get}
-use Rattle.meaning.specs.Text.{Text, Contents}
+use Rattle.meaning_cells.specs.Text.{Text, Contents}
 use Rattle.outside_io.specs.Count.{raised}
 use Rattle.outside_io.specs.declared.files.Fetch.{Fetch}
 use Rattle.outside_io.specs.declared.files.Fetch.TheVariants.{Fetched, Absent, Failed}

@@ -1,7 +1,7 @@
 -- What the objects in memory are seen as.
 use Rattle.std.specs.Prelude.{◌+◌, ℕ, zero, suc, List, min, Option, Some, None, IsSomeAnd, Contains, if◌then◌else◌, nat_lt, refl}
 use Rattle.std.specs.Coded.{Coded, code_by, coded×, coded_ℕ, coded_list, coded_option}
-use Rattle.meaning.specs.Text.{Contents}
+use Rattle.meaning_cells.specs.Text.{Contents}
 use Rattle.outside_io.specs.Count.{raised, last_count}
 use Rattle.outside_io.specs.Shelf.{contents_code}
 use Rattle.outside_io.specs.declared.files.Fetch.{Fetch}

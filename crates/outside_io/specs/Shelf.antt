@@ -3,7 +3,7 @@ use Rattle.std.specs.Prelude.{◌+◌, ℕ, zero, suc, Bool, List, [], ◌∷◌
 use Rattle.std.specs.Coded.{Coded, code_by, coded×, coded_ℕ, coded_list}
 use Rattle.std.specs.FinMap.{from_entries, code as map_code}
 use Rattle.std.specs.Global.{Vec}
-use Rattle.meaning.specs.Text.{Text, same_text, Contents}
+use Rattle.meaning_cells.specs.Text.{Text, same_text, Contents}
 use Rattle.outside_io.specs.declared.shelf.HeldFile.{HeldFile}
 use Rattle.outside_io.specs.declared.shelf.Reading.{Reading}
 use Rattle.outside_io.specs.declared.shelf.Reading.TheVariants.{Nothing, Held, Replaced}

@@ -1,7 +1,7 @@
 -- A whole file, where the contents are told.
 use Rattle.std.specs.Prelude.{◌≡◌, ◌<◌, ℕ, List, length, Option, Some, None, IfSome}
 use Rattle.std.specs.FinMap.{get}
-use Rattle.meaning.specs.Text.{Text, Contents}
+use Rattle.meaning_cells.specs.Text.{Text, Contents}
 
 -- the bytes are those held under the path
 abbrev pub IsWholeFile : Option Contents → Text → List ℕ → Type 0

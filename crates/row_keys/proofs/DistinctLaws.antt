@@ -1,8 +1,7 @@
 -- The distinct keys, and what a walk over rows has noted of them.
 use Rattle.{
-  meaning.proofs.Common.{◌≡◌, ◌+◌, ◌<◌, ◌≤◌, Bool, true, false, not, cond, ℕ, List, [], ◌∷◌, ◌++◌, map, take, length, slice_index_or, nat_eq, refl, arith, eq-eqb, ne_eqb, nat_tests, append-nil, get_or_default, take_more, map_push, length-take, length-map, get_or-take, get_or-map, prefix_len-le-length, list_any-append, list_any_none, position_or_len_push, slice_index, IsEquivalence, nat_eq_equiv, list_any, position_or_len, prefix_len, distinct},
+  multi_index.proofs.{cells.Common.{◌≡◌, ◌+◌, ◌<◌, ◌≤◌, Bool, true, false, not, cond, ℕ, List, [], ◌∷◌, ◌++◌, map, take, length, slice_index_or, nat_eq, refl, arith, eq-eqb, ne_eqb, nat_tests, append-nil, get_or_default, take_more, map_push, length-take, length-map, get_or-take, get_or-map, prefix_len-le-length, list_any-append, list_any_none, position_or_len_push, slice_index, IsEquivalence, nat_eq_equiv, list_any, position_or_len, prefix_len, distinct}, LevelLaws.{maps_alike}},
   indexmap.specs.IndexSet.{insert_key},
-  multi_index.proofs.LevelLaws.{maps_alike},
   row_keys.{specs.{Keys.{place_among}, Numbers.{LeadBack}}, proofs.{KeyLaws.{position_in, position_none, any_at, distinct_push, distinct_has, all_known}, RecodeLaws.{AreNumbers, all_there}}},
 }
 

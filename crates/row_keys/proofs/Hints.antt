@@ -1,6 +1,6 @@
 -- Laws that the goals of functions want, by the name of the first that does.
 use Rattle.{
-  meaning.proofs.Common.{length-take-le, with_items_is, length-map-range_with_len, get_or-map-range_with_len, slice_range, slice_index},
+  multi_index.proofs.cells.Common.{length-take-le, with_items_is, length-map-range_with_len, get_or-map-range_with_len, slice_range, slice_index},
   row_keys.proofs.{RoomLaws.{length-starts, length-sizes, is_room, is_parted}, PartnerLaws.{partners_are, firsts_counted, left_is, right_is}},
 }
 

@@ -1,9 +1,8 @@
 -- Keys of two sides, numbered together, have the same partners as their codes.
 use Rattle.{
-  meaning.proofs.Common.{◌≡◌, ◌==◌, Bool, true, ℕ, List, [], ◌++◌, ◌<◌, length, slice_index_or, map, sym, arith, list_any-append, list_any_at, get_or-map-range_with_len, All-map, list_any, IsEquivalence, distinct},
+  multi_index.{proofs.{cells.Common.{◌≡◌, ◌==◌, Bool, true, ℕ, List, [], ◌++◌, ◌<◌, length, slice_index_or, map, sym, arith, list_any-append, list_any_at, get_or-map-range_with_len, All-map, list_any, IsEquivalence, distinct}, pick.RowLaws.{rows_where-map}}, specs.pick.Rows.{rows_where}},
   std.specs.List.{All},
   row_keys.{specs.{Keys.{place_among}, Buckets.{buckets_of}}, proofs.KeyLaws.{place_tells, distinct_has, position_in}},
-  pick_meaning.{specs.Rows.{rows_where}, proofs.RowLaws.{rows_where-map}},
 }
 
 module _ {K : Type 0} (eq : K → K → Bool) (laws : IsEquivalence eq) (left right : List K) where

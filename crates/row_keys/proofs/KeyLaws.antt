@@ -1,6 +1,6 @@
 -- A key's place among the distinct keys tells the key.
 use Rattle.{
-  meaning.proofs.Common.{◌≡◌, ◌<◌, ◌==◌, Bool, true, false, not, cond, ℕ, List, [], ◌∷◌, ◌++◌, refl, length, slice_index_or, arith, false≢true, nat_tests, passes_at_first, list_any_at, filter-append, position_or_len, list_any, IsEquivalence, distinct},
+  multi_index.proofs.cells.Common.{◌≡◌, ◌<◌, ◌==◌, Bool, true, false, not, cond, ℕ, List, [], ◌∷◌, ◌++◌, refl, length, slice_index_or, arith, false≢true, nat_tests, passes_at_first, list_any_at, filter-append, position_or_len, list_any, IsEquivalence, distinct},
   std.{proofs.lemmas.Map.Views.{any-filter_same}, specs.List.{All}},
   row_keys.specs.Keys.{place_among},
 }

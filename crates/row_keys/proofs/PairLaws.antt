@@ -1,9 +1,8 @@
 -- Numbers of labels packed with the numbers beside them.
 use Rattle.{
-  meaning.proofs.Common.{◌≡◌, ◌<◌, ◌≤◌, ◌+◌, ◌*◌, ◌==◌, ◌&&◌, ℕ, List, map, take, max, ap, length, slice_index_or, arith, All, nat_tests, length-map, get_or-map, All-more, length-map-range_with_len, get_or-map-range_with_len, slice_index, range_with_len, Label},
+  multi_index.{proofs.cells.Common.{◌≡◌, ◌<◌, ◌≤◌, ◌+◌, ◌*◌, ◌==◌, ◌&&◌, ℕ, List, map, take, max, ap, length, slice_index_or, arith, All, nat_tests, length-map, get_or-map, All-more, length-map-range_with_len, get_or-map-range_with_len, slice_index, range_with_len, Label}, specs.index_core.Labels.{same_number}},
   std.proofs.{Math.Nat.{mul-le-mul_right}, lemmas.Nat.{same_from_place}},
   cell_core.specs.declared.cell.Label.TheVariants.{Na},
-  index_core.specs.Labels.{same_number},
   row_keys.specs.{Keys.{same_pair}, Numbers.{StandFor}},
 }
 

@@ -1,8 +1,7 @@
 -- The codes of two sides that are numbered together, and the partners of a key by its code.
 use Rattle.{
-  meaning.proofs.Common.{◌≡◌, ◌<◌, ◌++◌, ℕ, List, map, take, drop, length, arith, All, map-append, take_at, length-map, length-map-range_with_len, map-map, IsEquivalence, lists_equiv, Label, laws-law},
+  multi_index.proofs.{cells.Common.{◌≡◌, ◌<◌, ◌++◌, ℕ, List, map, take, drop, length, arith, All, map-append, take_at, length-map, length-map-range_with_len, map-map, IsEquivalence, lists_equiv, Label, laws-law}, LevelLaws.{maps_alike}},
   std.proofs.lemmas.List.{drop_at},
-  multi_index.proofs.LevelLaws.{maps_alike},
   row_keys.{specs.{Keys.{same_tuple, codes_of, first_rows}, Buckets.{buckets_of}, Partners.{rows_with, rows_coded, AreCodesBelow}}, proofs.{KeyLaws.{position_in}, JoinLaws.{rank, count, IsKnown, left_known, right_known, codes_below, bucket_of_key}}},
 }
 

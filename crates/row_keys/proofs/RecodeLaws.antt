@@ -1,8 +1,7 @@
 -- Codes depend on which rows are equal alone.
 use Rattle.{
-  meaning.proofs.Common.{◌≡◌, ◌+◌, ◌<◌, Bool, true, false, not, ℕ, suc, List, [], ◌∷◌, map, drop, refl, sym, ap, ◌∙◌, length, slice_index_or, arith, cond_both, get_or-map, length-map, drop_more, drop_all, map-id, passes_at_first, position_or_len_is, list_any_at, All-cons, All-head, All-tail, All-filter, All-map, filter_passes, map-map, Decides, position_or_len, list_any, zip, IsEquivalence, pointwise, lists_equiv, distinct},
+  multi_index.proofs.{cells.Common.{◌≡◌, ◌+◌, ◌<◌, Bool, true, false, not, ℕ, suc, List, [], ◌∷◌, map, drop, refl, sym, ap, ◌∙◌, length, slice_index_or, arith, cond_both, get_or-map, length-map, drop_more, drop_all, map-id, passes_at_first, position_or_len_is, list_any_at, All-cons, All-head, All-tail, All-filter, All-map, filter_passes, map-map, Decides, position_or_len, list_any, zip, IsEquivalence, pointwise, lists_equiv, distinct}, LevelLaws.{maps_alike}},
   std.specs.List.{filter, All},
-  multi_index.proofs.LevelLaws.{maps_alike},
   row_keys.{specs.Keys.{place_among, codes_of, first_rows, same_pair}, proofs.KeyLaws.{place_tells, all_known, position_in}},
 }
 

@@ -1,7 +1,6 @@
 -- Numbers that stand for keys are numbered as the keys are.
 use Rattle.{
-  meaning.proofs.Common.{◌≡◌, ◌+◌, Bool, ℕ, List, [], ◌∷◌, ◌++◌, map, refl, sym, length, slice_index_or, nat_eq, arith, fill_by_all, map-range_with_len_more, range_with_len},
-  multi_index.proofs.LevelLaws.{levels_below},
+  multi_index.proofs.{cells.Common.{◌≡◌, ◌+◌, Bool, ℕ, List, [], ◌∷◌, ◌++◌, map, refl, sym, length, slice_index_or, nat_eq, arith, fill_by_all, map-range_with_len_more, range_with_len}, LevelLaws.{levels_below}},
   row_keys.{specs.{Keys.{codes_of, first_rows}, Numbers.{StandFor}}, proofs.RecodeLaws.{AreNumbers, renumbered}},
 }
 

@@ -1,8 +1,7 @@
 -- Labels of one class have equal numbers exactly where they are equal.
 use Rattle.{
-  meaning.proofs.Common.{rules, ◌≡◌, ◌<◌, ◌≤◌, ◌+◌, ℕ, ℤ, Some, List, map, take, length, slice_index_or, arith, All, nat_tests, length-map, get_or-map, take_all, All-map, All-more, ◌-ℤ◌, Label},
+  multi_index.{proofs.cells.Common.{rules, ◌≡◌, ◌<◌, ◌≤◌, ◌+◌, ℕ, ℤ, Some, List, map, take, length, slice_index_or, arith, All, nat_tests, length-map, get_or-map, take_all, All-map, All-more, ◌-ℤ◌, Label}, specs.index_core.Labels.{same_number}},
   std.{proofs.lemmas.Int.{ints}, specs.{Prelude.{◌≤ℤ◌}, Int.RustNames.{unsigned_abs}}},
-  index_core.specs.Labels.{same_number},
   row_keys.specs.{Numbers.{StandFor}, Values.{value_in, IsSpanned, number_in}, declared.values.Class.{Class}},
 }
 use Rattle.cell_core.specs.declared.cell.Label.TheVariants as label

@@ -1,6 +1,6 @@
 -- Two lists side by side.
 use Rattle.{
-  meaning.proofs.Common.{◌≡◌, ◌<◌, ℕ, List, map, length, slice_index_or, slice_get, Some, min, arith, get_or-map, length-map, slice_get-get_or, get_or_from_slice_get, zip},
+  multi_index.proofs.cells.Common.{◌≡◌, ◌<◌, ℕ, List, map, length, slice_index_or, slice_get, Some, min, arith, get_or-map, length-map, slice_get-get_or, get_or_from_slice_get, zip},
   std.proofs.lemmas.Slice.Zip.{length-zip, get_or-zip},
 }
 

@@ -2,10 +2,10 @@
 use Rattle.std.specs.Prelude.{ℕ, Bool, List, ◌==◌, ◌&&◌, map, slice_index_or}
 use Rattle.std.specs.List.{position_or_len}
 use Rattle.std.specs.Cmp.Lexicographic.{pointwise}
-use Rattle.meaning.specs.Reduce.{distinct}
+use Rattle.multi_index.specs.cells.Reduce.{distinct}
 use Rattle.cell_core.specs.declared.cell.Label.{Label}
 use Rattle.cell_core.specs.declared.cell.Label.TheVariants.{Na}
-use Rattle.index_core.specs.Labels.{same_number}
+use Rattle.multi_index.specs.index_core.Labels.{same_number}
 
 -- equal tuples, where equal texts have one number
 abbrev pub same_tuple : List Label → List Label → Bool

@@ -1,7 +1,7 @@
 -- The rows of one side that have the tuple of a row of another.
 use Rattle.std.specs.Prelude.{ℕ, ◌<◌, List, [], length, map, slice_index_or, All}
 use Rattle.cell_core.specs.declared.cell.Label.{Label}
-use Rattle.pick_meaning.specs.Rows.{rows_where}
+use Rattle.multi_index.specs.pick.Rows.{rows_where}
 use Rattle.row_keys.specs.Keys.{same_tuple}
 
 -- the rows with a tuple

@@ -1,6 +1,6 @@
 // The distinct keys by first sight.
 ghost use Rattle.std.specs.Prelude.{◌≡◌, IfOk};
-ghost use Rattle.meaning.specs.Reduce.{distinct};
+ghost use Rattle.multi_index.specs.cells.Reduce.{distinct};
 ghost use Rattle.row_keys.specs.Keys.{codes_of, first_rows};
 
 use crate::rows::KeyRows;

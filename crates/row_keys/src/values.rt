@@ -2,7 +2,7 @@
 ghost use Rattle.std.specs.Prelude.{◌≡◌, ◌<◌, ◌≤◌, ◌+◌, ◌^◌, ◌-ℤ◌, ◌≤ℤ◌, All, IfOk, IfSome};
 ghost use Rattle.std.specs.Int.RustNames.{unsigned_abs};
 ghost use Rattle.cell_core.specs.declared.cell.Label.TheVariants as label;
-ghost use Rattle.index_core.specs.Labels.{same_number};
+ghost use Rattle.multi_index.specs.index_core.Labels.{same_number};
 ghost use Rattle.row_keys.specs.Numbers.{StandFor};
 ghost use Rattle.row_keys.specs.Values as valued;
 

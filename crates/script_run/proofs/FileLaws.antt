@@ -1,13 +1,9 @@
 -- What a run means by the file that its path holds.
 use Rattle.{
-  meaning.proofs.Common.{◌≡◌, ◌≤◌, ◌<◌, ℕ, List, [], ◌∷◌, length, Option, Some, None, refl, arith, codes, ◌⊎◌, IfSome, get, Text, Contents},
+  script_session.{proofs.cells.Common.{◌≡◌, ◌≤◌, ◌<◌, ℕ, List, [], ◌∷◌, length, Option, Some, None, refl, arith, codes, ◌⊎◌, IfSome, get, Text, Contents}, specs.{language.{Tree.{Statement}, Script.{most_bytes}}, script.{Reading.{Files}, State.{no_names}, Run.{RunResult, RunWords, IsScriptResult, IsFileResult, IsWordsResult, fetched, statements_result, with_line, too_large_line, syntax_line, not_found_line, syntax, usage}}, script_state.Reads.{count_after}}},
   outside_io.{specs.{Count.{HasRisen}, Sink.{appended, AppendsFront}}, proofs.Appended.{appended-nil}},
-  language_meaning.specs.{Tree.{Statement}, Script.{most_bytes}},
-  script_meaning.specs.{Reading.{Files}, State.{no_names}, Run.{RunResult, RunWords, IsScriptResult, IsFileResult, IsWordsResult, fetched, statements_result, with_line, too_large_line, syntax_line, not_found_line, syntax, usage}},
   script_syntax.specs.Parsed.{IsTheScript, IsTheSyntaxLine},
-  script_work.specs.Reads.{count_after},
-  script_steps.{specs.{Ends.{Outside, Ends, EndsByMeaning, EndsWithLine, Is}, Steps.{Does}, declared.status.Status.{Status, TheVariants.{Usage, Input, Output, Memory}}}, proofs.{StepLaws.{does_one}, RunLaws.{early_none, ends_after, ends_other, unread_first}, Options.{some-weaker}}},
-  script_run.{specs.OneResult.{IsOne}, proofs.OneResult.{file_one}},
+  script_run.{specs.{Ends.{Outside, Ends, EndsByMeaning, EndsWithLine, Is}, Steps.{Does}, declared.status.Status.{Status, TheVariants.{Usage, Input, Output, Memory}}, OneResult.{IsOne}}, proofs.{StepLaws.{does_one}, RunLaws.{early_none, ends_after, ends_other, unread_first}, Options.{some-weaker}, OneResult.{file_one}}},
 }
 
 module _ (files : Files) (status : Status) (old new : Outside) where

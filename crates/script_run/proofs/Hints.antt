@@ -1,8 +1,8 @@
 -- Laws that the goals of functions want, by the name of the first that does.
 use Rattle.{
-  script_steps.proofs.{RunLaws.{ends_with_line, comes_none}, Options.{some-always, some-weaker}, ErrorLaws.{warns_none, run_leaves, never_usage, run_leaves_line, run_leaves_later, says_unread, absent_said, never_absent}},
-  script_work.proofs.Rides.{serves_self, serves_both},
-  script_run.proofs.FileLaws.{ends_script, ends_syntax, ends_too_large},
+  script_session.proofs.cells.Common.{on_ok_weaker},
+  script_run.proofs.{RunLaws.{ends_with_line, comes_none}, Options.{some-always, some-weaker}, ErrorLaws.{leaves_cut, leaves_warnings, warns_same, warns_line, warns_none, run_leaves, never_usage, run_leaves_line, run_leaves_later, says_unread, absent_said, never_absent}, FileLaws.{ends_script, ends_syntax, ends_too_large}},
+  script_session.proofs.script_state.Rides.{serves_self, serves_both},
 }
 
 pub ruleset run = (ends_with_line, some-always, warns_none, serves_self)
@@ -12,3 +12,5 @@ pub ruleset run_bytes = (some-weaker, ends_script, some-always, ends_syntax, end
 pub ruleset run_file = (run_leaves_later, run_leaves_line, says_unread, warns_none, absent_said, never_absent, serves_both)
 
 pub ruleset run_script = (some-always, comes_none, warns_none, serves_self, serves_both)
+
+pub ruleset advance = (leaves_cut, leaves_warnings, warns_same, on_ok_weaker, warns_line, says_unread)

@@ -1,3 +1,7 @@
+pub mod Options
+pub mod StepLaws
+pub mod RunLaws
+pub mod ErrorLaws
+pub mod Hints
 pub mod OneResult
 pub mod FileLaws
-pub mod Hints

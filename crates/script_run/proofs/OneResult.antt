@@ -1,9 +1,7 @@
 -- A run has exactly one result.
 use Rattle.{
-  meaning.proofs.Common.{◌≡◌, ◌≤◌, ◌<◌, ◌⊎◌, ℕ, zero, suc, List, length, Option, Some, None, refl, arith, inl, inr, get, Text, Contents},
-  language_meaning.specs.Script.{most_bytes},
+  script_session.{proofs.cells.Common.{◌≡◌, ◌≤◌, ◌<◌, ◌⊎◌, ℕ, zero, suc, List, length, Option, Some, None, refl, arith, inl, inr, get, Text, Contents}, specs.{language.Script.{most_bytes}, script.{Reading.{Files}, State.{no_names}, Run.{RunResult, RunWords, IsScriptResult, IsFileResult, IsWordsResult, statements_result, after_step, fetched, with_line, syntax_line, too_large_line, syntax}}}},
   script_syntax.{specs.OneReading.{HasOneReading}, proofs.OneReading.{one_reading}},
-  script_meaning.specs.{Reading.{Files}, State.{no_names}, Run.{RunResult, RunWords, IsScriptResult, IsFileResult, IsWordsResult, statements_result, after_step, fetched, with_line, syntax_line, too_large_line, syntax}},
   script_run.specs.OneResult.{IsOne, HasOneResult},
 }
 

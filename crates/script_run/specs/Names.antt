@@ -1,8 +1,8 @@
 -- Names of files in the words of the command line.
 use Rattle.std.specs.Prelude.{Bool, ◌&&◌, not, is_some, List}
-use Rattle.meaning.specs.Text.{Text}
-use Rattle.script_meaning.specs.Reading.{path_of_name}
-use Rattle.script_meaning.specs.Run.{is_pair, pair_in}
+use Rattle.script_session.specs.cells.Text.{Text}
+use Rattle.script_session.specs.script.Reading.{path_of_name}
+use Rattle.script_session.specs.script.Run.{is_pair, pair_in}
 
 -- a word that may stand after these pairs: a name that isn't among them, and a path
 abbrev pub may_follow : List (Text × Text) → Text → Bool

@@ -1,7 +1,7 @@
 -- That a run has one result.
 use Rattle.std.specs.Prelude.{◌≡◌, List}
-use Rattle.meaning.specs.Text.{Text, Contents}
-use Rattle.script_meaning.specs.Run.{IsRunResult}
+use Rattle.script_session.specs.cells.Text.{Text, Contents}
+use Rattle.script_session.specs.script.Run.{IsRunResult}
 
 -- one value is so, and no other
 abbrev pub IsOne : {A : Type 0} → (A → Type 0) → Type 0

@@ -1,6 +1,6 @@
 // A law of the definitions that the clauses of `run` rest on. The function does nothing.
 ghost use Rattle.std.specs.Prelude.{map, string_bytes};
-ghost use Rattle.meaning.specs.Text.{Contents};
+ghost use Rattle.script_session.specs.cells.Text.{Contents};
 ghost use Rattle.script_run.specs.OneResult.{HasOneResult};
 
 /// Any words have one result, and no other, in any contents of files. So the result of which

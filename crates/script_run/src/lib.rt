@@ -4,6 +4,9 @@
 //! [`Session`], and writes what they print on one sink, warnings and the first fault on another. The words
 //! may also name files, each as `NAME=PATH`, which the statements read by these names.
 //!
+//! A run goes statement by statement: `advance` does one in the session, writes what it prints on the one sink and its
+//! warning or its fault on the other (`advancing`, `ending`), and says with which [`Status`] the run ends, if it ends.
+//!
 //! ```text
 //! let mut files = MemFiles::new(alloc);
 //! files.hold("report.py", b"print(1)\n")?;
@@ -12,11 +15,14 @@
 //! ```
 #![tactic(auto)]
 
+mod advancing;
+mod ending;
 mod laws;
 mod running;
+mod status;
 mod words;
 
 pub use laws::one_result;
 pub use running::run;
 pub use script_session::{FileName, FileNames, Outcome, Session, StepFault};
-pub use script_steps::Status;
+pub use status::Status;

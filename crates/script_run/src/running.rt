@@ -2,18 +2,20 @@
 ghost use Rattle.std.specs.Prelude.{◌≡◌, ◌≢◌, IfNone, IfSome, map, string_bytes};
 ghost use Rattle.outside_io.specs.Count.{HasRisen};
 ghost use Rattle.outside_io.specs.Sink.{appended};
-ghost use Rattle.script_meaning.specs.State.{no_names};
-ghost use Rattle.script_meaning.specs.Run.{not_found_line, run_in, statements_result, syntax_line, too_large_line, usage, usage_line, with_line, IsRunResult, IsScriptResult, IsWordsResult};
+ghost use Rattle.script_session.specs.script.State.{no_names};
+ghost use Rattle.script_session.specs.script.Run.{not_found_line, run_in, statements_result, syntax_line, too_large_line, usage, usage_line, with_line, IsRunResult, IsScriptResult, IsWordsResult};
 ghost use Rattle.script_tree.specs.ScriptView.{statements_of};
-ghost use Rattle.script_work.specs.Reads.{files_in, paths_of};
-ghost use Rattle.script_steps.specs.Errors.{RunLeaves, StatementsLeave};
-ghost use Rattle.script_steps.specs.Ends.{outside, Ends, EndsByMeaning, EndsWith, HasCause, Is};
+ghost use Rattle.script_session.specs.script_state.Reads.{files_in, paths_of};
+ghost use Rattle.script_run.specs.Errors.{RunLeaves, StatementsLeave};
+ghost use Rattle.script_run.specs.Ends.{outside, Ends, EndsByMeaning, EndsWith, HasCause, Is};
 
+use crate::advancing::advance;
+use crate::ending::{end_with, say_unread};
+use crate::status::Status;
 use crate::words::{WordsFault, names_in, script_in};
-use fault_lines::{line_of_absence, line_of_syntax};
 use outside_io::{Files, ReadFault, Sink, read_whole};
+use script_faults::{line_of_absence, line_of_syntax};
 use script_session::{FileNames, Session};
-use script_steps::{Status, advance, end_with, say_unread};
 use script_syntax::{ParseFault, Script, parse};
 use std::alloc::Global;
 

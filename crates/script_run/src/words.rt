@@ -1,7 +1,7 @@
 // The words of the command line.
 ghost use Rattle.std.specs.Prelude.{◌≡◌, [], ◌∷◌, ◌++◌, true, false, None, Some, IfOk, IsErrOf, MatchOption, OnOk, map, string_bytes};
-ghost use Rattle.script_meaning.specs.Run.{is_pair, is_path, pair_in, pairs_after, run_in, with_script};
-ghost use Rattle.script_work.specs.Reads.{paths_of};
+ghost use Rattle.script_session.specs.script.Run.{is_pair, is_path, pair_in, pairs_after, run_in, with_script};
+ghost use Rattle.script_session.specs.script_state.Reads.{paths_of};
 ghost use Rattle.script_run.specs.Names.{may_follow};
 
 use cell_core::{NoMemory, Words};

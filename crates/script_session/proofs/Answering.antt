@@ -1,19 +1,13 @@
 -- What statements answer.
 use Rattle.{
-  meaning.proofs.Common.{arith, ◌≡◌, ℕ, Bool, true, false, nat_eq, List, [], ◌∷◌, Option, Some, None, refl, sym, ◌∙◌, ap, IsSome, if◌then◌else◌, Result, Ok, Err, IsErrAnd, ⊤, Text, same_text, FaultValue},
-  meaning.specs.Cell.{IsLonger},
+  script_state.{proofs.{cells.Common.{arith, ◌≡◌, ℕ, Bool, true, false, nat_eq, List, [], ◌∷◌, Option, Some, None, refl, sym, ◌∙◌, ap, IsSome, if◌then◌else◌, Result, Ok, Err, IsErrAnd, ⊤, Text, same_text, FaultValue}, Bindings.{nat_same, nat_eq_self, true_false, same_congr, named_object}, States.{same_state, state_kept, bind_state}, Worlds.{entry_seen, some_shown, set_failed, keeps_both}, Validity.{spent_state}, Rides.{serves_self, serves_both, caused_later, goes_both, stuck_both, spends_both, goes_value, halts_first, goes_same, fault_uncaused, spends_none}}, specs.{cells.Cell.{IsLonger}, tables.Table.{Table}, script.{State.{State}, Reading.{Files, Reading, Reads, at_once}, Statement.{Answer, with_value, done, refused, then_answer, set_answer, is_chained}}, frame_set.Assigned.{without}, declared.{file_names.FileName.{FileName}, fault.EvalFault.{EvalFault}, work.Work.{Work}}, Evaluates.{Moment, moment_of, Evaluates}, Reads.{Goes, Halts}, Work.{names_in, world_of, state_in, SetsFrom}, Bindings.{Bindings, bound, value_at, is_named, state_over, IsOf, KeepNamed, AreGiven, AreNamed}, laws.FormFault.{HasFormFault}}},
   std.{specs.Prelude.{OnErr}, proofs.lemmas.Result.{on_err_weaker}},
-  table_meaning.specs.Table.{Table},
   frame_store.{specs.{Shown.{table_in}, declared.{object.ObjId.{ObjId}, arguments.{Value.{Value, TheVariants.{Object}}, Argument.{Argument, TheVariants.{Nothing}}}, fault.OpFault.{OpFault}}, World.{World, objects_of, entry_in, Keeps, Sets}}, proofs.Settling.{seen_later, longer_twice}},
-  script_meaning.specs.{State.{State}, Reading.{Files, Reading, Reads, at_once}, Statement.{Answer, with_value, done, refused, then_answer, set_answer, is_chained}},
-  settings.specs.Assigned.{without},
   script_session.specs.{declared.fault.{Outcome.{Outcome}, StepFault.{StepFault, TheVariants.{Refused, NoMemory}}}, Faults.{IsStepFault, Performs, Answers, step_fault, marked_fault}},
-  script_work.{specs.{declared.{file_names.FileName.{FileName}, fault.EvalFault.{EvalFault}, work.Work.{Work}}, Evaluates.{Moment, moment_of, Evaluates}, Reads.{Goes, Halts}, Work.{names_in, world_of, state_in, SetsFrom}, Bindings.{Bindings, bound, value_at, is_named, state_over, IsOf, KeepNamed, AreGiven, AreNamed}}, proofs.{Bindings.{nat_same, nat_eq_self, true_false, same_congr, named_object}, States.{same_state, state_kept, bind_state}, Worlds.{entry_seen, some_shown, set_failed, keeps_both}, Validity.{spent_state}, Rides.{serves_self, serves_both, caused_later, goes_both, stuck_both, spends_both, goes_value, halts_first, goes_same, fault_uncaused, spends_none}}},
-  fault_laws.specs.FormFault.{HasFormFault},
   outside_io.specs.Files.{FilesValue, Serves},
 }
-use Rattle.table_meaning.specs.Value as value
-use Rattle.language_meaning.specs.Tree as tree
+use Rattle.script_state.specs.tables.Value as value
+use Rattle.script_state.specs.language.Tree as tree
 
 -- a fault of an expression is the statement's
 abbrev pub refusal : FaultValue → Answer

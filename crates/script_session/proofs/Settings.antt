@@ -1,11 +1,9 @@
 -- A setting and a removal change one object alone.
 use Rattle.{
-  meaning.proofs.Common.{arith, ◌≡◌, Bool, Option, Result, OnOk, Text, FaultValue},
-  table_meaning.specs.Table.{Table},
-  script_meaning.specs.{State.{State}, Statement.{done, set_answer}},
+  script_state.{proofs.cells.Common.{arith, ◌≡◌, Bool, Option, Result, OnOk, Text, FaultValue}, specs.{tables.Table.{Table}, script.{State.{State}, Statement.{done, set_answer}}}},
   script_session.specs.{declared.fault.{Outcome.{Outcome}, StepFault.{StepFault}}, Apart.{IsSetApart, ChangesOneObject}},
 }
-use Rattle.language_meaning.specs.Tree as tree
+use Rattle.script_state.specs.language.Tree as tree
 
 pub set_apart : (s t u : State) (o : Option Text) (r : Result Table FaultValue) (p : Text) (w : Bool) → set_answer t o r ≡ done u p w → s ≡ t → IsSetApart o s u
 set_apart = grind arith

@@ -1,9 +1,9 @@
 -- A setting and a removal change one object alone.
 use Rattle.std.specs.Prelude.{◌≡◌, false, Option, Some, None}
-use Rattle.meaning.specs.Text.{Text, same_text}
-use Rattle.script_meaning.specs.State.{State}
-use Rattle.script_meaning.specs.Expression.{named_by}
-use Rattle.language_meaning.specs.Tree as tree
+use Rattle.script_state.specs.cells.Text.{Text, same_text}
+use Rattle.script_state.specs.script.State.{State}
+use Rattle.script_state.specs.script.Expression.{named_by}
+use Rattle.script_state.specs.language.Tree as tree
 
 -- A setting through a name changes the values of that name and of the names of its object alone, and a setting on an object without a name changes nothing. A removal of a column is one through its name.
 abbrev pub IsSetApart : Option Text → State → State → Type 0

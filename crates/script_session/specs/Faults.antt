@@ -1,23 +1,23 @@
 -- What a refusal says of what a statement means.
 use Rattle.std.specs.Prelude.{◌≡◌, Bool, false, List, OnErr, Result, Ok, Err}
-use Rattle.meaning.specs.Cell.{IsLonger}
-use Rattle.meaning.specs.Text.{Text, Contents}
-use Rattle.meaning.specs.FaultOf.{fault_of}
-use Rattle.table_meaning.specs.Settled.{IsSettled}
-use Rattle.language_meaning.specs.Tree as tree
+use Rattle.script_state.specs.cells.Cell.{IsLonger}
+use Rattle.script_state.specs.cells.Text.{Text, Contents}
+use Rattle.script_state.specs.cells.FaultOf.{fault_of}
+use Rattle.script_state.specs.tables.Settled.{IsSettled}
+use Rattle.script_state.specs.language.Tree as tree
 use Rattle.frame_store.specs.declared.fault.OpFault.{OpFault}
 use Rattle.frame_store.specs.declared.fault.OpFault.TheVariants.{Refused as OpRefused, NoMemory as OpNoMemory}
 use Rattle.frame_store.specs.World.{Keeps}
 use Rattle.outside_io.specs.Files.{FilesValue, Serves}
-use Rattle.script_meaning.specs.Reading.{Files, Reading, at_once}
-use Rattle.script_meaning.specs.State.{State}
-use Rattle.script_meaning.specs.Statement.{Answer, done, refused, statement_result}
-use Rattle.script_work.specs.Evaluates.{Moment}
-use Rattle.script_work.specs.Reads.{Goes, Stuck, Spends, IsCaused, absent_name, files_in}
-use Rattle.script_work.specs.Work.{names_in, world_of, state_in}
-use Rattle.script_work.specs.declared.file_names.FileName.{FileName}
-use Rattle.script_work.specs.declared.fault.EvalFault.{EvalFault}
-use Rattle.script_work.specs.declared.fault.EvalFault.TheVariants.{Refused as EvalRefused, Input as EvalInput, NoMemory as EvalNoMemory}
+use Rattle.script_state.specs.script.Reading.{Files, Reading, at_once}
+use Rattle.script_state.specs.script.State.{State}
+use Rattle.script_state.specs.script.Statement.{Answer, done, refused, statement_result}
+use Rattle.script_state.specs.Evaluates.{Moment}
+use Rattle.script_state.specs.Reads.{Goes, Stuck, Spends, IsCaused, absent_name, files_in}
+use Rattle.script_state.specs.Work.{names_in, world_of, state_in}
+use Rattle.script_state.specs.declared.file_names.FileName.{FileName}
+use Rattle.script_state.specs.declared.fault.EvalFault.{EvalFault}
+use Rattle.script_state.specs.declared.fault.EvalFault.TheVariants.{Refused as EvalRefused, Input as EvalInput, NoMemory as EvalNoMemory}
 use Rattle.script_session.specs.declared.fault.Outcome.{Outcome}
 use Rattle.script_session.specs.declared.fault.StepFault.{StepFault}
 use Rattle.script_session.specs.declared.fault.StepFault.TheVariants.{Refused, Input, NoMemory}

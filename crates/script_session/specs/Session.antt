@@ -1,13 +1,13 @@
 -- What a session stands for.
 use Rattle.std.specs.Prelude.{◌≡◌, ◌↔◌, List, Some, IsSome}
-use Rattle.meaning.specs.Text.{Text}
+use Rattle.script_state.specs.cells.Text.{Text}
 use Rattle.frame_store.specs.Shown.{Shown}
 use Rattle.frame_store.specs.declared.arguments.Value.TheVariants.{Object}
 use Rattle.frame_store.specs.declared.object.ObjId.{ObjId}
-use Rattle.script_meaning.specs.State.{State}
+use Rattle.script_state.specs.script.State.{State}
 use Rattle.frame_store.specs.World.{objects_of}
-use Rattle.script_work.specs.Bindings.{value_at}
-use Rattle.script_work.specs.Work.{names_in, world_of, state_in}
+use Rattle.script_state.specs.Bindings.{value_at}
+use Rattle.script_state.specs.Work.{names_in, world_of, state_in}
 use Rattle.script_session.specs.declared.session.Session.{Session}
 
 -- the names in order, the value of each, and which are one object

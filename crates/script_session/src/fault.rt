@@ -1,6 +1,6 @@
 // What a statement answers.
 use cell_core::{Code, NoMemory, Words};
-use script_work::EvalFault;
+use script_state::EvalFault;
 
 /// What a statement printed.
 #[derive(Drop)]

@@ -6,6 +6,10 @@
 //! first fault refuses the statement, and a statement that is refused leaves names, objects and their
 //! numbers as they were. A file is fetched when the call that reads it is reached.
 //!
+//! The parts of an expression or an argument are evaluated from left to right (`evaluating`), and a fault of a part is
+//! that of the whole. Names stay as they are, and so do the objects that were there; what is made is noted by
+//! [`Work`](script_state::Work). A form that isn't built yet evaluates its parts and is then refused.
+//!
 //! ```text
 //! let mut session = Session::new(alloc);
 //! // `statement` is the tree of `print(len(pd.Series([1, 2])))`
@@ -15,10 +19,14 @@
 //! ```
 #![tactic(auto)]
 
+mod evaluating;
 mod fault;
+mod link;
 mod session;
 mod statements;
+mod target;
+mod words;
 
 pub use fault::{Outcome, StepFault};
-pub use script_work::{FileName, FileNames};
+pub use script_state::{FileName, FileNames};
 pub use session::Session;

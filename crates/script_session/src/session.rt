@@ -1,21 +1,21 @@
 // Sessions.
 ghost use Rattle.std.specs.Prelude.{◌≡◌, None, OnOk, OnErr, is_some};
-ghost use Rattle.meaning.specs.Cell.{IsLonger};
-ghost use Rattle.meaning.specs.Text.{Contents};
-ghost use Rattle.script_meaning.specs.State.{no_names, without_name};
-ghost use Rattle.script_meaning.specs.Statement.{statement_result};
+ghost use Rattle.script_state.specs.cells.Cell.{IsLonger};
+ghost use Rattle.script_state.specs.cells.Text.{Contents};
+ghost use Rattle.script_state.specs.script.State.{no_names, without_name};
+ghost use Rattle.script_state.specs.script.Statement.{statement_result};
 ghost use Rattle.script_tree.specs.View.{action_of};
-ghost use Rattle.table_laws.specs.Validity.{AreValid};
-ghost use Rattle.script_work.specs.Bindings.{AreNamed};
-ghost use Rattle.script_work.specs.Work.{names_in, tables_in};
+ghost use Rattle.script_state.specs.laws.Validity.{AreValid};
+ghost use Rattle.script_state.specs.Bindings.{AreNamed};
+ghost use Rattle.script_state.specs.Work.{names_in, tables_in};
 ghost use Rattle.script_session.specs.Apart.{ChangesOneObject};
 
 use crate::fault::{Outcome, StepFault};
 use crate::statements::perform;
 use cell_core::TextDict;
 use outside_io::Files;
+use script_state::{FileNames, Work};
 use script_tree::Statement;
-use script_work::{FileNames, Work};
 use std::alloc::Global;
 
 /// Names, each with the scalar, the Series or the frame that it stands for.
@@ -32,7 +32,7 @@ impl Session {
     ghost use Rattle.std.specs.Prelude.{ℕ};
     ghost use Rattle.script_session.specs.Session.{state_of, live_of, texts_of, LiveAreNamed};
     ghost use Rattle.outside_io.specs.Files.{Serves};
-    ghost use Rattle.script_work.specs.Reads.{files_in};
+    ghost use Rattle.script_state.specs.Reads.{files_in};
     ghost use Rattle.script_session.specs.Faults.{Performs};
 
     /// A session without names. Takes no memory.

@@ -1,23 +1,24 @@
 // Statements. What they make is noted.
 ghost use Rattle.std.specs.Prelude.{◌≡◌, List, [], Some, OnOk};
-ghost use Rattle.language_meaning.specs.Tree as tree;
+ghost use Rattle.script_state.specs.language.Tree as tree;
 ghost use Rattle.outside_io.specs.Files.{FilesValue};
-ghost use Rattle.script_meaning.specs.Expression.{named_by};
-ghost use Rattle.script_meaning.specs.Statement.{is_chained};
+ghost use Rattle.script_state.specs.script.Expression.{named_by};
+ghost use Rattle.script_state.specs.script.Statement.{is_chained};
 ghost use Rattle.script_tree.specs.View.{expr_of, step_of, arg_of, action_of};
-ghost use Rattle.script_work.specs.Evaluates.{moment, moment_of};
-ghost use Rattle.script_work.specs.Work.{state_in};
-ghost use Rattle.script_work.specs.declared.file_names.FileName.{FileName};
+ghost use Rattle.script_state.specs.Evaluates.{moment, moment_of};
+ghost use Rattle.script_state.specs.Work.{state_in};
+ghost use Rattle.script_state.specs.declared.file_names.FileName.{FileName};
 ghost use Rattle.script_session.specs.Faults.{Executes, marked_fault};
 ghost use Rattle.script_session.specs.Apart.{IsSetApart, ChangesOneObject};
 
+use crate::evaluating::{evaluate, given};
 use crate::fault::{Outcome, StepFault};
+use crate::target::last_step;
 use cell_core::Words;
 use frame_store::OpFault;
 use outside_io::Files;
-use script_evaluation::{evaluate, given, last_step};
+use script_state::{FileNames, Work};
 use script_tree::{Action, Arg, Expr, Step};
-use script_work::{FileNames, Work};
 use std::alloc::Global;
 
 // Does the statement.

@@ -1,8 +1,7 @@
 -- What is in the grammar is read.
 use Rattle.{
-  meaning.proofs.Common.{◌≡◌, ℕ, zero, suc, ◌≤◌, Bool, false, List, ◌∷◌, length, Option, Some, None, refl, arith, inl, inr, ◌⊎◌, codes, nat_eq, Text, Binary},
+  script_tokens.{proofs.cells.Common.{◌≡◌, ℕ, zero, suc, ◌≤◌, Bool, false, List, ◌∷◌, length, Option, Some, None, refl, arith, inl, inr, ◌⊎◌, codes, nat_eq, Text, Binary}, specs.language.{Token.{Token, word, op, mark, Mark, equals, dot, comma, colon, open_paren, close_paren, open_bracket, close_bracket, close_brace}, Tree.{Unary, Literal, Expr, Step, Sub, OptionalSub, OptionalArg, OptionalExpr, Tagging, bare, named, keyed, Tag, Arg, Parts, name, literal, unary, binary, after, len, make, paren, item, access, method, group, rolling, expanding, key, span, no_sub, some_sub, no_arg, some_arg, no_expr, some_expr, expr, many, row, table, nothing, no_parts, more_parts}, Depth.{depth, step_depth, sub_depth, optional_sub_depth, optional_arg_depth, optional_expr_depth, arg_depth, parts_depth}, Grammar.{level, IsMethodName, SpellsTag, SpellsComma, SpellsExpr, SpellsStep, SpellsSecond, SpellsBrackets, SpellsSub, SpellsBound, SpellsStride, SpellsArg, SpellsParts}}},
   script_syntax.{specs.Reading.{dotted_at, call_at, after_word, may_follow, call_of, accessor_at, maker_at, len_at, Reader, and_then, or_else, pick, after_mark, name_at, operator_at, sign_at, begins_step, ends_bound, Call, plain, grouped, rolled, expanded, past_comma, keyword_at, keyword_for, key_at, tag_at, has_name, item_at, bracketed, enclosed, part_at, parts, all_arguments, atom, bound, stride, span_after, sub_from, sub_at, second, subscripts, brackets, named_call, called, call, dotted, step_from, step, steps, postfix, signed, operators, expr_with, expr_from, unparted, opened, argument_with, expr_at, argument_at, word_at}, proofs.{Starts.{StartsExpr, StartsArg, expr_starts, arg_starts, part_starts, arg_no_mark, arg_no_end, expr_no_end, arg_no_target, Ends, EndsBound, mark_ends, step_begins, Closes, EndsSub, stride_ends}, Gives.{method_is, word_same, other_mark, name_reads, reserved_is_none, target_reads, operator_reads, operator_below, none_above, minus_reads, guard_reads, literal_reads, word_no_mark, no_len, literal_plain, item_yes, as_item_reads, as_part_reads, past_comma_reads, at_close_reads}, Takes.{mark_same, MayCome, may_come, CallIs, no_operator, level_small, not_zero, tilde_reads, mark_takes}, Sound.{FirstComes, expr_sound}, Shorter.{parts_shorter, expr_shorter, step_shorter, arg_shorter, tag_shorter, comma_shorter}}},
-  language_meaning.specs.{Token.{Token, word, op, mark, Mark, equals, dot, comma, colon, open_paren, close_paren, open_bracket, close_bracket, close_brace}, Tree.{Unary, Literal, Expr, Step, Sub, OptionalSub, OptionalArg, OptionalExpr, Tagging, bare, named, keyed, Tag, Arg, Parts, name, literal, unary, binary, after, len, make, paren, item, access, method, group, rolling, expanding, key, span, no_sub, some_sub, no_arg, some_arg, no_expr, some_expr, expr, many, row, table, nothing, no_parts, more_parts}, Depth.{depth, step_depth, sub_depth, optional_sub_depth, optional_arg_depth, optional_expr_depth, arg_depth, parts_depth}, Grammar.{level, IsMethodName, SpellsTag, SpellsComma, SpellsExpr, SpellsStep, SpellsSecond, SpellsBrackets, SpellsSub, SpellsBound, SpellsStride, SpellsArg, SpellsParts}},
 }
 use Rattle.script_syntax.specs.At as at
 

@@ -1,8 +1,7 @@
 -- The pieces of a text, joined and one by one.
 use Rattle.{
-  meaning.proofs.Common.{arith, ◌≡◌, ℕ, ◌+◌, Bool, true, false, List, [], ◌∷◌, ◌++◌, refl, leb, eqb, eqb-true},
+  script_tokens.{proofs.cells.Common.{arith, ◌≡◌, ℕ, ◌+◌, Bool, true, false, List, [], ◌∷◌, ◌++◌, refl, leb, eqb, eqb-true}, specs.language.Pieces.{Mode, plain, mode_after, opens, closes, choose, into_first, cut}},
   std.specs.List.{concat},
-  language_meaning.specs.Pieces.{Mode, plain, mode_after, opens, closes, choose, into_first, cut},
   script_syntax.specs.Cut.{is_closed, IsPieceFrom, IsEnded, AreCutFrom, IsCut},
 }
 

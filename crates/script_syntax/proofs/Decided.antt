@@ -1,9 +1,7 @@
 -- Bytes are made of tokens, or they are not.
 use Rattle.{
-  meaning.proofs.Common.{◌≡◌, ◌≢◌, ◌⊎◌, inl, inr, sym, subst, refl, ℕ, zero, suc, ◌≤◌, ◌^◌, true, false, leb, eqb, List, [], ◌∷◌, Option, Some, None, length, take, drop, decimal, arith, eqb-true, leb-true, nat_tests, digits_value, prefix_len, Text},
+  script_tokens.{proofs.{cells.Common.{◌≡◌, ◌≢◌, ◌⊎◌, inl, inr, sym, subst, refl, ℕ, zero, suc, ◌≤◌, ◌^◌, true, false, leb, eqb, List, [], ◌∷◌, Option, Some, None, length, take, drop, decimal, arith, eqb-true, leb-true, nat_tests, digits_value, prefix_len, Text}, Runs.{true_or_false, not_both, run_of_length, IsRun-unique}, TokenLaws.{IsToken-unique, IsToken-shorter}, LexLaws.{length-skip}, Signs.{sign_decided}}, specs.{language.Token.{Token, word, int, text, op, mark, is_digit, begins_word, continues_word, begins_with, IsRun, escaped, IsQuoted, IsQuote, IsToken, Lexes, skip}, Absent.{BeginsNoToken, BeginsNoSign}}},
   std.proofs.lemmas.Fmt.{decimal_is_IsNumeral},
-  language_meaning.specs.Token.{Token, word, int, text, op, mark, is_digit, begins_word, continues_word, begins_with, IsRun, escaped, IsQuoted, IsQuote, IsToken, Lexes, skip},
-  script_tokens.{specs.Absent.{BeginsNoToken, BeginsNoSign}, proofs.{Runs.{true_or_false, not_both, run_of_length, IsRun-unique}, TokenLaws.{IsToken-unique, IsToken-shorter}, LexLaws.{length-skip}, Signs.{sign_decided}}},
   script_syntax.proofs.Tools.{text_is, text_same},
 }
 

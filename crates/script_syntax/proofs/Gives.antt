@@ -1,5 +1,9 @@
 -- What the small readers give.
-use Rattle.{meaning.proofs.Common.{lt-ltb, eqb-true, leb_tells, ◌≡◌, ℕ, ◌<◌, ◌≤◌, true, false, List, ◌∷◌, Some, None, refl, arith, codes, list_any, Text, same_text, Binary}, std.proofs.lemmas.Bool.{leb-false, le-leb}, language_meaning.specs.{Token.{Token, word, op, mark, Mark, equals, comma, open_paren}, Tree.{minus, sub, Tagging, Literal, Expr, Step, Arg, after}, Depth.{depth}, Grammar.{reserved_words, IsPart, IsName, IsMethodName, level, begins_int, begins_paren, SpellsLiteral, IsItem, IsTarget, SpellsEnd}}, script_syntax.{specs.Reading.{and_then, or_else, pick, after_mark, after_word, word_at, text_at, ended, is_reserved, is_method_name, name_at, target_at, dotted_at, call_at, len_at, maker_at, operator_at, sign_at, positive, negative, na_at, constant_at, negative_at, literal_at, is_item, as_item, as_part, past_comma, is_target, split, guard, closed, end_at}, proofs.{Tools.{text_same}, Takes.{mark_same}}}}
+use Rattle.{
+  script_tokens.{proofs.cells.Common.{lt-ltb, eqb-true, leb_tells, ◌≡◌, ℕ, ◌<◌, ◌≤◌, true, false, List, ◌∷◌, Some, None, refl, arith, codes, list_any, Text, same_text, Binary}, specs.language.{Token.{Token, word, op, mark, Mark, equals, comma, open_paren}, Tree.{minus, sub, Tagging, Literal, Expr, Step, Arg, after}, Depth.{depth}, Grammar.{reserved_words, IsPart, IsName, IsMethodName, level, begins_int, begins_paren, SpellsLiteral, IsItem, IsTarget, SpellsEnd}}},
+  std.proofs.lemmas.Bool.{leb-false, le-leb},
+  script_syntax.{specs.Reading.{and_then, or_else, pick, after_mark, after_word, word_at, text_at, ended, is_reserved, is_method_name, name_at, target_at, dotted_at, call_at, len_at, maker_at, operator_at, sign_at, positive, negative, na_at, constant_at, negative_at, literal_at, is_item, as_item, as_part, past_comma, is_target, split, guard, closed, end_at}, proofs.{Tools.{text_same}, Takes.{mark_same}}},
+}
 
 pub word_same : (w : Text) (us : List Token) → after_word w (word w ∷ us) ≡ Some us
 unfolding after_word pick

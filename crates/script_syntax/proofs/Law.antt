@@ -1,7 +1,6 @@
 -- A statement is read exactly where it is in the grammar and no deeper than the limit.
 use Rattle.{
-  meaning.proofs.Common.{◌≡◌, List, [], ◌∷◌, Some, None, refl, arith, inl, inr, codes, Text},
-  language_meaning.specs.{Token.{Token, word, mark, equals, close_bracket}, Tree.{Expr, Step, Arg, after, Action, bind, put, drop_column, print}, Grammar.{SpellsEnd, SpellsAction, IsShallow, most_depth}},
+  script_tokens.{proofs.cells.Common.{◌≡◌, List, [], ◌∷◌, Some, None, refl, arith, inl, inr, codes, Text}, specs.language.{Token.{Token, word, mark, equals, close_bracket}, Tree.{Expr, Step, Arg, after, Action, bind, put, drop_column, print}, Grammar.{SpellsEnd, SpellsAction, IsShallow, most_depth}}},
   script_syntax.{specs.Reading.{and_then, or_else, pick, after_mark, after_word, word_at, name_at, target_at, is_reserved, ended, imported, deleted, printed, bound_to, set, assigned, action_read}, proofs.{Tools.{Sound}, Takes.{mark_takes, word_takes, name_takes, target_takes, split_takes, end_takes, no_operator}, Sound.{expr_sound, argument_sound}, Gives.{split_reads, end_reads}, Starts.{expr_starts, Ends, nil_ends, mark_ends, put_no_target}, Complete.{expr_is_read, arg_is_read}}},
 }
 

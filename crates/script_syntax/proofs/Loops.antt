@@ -1,8 +1,7 @@
 -- The loops of the parser, turn by turn.
 use Rattle.{
-  meaning.proofs.Common.{leb_tells, eqb_tells, err_from_is_err_and, length-map, ◌≡◌, ℕ, suc, ◌+◌, ◌-◌, ◌<◌, ◌≤◌, max, Bool, List, [], ◌∷◌, ◌++◌, Option, Some, None, Result, Err, refl, ◌⊎◌, arith, nat_eq},
+  script_tokens.{proofs.cells.Common.{leb_tells, eqb_tells, err_from_is_err_and, length-map, ◌≡◌, ℕ, suc, ◌+◌, ◌-◌, ◌<◌, ◌≤◌, max, Bool, List, [], ◌∷◌, ◌++◌, Option, Some, None, Result, Err, refl, ◌⊎◌, arith, nat_eq}, specs.language.{Token.{Token, Mark}, Tree.{Tagging, Tag, Expr, Arg, Parts, binary, after, no_parts, more_parts, parts}, Depth.{depth, arg_depth, parts_depth}, Grammar.{level}}},
   std.specs.Result.{IsErr, IsErrAnd},
-  language_meaning.specs.{Token.{Token, Mark}, Tree.{Tagging, Tag, Expr, Arg, Parts, binary, after, no_parts, more_parts, parts}, Depth.{depth, arg_depth, parts_depth}, Grammar.{level}},
   script_syntax.specs.{declared.refusal.Refusal.{Refusal}, Found.{before_parts, after_parts}, Reading.{and_then, or_else, pick, guard, after_mark, past_comma, begins_step, operator_at, has_name, steps, operators, parts as read_parts, expr_at}},
 }
 use Rattle.script_syntax.specs.At as at

@@ -1,9 +1,7 @@
 -- A text is a script, or it has a syntax line.
 use Rattle.{
-  meaning.proofs.Common.{◌≡◌, ◌⊎◌, inl, inr, ℕ, zero, suc, ◌-◌, ◌+◌, List, [], ◌∷◌, Option, Some, None, refl, arith, IsUtf8},
+  script_tokens.{proofs.{cells.Common.{◌≡◌, ◌⊎◌, inl, inr, ℕ, zero, suc, ◌-◌, ◌+◌, List, [], ◌∷◌, Option, Some, None, refl, arith, IsUtf8}, Runs.{true_or_false, not_both}}, specs.language.{Token.{Token, Lexes, skip}, Tree.{Action, Statement}, Pieces.{pieces, cut}, Script.{IsBlank, IsStatement, most_statements, line_ends}}},
   std.{proofs.lemmas.Str.{IsUtf8-from_is_utf8, is_utf8-from_IsUtf8}, specs.Str.{is_utf8}},
-  language_meaning.specs.{Token.{Token, Lexes, skip}, Tree.{Action, Statement}, Pieces.{pieces, cut}, Script.{IsBlank, IsStatement, most_statements, line_ends}},
-  script_tokens.proofs.Runs.{true_or_false, not_both},
   script_syntax.{specs.{Reading.{action_read}, PieceRead.{Reads, IsOneStatement}, OneReading.{HasOneReading}}, proofs.{Decided.{lexed}, PieceLaws.{blank_is_none, no_statement, one_statement}, ScriptLaws.{reads_blank, reads_statement, reads_wrong, not_right, reads_all}}},
 }
 

@@ -1,8 +1,6 @@
 -- A piece is blank, or it is one statement, or neither.
 use Rattle.{
-  meaning.proofs.Common.{◌≡◌, ◌↔◌, ℕ, Bool, false, List, [], Option, Some, None, subst, arith, IsTrue, MatchOption, IsUtf8},
-  language_meaning.specs.{Token.{Token, Lexes}, Tree.{Action}, Grammar.{SpellsAction}, Script.{IsBlank, IsStatement}},
-  script_tokens.proofs.{BlankLaws.{Lexes-blank}, LexLaws.{Lexes-unique}},
+  script_tokens.{proofs.{cells.Common.{◌≡◌, ◌↔◌, ℕ, Bool, false, List, [], Option, Some, None, subst, arith, IsTrue, MatchOption, IsUtf8}, BlankLaws.{Lexes-blank}, LexLaws.{Lexes-unique}}, specs.language.{Token.{Token, Lexes}, Tree.{Action}, Grammar.{SpellsAction}, Script.{IsBlank, IsStatement}}},
   script_syntax.{specs.{Reading.{action_read}, PieceRead.{IsOneStatement}}, proofs.{Shorter.{expr_shorter}, Law.{form_sound, form_complete}}},
 }
 

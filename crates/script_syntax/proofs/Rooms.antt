@@ -1,6 +1,9 @@
 -- What is read within a depth, by what is read one depth lower.
-use Rattle.{meaning.proofs.Common.{◌≡◌, ℕ, suc, List, Option, None, Result, refl, arith, Bor}, script_tokens.specs.declared.token.Token.{Token}, script_syntax.specs.{declared.refusal.Refusal.{Refusal}, Found.{Finds}, Reading.{expr_at, argument_at}}}
-use Rattle.language_meaning.specs.Token as spec
+use Rattle.{
+  script_tokens.{proofs.cells.Common.{◌≡◌, ℕ, suc, List, Option, None, Result, refl, arith, Bor}, specs.declared.token.Token.{Token}},
+  script_syntax.specs.{declared.refusal.Refusal.{Refusal}, Found.{Finds}, Reading.{expr_at, argument_at}},
+}
+use Rattle.script_tokens.specs.language.Token as spec
 use Rattle.script_syntax.specs.At as at
 
 pub finds_as : {X Y : Type 0} (view : X → Y) (deep : Y → ℕ) (m n : ℕ) (r : Result (X × ℕ × Bor (List Token)) Refusal) (one two : Option (Y × List spec.Token)) → m ≡ n → two ≡ one → Finds view deep m r one → Finds view deep n r two

@@ -1,10 +1,9 @@
 -- A script read piece by piece.
 use Rattle.{
-  meaning.proofs.Common.{◌≡◌, ℕ, suc, ◌+◌, ◌-◌, ◌<◌, List, [], ◌∷◌, ◌++◌, refl, sym, ◌∙◌, ap, subst, append_assoc, arith, inl, inr, ◌≤◌, length, take, drop, Ok, Err, true, nat_eq as eqb, append-nil, nat_tests, IsUtf8},
-  language_meaning.specs.{Pieces.{pieces, cut}, Script.{IsBlank, IsStatement, IsRight, ArePieces, IsFirstWrong, most_bytes, most_statements, line_ends}},
+  script_tokens.{proofs.cells.Common.{◌≡◌, ℕ, suc, ◌+◌, ◌-◌, ◌<◌, List, [], ◌∷◌, ◌++◌, refl, sym, ◌∙◌, ap, subst, append_assoc, arith, inl, inr, ◌≤◌, length, take, drop, Ok, Err, true, nat_eq as eqb, append-nil, nat_tests, IsUtf8}, specs.language.{Pieces.{pieces, cut}, Script.{IsBlank, IsStatement, IsRight, ArePieces, IsFirstWrong, most_bytes, most_statements, line_ends}}},
   script_syntax.specs.{PieceRead.{Reads, IsOneStatement, IsPieceRead, IsSettled}, declared.pieces.{PieceRead.{PieceRead, TheVariants.{Blank, Statement, Wrong}}, ParseFault.{ParseFault, TheVariants.{SyntaxAt, TooLarge, NoMemory}}}, Parsed.{IsParsed, IsTheScript, IsTheSyntaxLine}},
 }
-use Rattle.language_meaning.specs.Tree as tree
+use Rattle.script_tokens.specs.language.Tree as tree
 
 module _ (piece : List ℕ) (rest : List (List ℕ)) (left line : ℕ) (made : List tree.Statement) (all : List (List ℕ)) (so_far : Reads made left line (piece ∷ rest) all) where
   -- a blank piece

@@ -1,6 +1,6 @@
 -- A part of a statement has a token, and an expression of a level is one of each lower level.
-use Rattle.{meaning.proofs.Common.{ℕ, ◌<◌, ◌≤◌, ◌⊎◌, List, length, arith}, language_meaning.specs.{Token.{Token, Mark}, Tree.{Expr, Step, Sub, OptionalSub, OptionalArg, OptionalExpr, Tagging, bare, named, keyed, Tag, Arg, Parts, name, literal, unary, binary, after, len, make, paren, item, access, method, group, rolling, expanding, key, span, no_sub, some_sub, no_arg, some_arg, no_expr, some_expr, expr, many, row, table, no_parts, more_parts}, Grammar.{SpellsLiteral, SpellsTag, SpellsComma, SpellsExpr, SpellsStep, SpellsSecond, SpellsBrackets, SpellsSub, SpellsBound, SpellsStride, SpellsArg, SpellsParts}}}
-use Rattle.language_meaning.specs.Tree as tree
+use Rattle.script_tokens.{proofs.cells.Common.{ℕ, ◌<◌, ◌≤◌, ◌⊎◌, List, length, arith}, specs.language.{Token.{Token, Mark}, Tree.{Expr, Step, Sub, OptionalSub, OptionalArg, OptionalExpr, Tagging, bare, named, keyed, Tag, Arg, Parts, name, literal, unary, binary, after, len, make, paren, item, access, method, group, rolling, expanding, key, span, no_sub, some_sub, no_arg, some_arg, no_expr, some_expr, expr, many, row, table, no_parts, more_parts}, Grammar.{SpellsLiteral, SpellsTag, SpellsComma, SpellsExpr, SpellsStep, SpellsSecond, SpellsBrackets, SpellsSub, SpellsBound, SpellsStride, SpellsArg, SpellsParts}}}
+use Rattle.script_tokens.specs.language.Tree as tree
 
 pub literal_shorter : (v : tree.Literal) (ts us : List Token) → SpellsLiteral v ts us → length us < length ts
 literal_shorter = grind arith

@@ -1,5 +1,8 @@
 -- What is read is in the grammar, and no deeper than was allowed.
-use Rattle.{meaning.proofs.Common.{◌≡◌, ℕ, zero, suc, ◌≤◌, Bool, List, ◌∷◌, length, Some, None, refl, arith, eqb_tells, Binary}, script_syntax.{proofs.{Starts.{Closes, part_starts}, Tools.{Only, Sound, guard_takes}, Takes.{mark_takes, word_takes, name_takes, dotted_takes, call_takes, len_takes, maker_takes, operator_takes, sign_takes, literal_takes, accessor_takes, call_of_takes, item_is, comma_takes, MayCome, may_come, tag_takes, part_takes, no_operator, no_tokens, level_small}, Shorter.{expr_shorter, lower}, Gives.{operator_reads}}, specs.Reading.{and_then, or_else, pick, as_item, operator_at, past_comma, item_at, bracketed, enclosed, has_name, part_at, parts, all_arguments, atom, bound, stride, span_after, sub_from, sub_at, second, subscripts, brackets, named_call, called, call, dotted, step_from, step, steps, postfix, signed, operators, expr_with, expr_from, unparted, opened, argument_with, expr_at, argument_at}}, language_meaning.specs.{Token.{Token, op, mark, Mark, close_paren}, Tree.{binary, Expr, Step, Sub, Tagging, Tag, Arg, Parts, no_parts, more_parts}, Depth.{depth, step_depth, sub_depth, optional_sub_depth, optional_arg_depth, optional_expr_depth, arg_depth, parts_depth}, Grammar.{level, left_level, IsItem, IsPart, SpellsTag, SpellsComma, SpellsExpr, SpellsStep, SpellsSecond, SpellsBrackets, SpellsSub, SpellsBound, SpellsStride, SpellsArg, SpellsParts}}}
+use Rattle.{
+  script_tokens.{proofs.cells.Common.{◌≡◌, ℕ, zero, suc, ◌≤◌, Bool, List, ◌∷◌, length, Some, None, refl, arith, eqb_tells, Binary}, specs.language.{Token.{Token, op, mark, Mark, close_paren}, Tree.{binary, Expr, Step, Sub, Tagging, Tag, Arg, Parts, no_parts, more_parts}, Depth.{depth, step_depth, sub_depth, optional_sub_depth, optional_arg_depth, optional_expr_depth, arg_depth, parts_depth}, Grammar.{level, left_level, IsItem, IsPart, SpellsTag, SpellsComma, SpellsExpr, SpellsStep, SpellsSecond, SpellsBrackets, SpellsSub, SpellsBound, SpellsStride, SpellsArg, SpellsParts}}},
+  script_syntax.{proofs.{Starts.{Closes, part_starts}, Tools.{Only, Sound, guard_takes}, Takes.{mark_takes, word_takes, name_takes, dotted_takes, call_takes, len_takes, maker_takes, operator_takes, sign_takes, literal_takes, accessor_takes, call_of_takes, item_is, comma_takes, MayCome, may_come, tag_takes, part_takes, no_operator, no_tokens, level_small}, Shorter.{expr_shorter, lower}, Gives.{operator_reads}}, specs.Reading.{and_then, or_else, pick, as_item, operator_at, past_comma, item_at, bracketed, enclosed, has_name, part_at, parts, all_arguments, atom, bound, stride, span_after, sub_from, sub_at, second, subscripts, brackets, named_call, called, call, dotted, step_from, step, steps, postfix, signed, operators, expr_with, expr_from, unparted, opened, argument_with, expr_at, argument_at}},
+}
 use Rattle.script_syntax.specs.At as at
 
 abbrev Is : {A : Type 0} → (A → List Token → List Token → Type 0) → (A → ℕ) → ℕ → List Token → A × List Token → Type 0

@@ -1,5 +1,8 @@
 -- What parts of a statement begin with, and what may follow them.
-use Rattle.{meaning.proofs.Common.{arith, ◌≡◌, ◌⊎◌, ℕ, Bool, true, false, List, [], ◌∷◌, None, codes, list_any, same_text}, script_syntax.{proofs.Gives.{reserved_is_none, other_mark}, specs.Reading.{and_then, pick, after_mark, name_at, target_at, operator_at, begins_step, ends_bound, word_at}}, language_meaning.specs.{Token.{Token, word, mark, Mark, equals, dot, colon, tilde, open_paren, close_paren, open_bracket, close_bracket, open_brace, close_brace}, Tree.{Expr, Step, OptionalExpr, Tagging, Tag, Arg, binary, after, item, no_expr, some_expr, expr}, Grammar.{SpellsTag, SpellsExpr, SpellsStep, SpellsStride, SpellsArg}}}
+use Rattle.{
+  script_tokens.{proofs.cells.Common.{arith, ◌≡◌, ◌⊎◌, ℕ, Bool, true, false, List, [], ◌∷◌, None, codes, list_any, same_text}, specs.language.{Token.{Token, word, mark, Mark, equals, dot, colon, tilde, open_paren, close_paren, open_bracket, close_bracket, open_brace, close_brace}, Tree.{Expr, Step, OptionalExpr, Tagging, Tag, Arg, binary, after, item, no_expr, some_expr, expr}, Grammar.{SpellsTag, SpellsExpr, SpellsStep, SpellsStride, SpellsArg}}},
+  script_syntax.{proofs.Gives.{reserved_is_none, other_mark}, specs.Reading.{and_then, pick, after_mark, name_at, target_at, operator_at, begins_step, ends_bound, word_at}},
+}
 
 -- ---- what an expression, an argument and a literal begin with
 

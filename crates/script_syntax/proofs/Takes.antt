@@ -1,6 +1,9 @@
 -- What the small readers take.
-use Rattle.{meaning.proofs.Common.{leb-true, ltb-true, eqb-true, eq-eqb, leb_tells, eqb_tells, ◌≡◌, ◌↔◌, ℕ, ◌≤◌, Bool, true, false, List, ◌∷◌, length, Some, None, refl, arith, ◌⊎◌, codes, nat_eq, Text, Binary}, language_meaning.specs.{Token.{Token, word, op, mark, Mark, equals, dot, comma, tilde, open_paren}, Tree.{Unary, minus, invert, sub, Tagging, bare, named, keyed, Tag, Expr, Arg, after}, Grammar.{IsName, IsMethodName, accessor_word, level, begins_int, SpellsLiteral, IsItem, IsPart, MayFollow, SpellsTag, IsTarget, SpellsEnd}}, script_syntax.{specs.Reading.{and_then, or_else, pick, after_mark, after_word, word_at, text_at, ended, is_reserved, is_method_name, name_at, target_at, dotted_at, call_at, len_at, maker_at, operator_at, sign_at, positive, negative, na_at, constant_at, negative_at, literal_at, accessor_at, Call, plain, grouped, rolled, expanded, call_of, is_item, as_item, past_comma, keyword_at, may_follow, keyword_for, key_at, tag_at, has_name, as_part, is_target, split, closed, end_at}, proofs.Tools.{Only, Sound, text_is, text_tells}}}
-use Rattle.language_meaning.specs.Tree as tree
+use Rattle.{
+  script_tokens.{proofs.cells.Common.{leb-true, ltb-true, eqb-true, eq-eqb, leb_tells, eqb_tells, ◌≡◌, ◌↔◌, ℕ, ◌≤◌, Bool, true, false, List, ◌∷◌, length, Some, None, refl, arith, ◌⊎◌, codes, nat_eq, Text, Binary}, specs.language.{Token.{Token, word, op, mark, Mark, equals, dot, comma, tilde, open_paren}, Tree.{Unary, minus, invert, sub, Tagging, bare, named, keyed, Tag, Expr, Arg, after}, Grammar.{IsName, IsMethodName, accessor_word, level, begins_int, SpellsLiteral, IsItem, IsPart, MayFollow, SpellsTag, IsTarget, SpellsEnd}}},
+  script_syntax.{specs.Reading.{and_then, or_else, pick, after_mark, after_word, word_at, text_at, ended, is_reserved, is_method_name, name_at, target_at, dotted_at, call_at, len_at, maker_at, operator_at, sign_at, positive, negative, na_at, constant_at, negative_at, literal_at, accessor_at, Call, plain, grouped, rolled, expanded, call_of, is_item, as_item, past_comma, keyword_at, may_follow, keyword_for, key_at, tag_at, has_name, as_part, is_target, split, closed, end_at}, proofs.Tools.{Only, Sound, text_is, text_tells}},
+}
+use Rattle.script_tokens.specs.language.Tree as tree
 
 pub mark_takes : (m : Mark) → Sound (after_mark m) (λ ts us. ts ≡ mark m ∷ us)
 unfolding after_mark pick

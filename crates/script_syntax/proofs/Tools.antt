@@ -1,7 +1,6 @@
 -- Taking readers apart.
 use Rattle.{
-  meaning.proofs.Common.{◌≡◌, ℕ, ◌≤◌, true, false, List, Option, Some, None, refl, arith, ◌⊎◌, leb-true, bytes_eq-Decides, Text, same_text},
-  language_meaning.specs.{Token.{Token}, Tree.{Expr}, Depth.{depth}},
+  script_tokens.{proofs.cells.Common.{◌≡◌, ℕ, ◌≤◌, true, false, List, Option, Some, None, refl, arith, ◌⊎◌, leb-true, bytes_eq-Decides, Text, same_text}, specs.language.{Token.{Token}, Tree.{Expr}, Depth.{depth}}},
   script_syntax.specs.Reading.{pick, guard},
 }
 

@@ -1,8 +1,8 @@
 -- Readers of what stands in forms of at most a depth.
 use Rattle.std.specs.Prelude.{ℕ, Bool}
-use Rattle.meaning.specs.Text.{Text}
-use Rattle.language_meaning.specs.Token.{Mark}
-use Rattle.language_meaning.specs.Tree.{Accessor, Expr, Step, Sub, OptionalSub, OptionalArg, OptionalExpr, Tagging, named, Tag, Arg, Parts}
+use Rattle.script_tokens.specs.cells.Text.{Text}
+use Rattle.script_tokens.specs.language.Token.{Mark}
+use Rattle.script_tokens.specs.language.Tree.{Accessor, Expr, Step, Sub, OptionalSub, OptionalArg, OptionalExpr, Tagging, named, Tag, Arg, Parts}
 use Rattle.script_syntax.specs.Reading as reading
 use Rattle.script_syntax.specs.Reading.{Reader, expr_at, argument_at}
 

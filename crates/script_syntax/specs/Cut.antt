@@ -1,7 +1,7 @@
 -- What it is that a text is cut into.
 use Rattle.std.specs.Prelude.{◌≡◌, ◌≢◌, ℕ, ◌+◌, ◌==◌, Bool, true, nat_le, List, [], ◌∷◌, ◌++◌}
 use Rattle.std.specs.List.{concat}
-use Rattle.language_meaning.specs.Pieces.{Mode, plain, mode_after, opens, closes, choose, pieces}
+use Rattle.script_tokens.specs.language.Pieces.{Mode, plain, mode_after, opens, closes, choose, pieces}
 
 -- Whether no more brackets are open after these bytes, where so many were opened and closed before them. A text and a comment end before a line feed.
 unfoldable pub is_closed : Mode → ℕ → ℕ → List ℕ → Bool

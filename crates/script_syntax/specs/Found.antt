@@ -1,10 +1,10 @@
 -- What functions of the parser find, as their readers give it.
 use Rattle.std.specs.Prelude.{◌≡◌, ℕ, ◌<◌, ◌≤◌, List, [], ◌∷◌, Option, Some, None, Result, Ok, Err}
 use Rattle.std.specs.Borrow.{Bor}
-use Rattle.meaning.specs.Text.{Text}
-use Rattle.language_meaning.specs.Tree as tree
-use Rattle.language_meaning.specs.Token as spec
-use Rattle.language_meaning.specs.Depth.{depth, arg_depth, parts_depth}
+use Rattle.script_tokens.specs.cells.Text.{Text}
+use Rattle.script_tokens.specs.language.Tree as tree
+use Rattle.script_tokens.specs.language.Token as spec
+use Rattle.script_tokens.specs.language.Depth.{depth, arg_depth, parts_depth}
 use Rattle.script_tree.specs.declared.literal.Unary.{Unary}
 use Rattle.script_tree.specs.declared.literal.Literal.{Literal}
 use Rattle.script_syntax.specs.declared.front.Call.{Call}

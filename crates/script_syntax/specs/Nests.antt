@@ -3,7 +3,7 @@ use Rattle.std.specs.Prelude.{ℕ, ◌<◌, List, Result}
 use Rattle.std.specs.Borrow.{Bor}
 use Rattle.std.specs.Fn.{Shared}
 use Rattle.std.specs.declared.alloc.Global.{Global}
-use Rattle.language_meaning.specs.Depth.{depth, arg_depth}
+use Rattle.script_tokens.specs.language.Depth.{depth, arg_depth}
 use Rattle.script_tokens.specs.declared.token.Token.{Token}
 use Rattle.script_tokens.specs.View.{tokens_of}
 use Rattle.script_tree.specs.declared.tree.Expr.{Expr}

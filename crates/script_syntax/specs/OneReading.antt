@@ -1,6 +1,6 @@
 -- That a text is read in one way.
 use Rattle.std.specs.Prelude.{ℕ, List, ◌⊎◌}
-use Rattle.language_meaning.specs.Tree.{Statement}
+use Rattle.script_tokens.specs.language.Tree.{Statement}
 use Rattle.script_syntax.specs.Parsed.{IsTheScript, IsTheSyntaxLine}
 
 -- The bytes are one script and no other, and have no syntax line; or they are no script, and have one syntax line.

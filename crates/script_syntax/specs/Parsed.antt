@@ -1,7 +1,7 @@
 -- What the bytes of a text are parsed to.
 use Rattle.std.specs.Prelude.{◌≡◌, ◌<◌, ◌≤◌, ℕ, List, length, Result, Ok, Err}
-use Rattle.language_meaning.specs.Tree.{Statement}
-use Rattle.language_meaning.specs.Script.{IsScript, IsSyntaxLine, most_bytes}
+use Rattle.script_tokens.specs.language.Tree.{Statement}
+use Rattle.script_tokens.specs.language.Script.{IsScript, IsSyntaxLine, most_bytes}
 use Rattle.script_tree.specs.ScriptView.{statements_of}
 use Rattle.script_tree.specs.declared.script.Script.{Script}
 use Rattle.script_syntax.specs.declared.pieces.ParseFault.{ParseFault}

@@ -1,8 +1,8 @@
 -- What one piece of a text is, and what it adds to a script.
 use Rattle.std.specs.Prelude.{◌≡◌, ℕ, ◌-◌, ◌<◌, List, [], ◌∷◌, ◌++◌, Result, Ok, Err}
 use Rattle.std.specs.Str.{IsUtf8}
-use Rattle.language_meaning.specs.Tree as tree
-use Rattle.language_meaning.specs.Script.{IsBlank, IsStatement, ArePieces, IsFirstWrong, most_statements}
+use Rattle.script_tokens.specs.language.Tree as tree
+use Rattle.script_tokens.specs.language.Script.{IsBlank, IsStatement, ArePieces, IsFirstWrong, most_statements}
 use Rattle.script_tree.specs.View.{action_of}
 use Rattle.script_syntax.specs.declared.pieces.PieceRead.{PieceRead}
 use Rattle.script_syntax.specs.declared.pieces.PieceRead.TheVariants.{Blank, Statement, Wrong}

@@ -1,12 +1,12 @@
 -- Reading tokens from left to right. A reader answers a value and the tokens after it, or that none begins there.
 use Rattle.std.specs.Prelude.{ℕ, zero, suc, pos, ◌^◌, neg_ℤ, Bool, true, false, nat_lt, nat_le, nat_eq, List, [], ◌∷◌, length, Option, Some, None, is_some, codes}
 use Rattle.std.specs.List.{list_any}
-use Rattle.meaning.specs.Text.{Text, same_text}
-use Rattle.language_meaning.specs.Token.{Token, word, int, text, op, mark, Mark, equals, dot, comma, colon, tilde, open_paren, close_paren, open_bracket, close_bracket, open_brace, close_brace, byte_of}
-use Rattle.language_meaning.specs.Tree as tree
-use Rattle.language_meaning.specs.Tree.{Unary, minus, invert, Binary, sub, Accessor, loc, iloc, at, iat, Literal, Expr, Step, Sub, OptionalSub, OptionalArg, OptionalExpr, Tagging, bare, named, keyed, Tag, Arg, Parts, Action, name, literal, unary, binary, after, len, make, paren, item, access, method, group, rolling, expanding, key, span, no_sub, some_sub, no_arg, some_arg, no_expr, some_expr, expr, many, row, table, nothing, no_parts, more_parts, import_pandas, bind, put, drop_name, drop_column, print}
-use Rattle.language_meaning.specs.Depth.{depth}
-use Rattle.language_meaning.specs.Grammar.{reserved_words, form_words, level, begins_int, begins_paren, begins_minus, most_depth}
+use Rattle.script_tokens.specs.cells.Text.{Text, same_text}
+use Rattle.script_tokens.specs.language.Token.{Token, word, int, text, op, mark, Mark, equals, dot, comma, colon, tilde, open_paren, close_paren, open_bracket, close_bracket, open_brace, close_brace, byte_of}
+use Rattle.script_tokens.specs.language.Tree as tree
+use Rattle.script_tokens.specs.language.Tree.{Unary, minus, invert, Binary, sub, Accessor, loc, iloc, at, iat, Literal, Expr, Step, Sub, OptionalSub, OptionalArg, OptionalExpr, Tagging, bare, named, keyed, Tag, Arg, Parts, Action, name, literal, unary, binary, after, len, make, paren, item, access, method, group, rolling, expanding, key, span, no_sub, some_sub, no_arg, some_arg, no_expr, some_expr, expr, many, row, table, nothing, no_parts, more_parts, import_pandas, bind, put, drop_name, drop_column, print}
+use Rattle.script_tokens.specs.language.Depth.{depth}
+use Rattle.script_tokens.specs.language.Grammar.{reserved_words, form_words, level, begins_int, begins_paren, begins_minus, most_depth}
 
 abbrev pub Read : Type 0 → Type 0
 Read A = Option (A × List Token)

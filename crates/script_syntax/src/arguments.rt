@@ -1,7 +1,7 @@
 // Arguments: tuples, lists, dictionaries, and the arguments of calls.
 ghost use Rattle.std.specs.Prelude.{◌≡◌, ◌≤◌, ◌+◌, false, length};
-ghost use Rattle.language_meaning.specs.Tree.{parts};
-ghost use Rattle.language_meaning.specs.Depth.{arg_depth, parts_depth};
+ghost use Rattle.script_tokens.specs.language.Tree.{parts};
+ghost use Rattle.script_tokens.specs.language.Depth.{arg_depth, parts_depth};
 ghost use Rattle.script_tree.specs.View.{arg_of, named_parts_of};
 ghost use Rattle.script_tokens.specs.View.{mark_of, tokens_of};
 ghost use Rattle.script_syntax.specs.Found.{Finds, part_depth, after_parts};

@@ -1,6 +1,6 @@
 // Expressions: signs, atoms, steps after them, and operators between them.
 ghost use Rattle.std.specs.Prelude.{◌≡◌, ◌≤◌, ◌+◌, length};
-ghost use Rattle.language_meaning.specs.Depth.{depth};
+ghost use Rattle.script_tokens.specs.language.Depth.{depth};
 ghost use Rattle.script_tree.specs.View.{expr_of};
 ghost use Rattle.script_tokens.specs.View.{tokens_of};
 ghost use Rattle.script_syntax.specs.Found.{Finds};

@@ -1,8 +1,8 @@
 // The front of the tokens that are left.
 ghost use Rattle.std.specs.Prelude.{◌≡◌, ◌≤◌, option_map};
 ghost use Rattle.std.specs.List.{list_any};
-ghost use Rattle.meaning.specs.Text.{same_text};
-ghost use Rattle.language_meaning.specs.Grammar as grammar;
+ghost use Rattle.script_tokens.specs.cells.Text.{same_text};
+ghost use Rattle.script_tokens.specs.language.Grammar as grammar;
 ghost use Rattle.script_tree.specs.View.{accessor_of};
 ghost use Rattle.script_tokens.specs.View.{binary_of, mark_of, tokens_of};
 ghost use Rattle.script_syntax.specs.Found.{rest_of, word_of, operator_of, sign_of, call_of, Gives};

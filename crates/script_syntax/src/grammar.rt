@@ -1,6 +1,6 @@
 //! The rules take the readers of expressions and arguments of less depth as parameters, so that each is proved by itself.
 ghost use Rattle.std.specs.Prelude.{◌≡◌, ◌≤◌, ◌<◌};
-ghost use Rattle.language_meaning.specs.Depth.{depth, arg_depth};
+ghost use Rattle.script_tokens.specs.language.Depth.{depth, arg_depth};
 ghost use Rattle.script_tree.specs.View.{expr_of, arg_of};
 ghost use Rattle.script_tokens.specs.View.{tokens_of};
 ghost use Rattle.script_syntax.specs.Found.{Finds};

@@ -1,7 +1,7 @@
 // Expressions that grow upwards, within the depth that is allowed.
 ghost use Rattle.std.specs.Prelude.{◌≡◌, ◌≤◌};
-ghost use Rattle.language_meaning.specs.Tree as tree;
-ghost use Rattle.language_meaning.specs.Depth.{depth, step_depth, arg_depth};
+ghost use Rattle.script_tokens.specs.language.Tree as tree;
+ghost use Rattle.script_tokens.specs.language.Depth.{depth, step_depth, arg_depth};
 ghost use Rattle.script_tree.specs.View.{expr_of, step_of, arg_of};
 ghost use Rattle.script_tokens.specs.View.{binary_of, tokens_of};
 ghost use Rattle.script_syntax.specs.Found.{Finds, IsBuilt};

@@ -2,8 +2,8 @@
 #![tactic(auto, unfolding(crate::specs::Reading::tag_at, crate::specs::Reading::has_name, crate::specs::Reading::as_part))]
 
 ghost use Rattle.std.specs.Prelude.{◌≡◌, [], ◌∷◌, ◌++◌, List, OnOk};
-ghost use Rattle.language_meaning.specs.Tree as tree;
-ghost use Rattle.language_meaning.specs.Depth.{arg_depth};
+ghost use Rattle.script_tokens.specs.language.Tree as tree;
+ghost use Rattle.script_tokens.specs.language.Depth.{arg_depth};
 ghost use Rattle.script_tree.specs.View.{arg_of};
 ghost use Rattle.script_tokens.specs.View.{tokens_of};
 ghost use Rattle.script_syntax.specs.Found.{Finds, Gives};

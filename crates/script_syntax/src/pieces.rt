@@ -1,6 +1,6 @@
 // Bytes to scripts.
 ghost use Rattle.std.specs.Prelude.{◌≡◌, ◌<◌, ◌≤◌, ◌^◌, ◌+◌, [], ◌∷◌, ◌++◌, length, Result, IfOk};
-ghost use Rattle.language_meaning.specs.Script.{most_bytes};
+ghost use Rattle.script_tokens.specs.language.Script.{most_bytes};
 ghost use Rattle.script_tree.specs.ScriptView.{statements_of};
 ghost use Rattle.script_syntax.specs.Parsed.{IsParsed};
 ghost use Rattle.script_syntax.specs.PieceRead.{IsPieceRead, IsSettled};

@@ -1,6 +1,6 @@
 // Steps: items in brackets, subscripts of accessors, and methods.
 ghost use Rattle.std.specs.Prelude.{◌≡◌, ◌≤◌};
-ghost use Rattle.language_meaning.specs.Depth.{step_depth, sub_depth, optional_sub_depth, optional_arg_depth, optional_expr_depth};
+ghost use Rattle.script_tokens.specs.language.Depth.{step_depth, sub_depth, optional_sub_depth, optional_arg_depth, optional_expr_depth};
 ghost use Rattle.script_tree.specs.View.{step_of, sub_of, accessor_of, optional_arg, optional_sub, optional_expr};
 ghost use Rattle.script_tokens.specs.View.{tokens_of};
 ghost use Rattle.script_syntax.specs.Found.{Finds, named_call_of, named_call_depth};

@@ -1,7 +1,6 @@
 -- A blank piece has no token.
 use Rattle.{
-  meaning.proofs.Common.{◌≡◌, ℕ, List, [], ◌∷◌, arith, nat_tests},
-  language_meaning.specs.{Token.{Token, word, int, text, op, mark, IsToken, Lexes, skip}, Script.{IsBlank}},
+  meaning_language.{proofs.cells.Common.{◌≡◌, ℕ, List, [], ◌∷◌, arith, nat_tests}, specs.{Token.{Token, word, int, text, op, mark, IsToken, Lexes, skip}, Script.{IsBlank}}},
   script_tokens.proofs.TokenLaws.{IsToken-shorter, word_begins, int_begins},
 }
 

@@ -1,8 +1,5 @@
 -- The first piece, by its length, and the pieces after it.
-use Rattle.{
-  meaning.proofs.Common.{◌≡◌, ℕ, suc, ◌+◌, ◌<◌, List, [], ◌∷◌, length, take, drop, refl, arith, leb, eqb},
-  language_meaning.specs.Pieces.{Mode, plain, mode_after, opens, closes, choose, cut, pieces},
-}
+use Rattle.meaning_language.{proofs.cells.Common.{◌≡◌, ℕ, suc, ◌+◌, ◌<◌, List, [], ◌∷◌, length, take, drop, refl, arith, leb, eqb}, specs.Pieces.{Mode, plain, mode_after, opens, closes, choose, cut, pieces}}
 
 -- how long the rest of a piece is, of whose brackets so many were opened and closed
 unfoldable pub rest_len : Mode → ℕ → ℕ → List ℕ → ℕ

@@ -1,7 +1,6 @@
 -- A piece is read token by token.
 use Rattle.{
-  meaning.proofs.Common.{rules, ◌≡◌, sym, ap, subst, refl, ℕ, ◌≤◌, ◌<◌, true, false, ◌||◌, List, [], ◌∷◌, ◌++◌, Option, length, get_or, eqb, append_assoc, arith, inl, inr, nat_tests, IsUtf8-nil, append-nil, map-append, MatchOption, IsUtf8},
-  language_meaning.specs.Token.{Token, text, op, mark, begins_word, is_digit, ends_line, IsQuote, IsToken, Lexes, skip, skip_comment},
+  meaning_language.{proofs.cells.Common.{rules, ◌≡◌, sym, ap, subst, refl, ℕ, ◌≤◌, ◌<◌, true, false, ◌||◌, List, [], ◌∷◌, ◌++◌, Option, length, get_or, eqb, append_assoc, arith, inl, inr, nat_tests, IsUtf8-nil, append-nil, map-append, MatchOption, IsUtf8}, specs.Token.{Token, text, op, mark, begins_word, is_digit, ends_line, IsQuote, IsToken, Lexes, skip, skip_comment}},
   script_tokens.{specs.{View.{token_of, tokens_of}, Absent.{BeginsNoToken, BeginsNoSign}, Quoted.{EndsNoText}}, proofs.{Runs.{true_or_false}, TokenLaws.{kind_at, kind_of, IsToken-kind, IsToken-unique, IsToken-shorter, IsUtf8-after_token}, Texts.{IsUtf8-after_ascii}}},
 }
 use Rattle.script_tokens.specs.declared.token.Token as code

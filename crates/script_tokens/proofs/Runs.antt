@@ -1,8 +1,5 @@
 -- The longest front of bytes that pass a test.
-use Rattle.{
-  meaning.proofs.Common.{◌≡◌, refl, ℕ, zero, suc, ◌+◌, ◌<◌, ◌≤◌, Bool, true, false, ◌&&◌, List, [], ◌∷◌, ◌++◌, length, take, drop, inl, inr, ◌⊎◌, arith, IsUtf8-from_ascii, list_all, prefix_len, IsAscii, IsUtf8},
-  language_meaning.specs.Token.{IsRun, begins_with},
-}
+use Rattle.meaning_language.{proofs.cells.Common.{◌≡◌, refl, ℕ, zero, suc, ◌+◌, ◌<◌, ◌≤◌, Bool, true, false, ◌&&◌, List, [], ◌∷◌, ◌++◌, length, take, drop, inl, inr, ◌⊎◌, arith, IsUtf8-from_ascii, list_all, prefix_len, IsAscii, IsUtf8}, specs.Token.{IsRun, begins_with}}
 
 pub true_or_false : (b : Bool) → (b ≡ true) ⊎ (b ≡ false)
 true_or_false = grind arith

@@ -1,7 +1,6 @@
 -- Bytes begin with an operator or a mark.
 use Rattle.{
-  meaning.proofs.Common.{◌≡◌, ◌⊎◌, inl, inr, refl, ℕ, false, if◌then◌else◌, Option, Some, None, eqb, List, [], ◌∷◌, drop, get_or, arith, eqb_tells, Binary, add},
-  language_meaning.specs.{Tree.{sub, mul, floor_div, mod_, eq, ne, lt, le, gt, ge, and, or, xor}, Token.{Token, op, mark, Mark, equals, dot, comma, colon, tilde, open_paren, close_paren, open_bracket, close_bracket, open_brace, close_brace, byte_of, spelling_of, begins_with, IsToken}},
+  meaning_language.{proofs.cells.Common.{◌≡◌, ◌⊎◌, inl, inr, refl, ℕ, false, if◌then◌else◌, Option, Some, None, eqb, List, [], ◌∷◌, drop, get_or, arith, eqb_tells, Binary, add}, specs.{Tree.{sub, mul, floor_div, mod_, eq, ne, lt, le, gt, ge, and, or, xor}, Token.{Token, op, mark, Mark, equals, dot, comma, colon, tilde, open_paren, close_paren, open_bracket, close_bracket, open_brace, close_brace, byte_of, spelling_of, begins_with, IsToken}}},
   script_tokens.specs.Absent.{BeginsNoLongOperator, BeginsNoSign},
 }
 

@@ -1,8 +1,7 @@
 -- A text between quotes is read part by part.
 use Rattle.{
-  meaning.proofs.Common.{◌≡◌, ◌≢◌, subst, refl, ℕ, ◌<◌, true, false, List, [], ◌∷◌, ◌++◌, length, length-append, append_assoc, arith, inl, inr, nat_tests, append-nil, get_or-append_seam, drop-append_seam, take-append_seam, list_all, IsUtf8, Text},
+  meaning_language.{proofs.cells.Common.{◌≡◌, ◌≢◌, subst, refl, ℕ, ◌<◌, true, false, List, [], ◌∷◌, ◌++◌, length, length-append, append_assoc, arith, inl, inr, nat_tests, append-nil, get_or-append_seam, drop-append_seam, take-append_seam, list_all, IsUtf8, Text}, specs.Token.{begins_with, IsRun, IsQuoted, IsQuote}},
   std.proofs.{lemmas.Str.{IsUtf8-take, IsUtf8-drop, IsCharBoundary-before_ascii, IsCharBoundary-after_ascii}, Math.Seq.{drop-append-add}},
-  language_meaning.specs.Token.{begins_with, IsRun, IsQuoted, IsQuote},
   script_tokens.{specs.Quoted.{is_plain, IsEscape, BeginsNoEscape, EndsNoText}, proofs.Runs.{both_true}},
 }
 

@@ -1,8 +1,7 @@
 -- Bytes begin with one token.
 use Rattle.{
-  meaning.proofs.Common.{◌≡◌, ◌≢◌, ◌∙◌, sym, ap, refl, ℕ, ◌≤◌, ◌<◌, ◌^◌, Bool, true, ◌||◌, eqb, if◌then◌else◌, subst, List, [], ◌∷◌, ◌++◌, length, length-append, get_or, decimal, Result, Ok, arith, rules, nat_tests, decimal_injective, IsNumeralModel, numerals_by_value, IsUtf8, digits_value, list_all, Text, Binary},
+  meaning_language.{proofs.cells.Common.{◌≡◌, ◌≢◌, ◌∙◌, sym, ap, refl, ℕ, ◌≤◌, ◌<◌, ◌^◌, Bool, true, ◌||◌, eqb, if◌then◌else◌, subst, List, [], ◌∷◌, ◌++◌, length, length-append, get_or, decimal, Result, Ok, arith, rules, nat_tests, decimal_injective, IsNumeralModel, numerals_by_value, IsUtf8, digits_value, list_all, Text, Binary}, specs.Token.{Token, word, int, text, op, mark, spelling_of, is_digit, begins_word, continues_word, begins_with, IsRun, IsTextByte, IsQuoted, IsToken}},
   std.{proofs.{Common.{ltb}, lemmas.{Fmt.{decimal_nonempty, decimal-digits_value, parse-decimal}, Str.Parse.{parse_digits}}}, specs.Str.Parse.{ParsesUnsigned}},
-  language_meaning.specs.Token.{Token, word, int, text, op, mark, spelling_of, is_digit, begins_word, continues_word, begins_with, IsRun, IsTextByte, IsQuoted, IsToken},
   script_tokens.proofs.{Runs.{both_true, not_both, IsRun-unique}, Signs.{operator_reads, mark_reads}, Texts.{quoted_ends, IsUtf8-after_ascii}},
 }
 

@@ -1,7 +1,7 @@
 -- Bytes that begin with no token, or with none of a kind.
 use Rattle.std.specs.Prelude.{◌≡◌, ℕ, List, [], ◌∷◌}
-use Rattle.language_meaning.specs.Tree as tree
-use Rattle.language_meaning.specs.Token.{Token, Mark, op, mark, spelling_of, IsToken, Lexes}
+use Rattle.meaning_language.specs.Tree as tree
+use Rattle.meaning_language.specs.Token.{Token, Mark, op, mark, spelling_of, IsToken, Lexes}
 
 abbrev pub BeginsNoToken : List ℕ → Type 0
 BeginsNoToken bytes = (t : Token) (rest : List ℕ) → IsToken t bytes rest → ⊥

@@ -1,7 +1,7 @@
 -- Parts of a text between quotes.
 use Rattle.std.specs.Prelude.{◌≡◌, ℕ, ◌==◌, ◌||◌, Bool, true, false, List, ◌∷◌, Some, if◌then◌else◌}
-use Rattle.meaning.specs.Text.{Text}
-use Rattle.language_meaning.specs.Token.{escaped, IsQuoted}
+use Rattle.meaning_language.specs.cells.Text.{Text}
+use Rattle.meaning_language.specs.Token.{escaped, IsQuoted}
 
 -- a byte that stands for itself
 abbrev pub is_plain : ℕ → ℕ → Bool

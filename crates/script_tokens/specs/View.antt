@@ -1,8 +1,8 @@
 -- What the code's values stand for.
 use Rattle.std.specs.Prelude.{List, map}
-use Rattle.language_meaning.specs.Tree as tree
-use Rattle.language_meaning.specs.Token as spec
-use Rattle.language_meaning.specs.Pieces as pieces
+use Rattle.meaning_language.specs.Tree as tree
+use Rattle.meaning_language.specs.Token as spec
+use Rattle.meaning_language.specs.Pieces as pieces
 use Rattle.script_tokens.specs.declared.token.Binary.{Binary}
 use Rattle.script_tokens.specs.declared.token.Binary.TheVariants as binary
 use Rattle.script_tokens.specs.declared.token.Mark.{Mark}

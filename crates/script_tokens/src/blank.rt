@@ -1,7 +1,7 @@
 // What separates tokens: blanks, line ends and comments.
 ghost use Rattle.std.specs.Prelude.{◌≡◌, ◌↔◌, ◌≤◌, ◌==◌, ◌||◌, length, IsTrue};
-ghost use Rattle.language_meaning.specs.Token as spec;
-ghost use Rattle.language_meaning.specs.Script.{IsBlank};
+ghost use Rattle.meaning_language.specs.Token as spec;
+ghost use Rattle.meaning_language.specs.Script.{IsBlank};
 
 // Whether a line feed comes first.
 fn begins_line_feed(bytes: &[u8]) -> bool

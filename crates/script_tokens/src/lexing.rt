@@ -1,7 +1,7 @@
 // A piece, as its tokens.
 ghost use Rattle.std.specs.Prelude.{◌≡◌, List, IfOk, IfSome, MatchOption};
 ghost use Rattle.std.specs.Str.{IsUtf8};
-ghost use Rattle.language_meaning.specs.Token as spec;
+ghost use Rattle.meaning_language.specs.Token as spec;
 ghost use Rattle.script_tokens.specs.View.{token_of, tokens_of};
 ghost use Rattle.script_tokens.specs.Absent.{BeginsNoToken, HasNoTokens};
 

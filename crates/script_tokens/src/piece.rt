@@ -1,7 +1,7 @@
 // Where a piece ends, and the lines that end in it.
 ghost use Rattle.std.specs.Prelude.{◌≡◌, ◌<◌, ◌≤◌, ◌∷◌, length, take, drop};
-ghost use Rattle.language_meaning.specs.Pieces as spec;
-ghost use Rattle.language_meaning.specs.Script as script;
+ghost use Rattle.meaning_language.specs.Pieces as spec;
+ghost use Rattle.meaning_language.specs.Script as script;
 ghost use Rattle.script_tokens.specs.View.{mode_of};
 
 // Where a byte of a piece stands.
@@ -50,7 +50,7 @@ fn closes(mode: Mode, byte: u8) -> usize
 }
 
 /// How many bytes the first piece has: 0 only where there are no bytes.
-#[tactic(auto, using(crate::proofs::FirstPiece::pieces_first), unfolding(crate::proofs::FirstPiece::rest_len, language_meaning::specs::Pieces::choose))]
+#[tactic(auto, using(crate::proofs::FirstPiece::pieces_first), unfolding(crate::proofs::FirstPiece::rest_len, meaning_language::specs::Pieces::choose))]
 pub fn piece_len(bytes: &[u8]) -> usize
     ensures first { 0 < length bytes.now →
         spec.pieces bytes.now ≡ take result bytes.now ∷ spec.pieces (drop result bytes.now) }

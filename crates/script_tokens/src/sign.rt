@@ -1,7 +1,7 @@
 // Operators and marks.
 ghost use Rattle.std.specs.Prelude.{◌≡◌, ◌∷◌, [], MatchOption};
-ghost use Rattle.language_meaning.specs.Tree as tree;
-ghost use Rattle.language_meaning.specs.Token as spec;
+ghost use Rattle.meaning_language.specs.Tree as tree;
+ghost use Rattle.meaning_language.specs.Token as spec;
 ghost use Rattle.script_tokens.specs.View.{binary_of, mark_of, token_of};
 ghost use Rattle.script_tokens.specs.Absent.{BeginsNoLongOperator, BeginsNoSign};
 

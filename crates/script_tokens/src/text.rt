@@ -2,7 +2,7 @@
 ghost use Rattle.std.specs.Prelude.{◌≡◌, ◌↔◌, ◌∷◌, [], ℕ, List, Some, None, IfOk, IsTrue, MatchOption};
 ghost use Rattle.std.specs.List.{prefix_len};
 ghost use Rattle.std.specs.Str.{IsUtf8};
-ghost use Rattle.language_meaning.specs.Token as spec;
+ghost use Rattle.meaning_language.specs.Token as spec;
 ghost use Rattle.script_tokens.specs.Quoted as quoted;
 ghost use Rattle.script_tokens.specs.Quoted.{IsEscape, BeginsNoEscape, EndsNoText};
 

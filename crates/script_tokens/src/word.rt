@@ -1,7 +1,7 @@
 // Words and whole numbers.
 ghost use Rattle.std.specs.Prelude.{◌≡◌, ◌<◌, ◌≤◌, ◌^◌, ℕ, decimal, length, true, MatchOption};
 ghost use Rattle.std.specs.List.{list_all, prefix_len};
-ghost use Rattle.language_meaning.specs.Token as spec;
+ghost use Rattle.meaning_language.specs.Token as spec;
 ghost use Rattle.script_tokens.specs.View.{token_of};
 ghost use Rattle.script_tokens.specs.Absent.{BeginsNoToken};
 

@@ -1,10 +1,9 @@
 -- A row of parts, as the list of them.
 use Rattle.{
-  meaning.proofs.Common.{◌≡◌, Option, Some, None, refl, ap, map, rules, Words},
-  language_meaning.specs.Tree.{parts},
+  script_tokens.{proofs.cells.Common.{◌≡◌, Option, Some, None, refl, ap, map, rules, Words}, specs.language.Tree.{parts}},
   script_tree.specs.{declared.{tree.Arg.{Arg, Row_of-Arg, end_of-Arg, more_of-Arg, items-the_row-Arg, Row_of-ArgPairs-items-2, end_of-ArgPairs-items-2, more_of-ArgPairs-items-2, items-the_row-ArgPairs-items-2}, parts.{Args.{Args, the_lemmas, Row_of-Args-items-2, end_of-Args-items-2, more_of-Args-items-2, items-the_row-Args-items-2}, ArgList.{ArgList, the_lemmas as list_lemmas}, ArgPairs.{ArgPairs, the_lemmas as pairs_lemmas}}}, View.{expr_of, step_of, arg_of, list_of_row, named_of_row, pairs_of_row, part_of, parts_of, named_of, named_parts_of, pair_of, pair_parts_of, literal_of, optional_arg}},
 }
-use Rattle.language_meaning.specs.Tree as tree
+use Rattle.script_tokens.specs.language.Tree as tree
 use Rattle.script_tree.specs.declared.tree.Arg.TheVariants as arg
 use Rattle.script_tree.specs.declared.tree.Expr.TheVariants as expr
 use Rattle.script_tree.specs.declared.tree.Step.TheVariants as step

@@ -1,6 +1,6 @@
 -- The statements of a script, as plain trees.
 use Rattle.std.specs.Prelude.{List, map}
-use Rattle.language_meaning.specs.Tree as tree
+use Rattle.script_tokens.specs.language.Tree as tree
 use Rattle.script_tree.specs.declared.script.Script.{Script}
 use Rattle.script_tree.specs.View.{statement_of}
 

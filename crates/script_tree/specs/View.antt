@@ -1,8 +1,8 @@
 -- The plain trees that the code's trees stand for.
 use Rattle.std.specs.Prelude.{List, map, Option, Some, None}
-use Rattle.meaning.specs.Text.{Text}
-use Rattle.language_meaning.specs.Tree as tree
-use Rattle.language_meaning.specs.Tree.{bare, named, keyed, Tag, Parts, no_parts, more_parts}
+use Rattle.script_tokens.specs.cells.Text.{Text}
+use Rattle.script_tokens.specs.language.Tree as tree
+use Rattle.script_tokens.specs.language.Tree.{bare, named, keyed, Tag, Parts, no_parts, more_parts}
 use Rattle.script_tokens.specs.View.{binary_of}
 use Rattle.script_tree.specs.declared.literal.Literal.{Literal}
 use Rattle.script_tree.specs.declared.literal.Literal.TheVariants as literal

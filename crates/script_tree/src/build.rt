@@ -1,6 +1,6 @@
 // Trees that hold lists, made of their parts.
 ghost use Rattle.std.specs.Prelude.{◌≡◌};
-ghost use Rattle.language_meaning.specs.Tree as tree;
+ghost use Rattle.script_tokens.specs.language.Tree as tree;
 ghost use Rattle.script_tree.specs.View.{expr_of, step_of, arg_of, parts_of, named_parts_of, pair_parts_of, optional_arg, accessor_of, sub_of, optional_sub, optional_expr};
 
 use crate::literal::Accessor;

@@ -1,5 +1,5 @@
 use Rattle.{
-  meaning.proofs.Common.{◌≡◌, ℤ, ap, sym, ◌∙◌, rules, to_z, of_z, w64},
+  column_core.proofs.cells.Common.{◌≡◌, ℤ, ap, sym, ◌∙◌, rules, to_z, of_z, w64},
   column_bench.{specs.Checks.{check_more}, proofs.CheckLaws.{check_below_more}},
 }
 use Rattle.column_bench.proofs.checks.check.Goals as goal

@@ -1,5 +1,5 @@
 use Rattle.{
-  meaning.proofs.Common.{◌≡◌},
+  column_core.proofs.cells.Common.{◌≡◌},
   column_bench.specs.Checks.{check_below},
 }
 use Rattle.column_bench.proofs.checks.check.Given as goal

@@ -1,5 +1,5 @@
 use Rattle.{
-  meaning.proofs.Common.{[], ◌∷◌, ◌++◌, ap, sym, ◌∙◌, List, Option, ℕ, tabulate},
+  column_core.proofs.cells.Common.{[], ◌∷◌, ◌++◌, ap, sym, ◌∙◌, List, Option, ℕ, tabulate},
   column_bench.{specs.Data.{place_at}, proofs.DataLaws.{tabulate_more}},
 }
 use Rattle.column_bench.proofs.data.places.Goals as goal

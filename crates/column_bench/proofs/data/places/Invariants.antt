@@ -1,5 +1,5 @@
 use Rattle.{
-  meaning.proofs.Common.{◌≡◌, tabulate},
+  column_core.proofs.cells.Common.{◌≡◌, tabulate},
   column_bench.specs.Data.{place_at},
 }
 use Rattle.column_bench.proofs.data.places.Given as goal

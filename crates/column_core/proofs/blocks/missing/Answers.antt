@@ -1,5 +1,5 @@
 use Rattle.{
-  meaning.proofs.Common.{refl, Int64, Boolean},
+  meaning_cells.proofs.Common.{refl, Int64, Boolean},
   cell_core.specs.declared.cell.Kind.TheVariants.{Text as string},
   column_core.{specs.Columns.{number_cell, truth_cell, text_cell}, proofs.BlockLaws.{blank_column}},
 }

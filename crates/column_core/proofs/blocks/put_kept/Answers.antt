@@ -1,5 +1,5 @@
 use Rattle.{
-  meaning.proofs.Common.{ap, sym, arith},
+  meaning_cells.proofs.Common.{ap, sym, arith},
   column_core.{specs.{Columns.{number_cell, truth_cell, text_cell}, Views.{kept_column}}, proofs.{ColumnLaws.{length-tabulate}, BlockLaws.{put_column}}},
 }
 use Rattle.column_core.proofs.blocks.put_kept.Goals as goal

@@ -1,5 +1,5 @@
 use Rattle.{
-  meaning.proofs.Common.{◌∙◌},
+  meaning_cells.proofs.Common.{◌∙◌},
   column_core.proofs.BlockLaws.{repeated_column},
 }
 use Rattle.column_core.proofs.columns.repeated_value.Goals as goal

@@ -1,5 +1,5 @@
 use Rattle.{
-  meaning.proofs.Common.{refl},
+  meaning_cells.proofs.Common.{refl},
   column_core.proofs.CellRows.{total_made},
 }
 use Rattle.column_core.proofs.moves.copied.Goals as goal

@@ -1,5 +1,5 @@
 use Rattle.{
-  meaning.proofs.Common.{◌∙◌, IfOk-weaker},
+  meaning_cells.proofs.Common.{◌∙◌, IfOk-weaker},
   column_core.proofs.CellRows.{same_column},
 }
 use Rattle.column_core.proofs.moves.copied_lane.Goals as goal

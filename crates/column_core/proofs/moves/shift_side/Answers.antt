@@ -1,5 +1,5 @@
 use Rattle.{
-  meaning.proofs.Common.{◌∙◌, ap},
+  meaning_cells.proofs.Common.{◌∙◌, ap},
   column_core.proofs.{CellRows.{same_column}, MoveLaws.{shifted_seen}},
 }
 use Rattle.column_core.proofs.moves.shift_side.Goals as goal

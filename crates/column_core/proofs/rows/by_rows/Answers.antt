@@ -1,5 +1,5 @@
 use Rattle.{
-  meaning.proofs.Common.{◌≡◌, length, arith},
+  meaning_cells.proofs.Common.{◌≡◌, length, arith},
   column_core.proofs.RowsMade.{vectors_written, rows_refused},
 }
 use Rattle.column_core.proofs.rows.by_rows.Goals as goal

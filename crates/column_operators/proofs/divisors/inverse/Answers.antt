@@ -1,5 +1,5 @@
 use Rattle.{
-  meaning.proofs.Common.{pow-add, div_below, one_shl, ◌≡◌, ◌+◌, ◌*◌, ◌%◌, ◌^◌, arith},
+  column_core.proofs.cells.Common.{pow-add, div_below, one_shl, ◌≡◌, ◌+◌, ◌*◌, ◌%◌, ◌^◌, arith},
   column_operators.proofs.QuotientLaws.{inverts},
 }
 use Rattle.column_operators.proofs.divisors.inverse.Goals as goal

@@ -1,7 +1,6 @@
 use Rattle.{
-  meaning.proofs.Common.{subst, datum},
+  column_core.{proofs.{cells.Common.{subst, datum}, CellRows.{same_column}}, specs.Columns.{CellColumn, column_value}},
   nullable_array.specs.Answers.{Answers},
-  column_core.{specs.Columns.{CellColumn, column_value}, proofs.CellRows.{same_column}},
   column_operators.specs.Tasks.{scalar_task},
 }
 use Rattle.column_operators.proofs.kernels.beside_lane.Goals as goal

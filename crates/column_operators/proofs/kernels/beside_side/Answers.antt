@@ -1,5 +1,5 @@
 use Rattle.{
-  meaning.proofs.Common.{refl},
+  column_core.proofs.cells.Common.{refl},
   column_operators.proofs.Scalars.{scalar_on_left, scalar_on_right},
 }
 use Rattle.column_operators.proofs.kernels.beside_side.Goals as goal

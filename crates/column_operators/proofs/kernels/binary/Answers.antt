@@ -1,5 +1,5 @@
 use Rattle.{
-  meaning.proofs.Common.{refl, sym, add},
+  column_core.proofs.cells.Common.{refl, sym, add},
   column_operators.proofs.RowLaws.{column_rows},
 }
 use Rattle.column_operators.proofs.kernels.binary.Goals as goal

@@ -1,7 +1,6 @@
 use Rattle.{
-  meaning.proofs.Common.{arith, refl, nat_cmp, slice_cmp, text_of},
+  column_core.{proofs.cells.Common.{arith, refl, nat_cmp, slice_cmp, text_of}, specs.Columns.{text_cell}},
   cell_core.specs.declared.cell.Kind.TheVariants.{Text as string},
-  column_core.specs.Columns.{text_cell},
   column_operators.{specs.Operations.{compare_row}, proofs.TaskAnswers.{pair_answer}},
   nullable_array.proofs.ColumnAnswers.{given_at},
 }

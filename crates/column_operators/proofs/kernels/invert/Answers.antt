@@ -1,7 +1,6 @@
 use Rattle.{
-  meaning.{proofs.Common.{ap, sym, subst, ◌∙◌}, specs.Operator.{invert_column}},
+  column_core.{proofs.{cells.Common.{ap, sym, subst, ◌∙◌}, CellRows.{same_column}}, specs.{cells.Operator.{invert_column}, Columns.{CellColumn, column_value, truth_cell}, Views.{borrowed_column}}},
   nullable_array.specs.Answers.{Answers},
-  column_core.{specs.{Columns.{CellColumn, column_value, truth_cell}, Views.{borrowed_column}}, proofs.CellRows.{same_column}},
 }
 use Rattle.column_operators.proofs.kernels.invert.Goals as goal
 

@@ -1,7 +1,6 @@
 use Rattle.{
-  meaning.proofs.Common.{subst, Result, ColumnValue, ColumnFault},
+  column_core.proofs.{cells.Common.{subst, Result, ColumnValue, ColumnFault}, CellRows.{total_column}},
   nullable_array.specs.Answers.{Answers},
-  column_core.proofs.CellRows.{total_column},
   column_operators.proofs.Laws.{not_law, not_some},
 }
 use Rattle.column_operators.proofs.kernels.inverted.Goals as goal

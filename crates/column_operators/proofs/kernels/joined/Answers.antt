@@ -1,8 +1,7 @@
 use Rattle.{
-  meaning.proofs.Common.{ap, sym, ◌∙◌, Ok},
+  column_core.proofs.{cells.Common.{ap, sym, ◌∙◌, Ok}, CellRows.{pairs_column}},
   cell_core.specs.declared.cell.Kind.TheVariants.{Text as string},
   column_operators.{specs.Tasks.{task_cell}, proofs.Laws.{join_law}},
-  column_core.proofs.CellRows.{pairs_column},
 }
 use Rattle.column_operators.specs.declared.ops.Task.TheVariants as task
 use Rattle.column_operators.proofs.kernels.joined.Goals as goal

@@ -1,6 +1,5 @@
 use Rattle.{
-  meaning.proofs.Common.{refl},
-  column_core.{specs.Columns.{text_cell}, proofs.ColumnLaws.{given-row}},
+  column_core.{proofs.{cells.Common.{refl}, ColumnLaws.{given-row}}, specs.Columns.{text_cell}},
   column_operators.proofs.Scalars.{text_kept, scalar_on_left, scalar_on_right},
 }
 use Rattle.column_operators.specs.declared.ops.Task.TheVariants as task

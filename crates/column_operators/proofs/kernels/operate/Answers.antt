@@ -1,7 +1,4 @@
-use Rattle.{
-  meaning.proofs.Common.{ap, sym, ◌∙◌, Ok},
-  column_core.{specs.Columns.{column_value}, proofs.{CellRows.{made_column}, ColumnLaws.{given-plain}}},
-}
+use Rattle.column_core.{proofs.{cells.Common.{ap, sym, ◌∙◌, Ok}, CellRows.{made_column}, ColumnLaws.{given-plain}}, specs.Columns.{column_value}}
 use Rattle.column_operators.proofs.kernels.operate.Goals as goal
 
 pub returns-in-Ok-clause-answer : goal.returns-in-Ok-clause-answer

@@ -1,5 +1,5 @@
 use Rattle.{
-  meaning.proofs.Common.{refl, sym, rules},
+  column_core.proofs.cells.Common.{refl, sym, rules},
   column_operators.{specs.Tasks.{operator_of}, proofs.RowLaws.{column_rows}},
 }
 use Rattle.column_operators.proofs.kernels.pure_binary.Goals as goal

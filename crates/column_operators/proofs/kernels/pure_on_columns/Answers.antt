@@ -1,6 +1,5 @@
 use Rattle.{
-  meaning.proofs.Common.{arith},
-  column_core.proofs.ColumnLaws.{length-tabulate},
+  column_core.proofs.{cells.Common.{arith}, ColumnLaws.{length-tabulate}},
   nullable_array.proofs.ColumnAnswers.{given_at},
 }
 use Rattle.column_operators.proofs.kernels.pure_on_columns.Goals as goal

@@ -1,5 +1,5 @@
 use Rattle.{
-  meaning.proofs.Common.{refl, rules},
+  column_core.proofs.cells.Common.{refl, rules},
   column_operators.{specs.Tasks.{operator_of}, proofs.RowLaws.{scalar_rows}},
 }
 use Rattle.column_operators.proofs.kernels.pure_with_scalar.Goals as goal

@@ -1,6 +1,5 @@
 use Rattle.{
-  meaning.proofs.Common.{arith, pos, Some, refl, Int64},
-  column_core.specs.Columns.{number_cell},
+  column_core.{proofs.cells.Common.{arith, pos, Some, refl, Int64}, specs.Columns.{number_cell}},
   column_operators.proofs.{TaskAnswers.{pair_answer}, Laws.{quotient_law}},
 }
 use Rattle.column_operators.specs.declared.ops.Task.TheVariants as task

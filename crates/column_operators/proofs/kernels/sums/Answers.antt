@@ -1,6 +1,5 @@
 use Rattle.{
-  meaning.proofs.Common.{arith, ap, sym, ◌∙◌},
-  column_core.{specs.Views.{borrowed_column}, proofs.ColumnLaws.{length-tabulate, given-row}},
+  column_core.{proofs.{cells.Common.{arith, ap, sym, ◌∙◌}, ColumnLaws.{length-tabulate, given-row}}, specs.Views.{borrowed_column}},
   nullable_array.proofs.ColumnAnswers.{given_at},
 }
 use Rattle.column_operators.proofs.kernels.sums.Goals as goal

@@ -1,7 +1,6 @@
 use Rattle.{
-  meaning.proofs.Common.{refl},
+  column_core.{proofs.cells.Common.{refl}, specs.Columns.{text_cell}},
   cell_core.specs.declared.cell.Kind.TheVariants.{Text as string},
-  column_core.specs.Columns.{text_cell},
   column_operators.proofs.Scalars.{text_kept, scalar_on_left, scalar_on_right},
 }
 use Rattle.column_operators.proofs.kernels.texts_beside.Goals as goal

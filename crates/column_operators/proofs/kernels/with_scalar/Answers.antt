@@ -1,5 +1,5 @@
 use Rattle.{
-  meaning.proofs.Common.{refl, add},
+  column_core.proofs.cells.Common.{refl, add},
   column_operators.proofs.RowLaws.{scalar_rows},
 }
 use Rattle.column_operators.proofs.kernels.with_scalar.Goals as goal

@@ -1,7 +1,4 @@
-use Rattle.{
-  meaning.proofs.Common.{arith, ◌∙◌, IfOk-weaker},
-  column_core.proofs.CellRows.{same_column},
-}
+use Rattle.column_core.proofs.{cells.Common.{arith, ◌∙◌, IfOk-weaker}, CellRows.{same_column}}
 use Rattle.column_operators.proofs.maps.map_lane.Goals as goal
 
 pub returns-in-Some : goal.returns-in-Some

@@ -1,6 +1,5 @@
 use Rattle.{
-  meaning.proofs.Common.{◌∙◌, ap, sym, refl, Some, list_any},
-  column_core.specs.{Columns.{number_cell, truth_cell, text_cell}, Views.{borrowed_column}},
+  column_core.{proofs.cells.Common.{◌∙◌, ap, sym, refl, Some, list_any}, specs.{Columns.{number_cell, truth_cell, text_cell}, Views.{borrowed_column}}},
   column_operators.{specs.Marks.{same_number}, proofs.MarkLaws.{if_mapped}},
 }
 use Rattle.column_operators.proofs.membership.isin.Goals as goal

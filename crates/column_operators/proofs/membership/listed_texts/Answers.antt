@@ -1,6 +1,5 @@
 use Rattle.{
-  meaning.proofs.Common.{arith, Some, list_any},
-  column_core.specs.Columns.{text_cell},
+  column_core.{proofs.cells.Common.{arith, Some, list_any}, specs.Columns.{text_cell}},
   column_operators.{specs.Marks.{listed_value, same_number}, proofs.MarkLaws.{if_same_rows, text_listed}},
 }
 use Rattle.cell_core.specs.contracts.cell.TextIdPartialEq.TheImpl as id

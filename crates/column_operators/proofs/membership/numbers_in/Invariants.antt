@@ -1,5 +1,5 @@
 use Rattle.{
-  meaning.proofs.Common.{◌≡◌, ◌++◌, drop},
+  column_core.proofs.cells.Common.{◌≡◌, ◌++◌, drop},
   column_operators.specs.Marks.{numbers_among},
 }
 use Rattle.column_operators.proofs.membership.numbers_in.Given as goal

@@ -1,7 +1,4 @@
-use Rattle.{
-  meaning.proofs.Common.{refl},
-  column_core.proofs.{CellRows.{total_made}, RowsMade.{rows_written}},
-}
+use Rattle.column_core.proofs.{cells.Common.{refl}, CellRows.{total_made}, RowsMade.{rows_written}}
 use Rattle.column_operators.proofs.missing.fill_side.Goals as goal
 
 pub returns : goal.returns

@@ -1,6 +1,5 @@
 use Rattle.{
-  meaning.proofs.Common.{arith, ◌∙◌, ap, sym},
-  column_core.specs.{Columns.{number_cell, truth_cell, text_cell}, Views.{borrowed_column}},
+  column_core.{proofs.cells.Common.{arith, ◌∙◌, ap, sym}, specs.{Columns.{number_cell, truth_cell, text_cell}, Views.{borrowed_column}}},
   column_operators.{specs.Marks.{filled_value}, proofs.MarkLaws.{if_kept}},
 }
 use Rattle.column_operators.proofs.missing.fillna.Goals as goal

@@ -1,6 +1,5 @@
 use Rattle.{
-  meaning.proofs.Common.{◌∙◌, ap, Some, IfOk-weaker},
-  column_core.{specs.Columns.{truth_cell}, proofs.CellRows.{same_column}},
+  column_core.{proofs.{cells.Common.{◌∙◌, ap, Some, IfOk-weaker}, CellRows.{same_column}}, specs.Columns.{truth_cell}},
   column_operators.specs.Marks.{mark_of},
 }
 use Rattle.column_operators.proofs.missing.mark_lane.Goals as goal

@@ -1,6 +1,5 @@
 use Rattle.{
-  meaning.proofs.Common.{arith, ◌∙◌, ap, sym, Some},
-  column_core.specs.{Columns.{number_cell, truth_cell, text_cell}, Views.{borrowed_column}},
+  column_core.{proofs.cells.Common.{arith, ◌∙◌, ap, sym, Some}, specs.{Columns.{number_cell, truth_cell, text_cell}, Views.{borrowed_column}}},
   column_operators.{specs.Marks.{mark_of}, proofs.MarkLaws.{if_mapped}},
 }
 use Rattle.column_operators.proofs.missing.marked.Goals as goal

@@ -1,5 +1,5 @@
 use Rattle.{
-  meaning.proofs.Common.{◌≡◌, ◌++◌, map, false, list_any},
+  column_core.proofs.cells.Common.{◌≡◌, ◌++◌, map, false, list_any},
   csv_frames.specs.Growing.{is_mixed, column_so_far},
 }
 use Rattle.csv_frames.proofs.columns.columns_of.Given as goal

@@ -1,5 +1,5 @@
 use Rattle.{
-  meaning.proofs.Common.{◌≡◌, drop, list_any},
+  column_core.proofs.cells.Common.{◌≡◌, drop, list_any},
   csv_frames.specs.Growing.{is_mixed},
 }
 use Rattle.csv_frames.proofs.columns.has_mixed.Given as goal

@@ -1,5 +1,5 @@
 use Rattle.{
-  meaning.proofs.Common.{◌≡◌, ◌++◌, map, Some},
+  column_core.proofs.cells.Common.{◌≡◌, ◌++◌, map, Some},
   csv_frames.specs.Growing.{kind_so_far},
 }
 use Rattle.csv_frames.proofs.columns.kinds_found.Given as goal

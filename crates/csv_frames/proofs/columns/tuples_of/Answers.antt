@@ -1,6 +1,6 @@
 use Rattle.{
-  meaning.proofs.Common.{arith, ◌∙◌, ◌∷◌, ◌++◌, [], ap, Some, string_bytes, text},
-  table_meaning.specs.Table.{tuple_value},
+  column_core.proofs.cells.Common.{arith, ◌∙◌, ◌∷◌, ◌++◌, [], ap, Some, string_bytes, text},
+  meaning_csv.specs.tables.Table.{tuple_value},
   csv_frames.proofs.SettledLaws.{longer_with, longer_twice, settled_more, seen_more, tuple_settled, tuple_seen, first_of},
 }
 use Rattle.csv_frames.proofs.columns.tuples_of.Goals as goal

@@ -1,6 +1,6 @@
 use Rattle.{
-  meaning.proofs.Common.{◌≡◌, ◌++◌, length, IsLonger},
-  table_meaning.specs.Settled.{IsSettled},
+  column_core.proofs.cells.Common.{◌≡◌, ◌++◌, length, IsLonger},
+  meaning_csv.specs.tables.Settled.{IsSettled},
   csv_frames.specs.Views.{texts_seen, label_tuples, tuples_seen},
 }
 use Rattle.csv_frames.proofs.columns.tuples_of.Given as goal

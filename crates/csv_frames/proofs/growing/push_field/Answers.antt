@@ -1,6 +1,5 @@
 use Rattle.{
-  meaning.proofs.Common.{subst, OnOk},
-  column_core.specs.{Columns.{CellColumn}, Views.{kept_column}},
+  column_core.{proofs.cells.Common.{subst, OnOk}, specs.{Columns.{CellColumn}, Views.{kept_column}}},
   csv_frames.specs.Growing.{IsGrownBy},
 }
 use Rattle.csv_frames.proofs.growing.push_field.Goals as goal

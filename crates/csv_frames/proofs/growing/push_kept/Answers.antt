@@ -1,6 +1,5 @@
 use Rattle.{
-  meaning.proofs.Common.{arith, ap, sym},
-  column_core.specs.{Columns.{number_cell, truth_cell}, Views.{kept_column}},
+  column_core.{proofs.cells.Common.{arith, ap, sym}, specs.{Columns.{number_cell, truth_cell}, Views.{kept_column}}},
   csv_frames.proofs.{GrowingLaws.{put_grown, text_grown, number_seen}, SettledLaws.{longer_self}},
 }
 use Rattle.csv_frames.proofs.growing.push_kept.Goals as goal

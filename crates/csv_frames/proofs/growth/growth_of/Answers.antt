@@ -1,5 +1,5 @@
 use Rattle.{
-  meaning.proofs.Common.{[], ◌∷◌, ◌++◌, sym, arith},
+  column_core.proofs.cells.Common.{[], ◌∷◌, ◌++◌, sym, arith},
   csv.specs.Records.{fields_of},
   csv_frames.proofs.{RecordLaws.{one_left, no_header, under_header}, SettledLaws.{longer_self, longer_twice}, GrowthLaws.{more_read, still_short}},
 }

@@ -1,6 +1,6 @@
 use Rattle.{
-  meaning.proofs.Common.{◌≡◌, ◌+◌, ◌++◌, List, ℕ, length, IsLonger},
-  csv_meaning.specs.CsvRead.{first_long},
+  column_core.proofs.cells.Common.{◌≡◌, ◌+◌, ◌++◌, List, ℕ, length, IsLonger},
+  meaning_csv.specs.CsvRead.{first_long},
   csv_frames.specs.{Rows.{Reads, file_rows, rows_left}, Growing.{GrownTo}},
 }
 use Rattle.csv_frames.proofs.growth.growth_of.Given as goal

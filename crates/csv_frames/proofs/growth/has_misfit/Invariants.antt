@@ -1,7 +1,7 @@
 use Rattle.{
-  meaning.proofs.Common.{◌≡◌, drop},
+  column_core.proofs.cells.Common.{◌≡◌, drop},
   csv.specs.Records.{fields_of},
-  csv_meaning.specs.CsvRead.{has_misfit},
+  meaning_csv.specs.CsvRead.{has_misfit},
 }
 use Rattle.csv_frames.proofs.growth.has_misfit.Given as goal
 

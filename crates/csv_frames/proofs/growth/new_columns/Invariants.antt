@@ -1,5 +1,5 @@
 use Rattle.{
-  meaning.proofs.Common.{◌≡◌, ◌++◌, map, drop},
+  column_core.proofs.cells.Common.{◌≡◌, ◌++◌, map, drop},
   csv_frames.specs.Growing.{without_fields},
 }
 use Rattle.csv_frames.proofs.growth.new_columns.Given as goal

@@ -1,5 +1,5 @@
 use Rattle.{
-  meaning.proofs.Common.{length-map, length-set, get_or_default, ◌≡◌, [], ◌∷◌, ◌++◌, None, get_or, subst, arith},
+  column_core.proofs.cells.Common.{length-map, length-set, get_or_default, ◌≡◌, [], ◌∷◌, ◌++◌, None, get_or, subst, arith},
   csv.specs.Records.{fields_of},
   csv_frames.{specs.{Views.{column_fields}, Growing.{Grown}}, proofs.{SettledLaws.{longer_twice}, MisfitLaws.{misfit_more}, GrowthLaws.{push_one}}},
 }

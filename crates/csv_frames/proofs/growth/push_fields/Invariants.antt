@@ -1,7 +1,7 @@
 use Rattle.{
-  meaning.proofs.Common.{◌≡◌, ◌||◌, List, ℕ, length, drop, IsLonger},
+  column_core.proofs.cells.Common.{◌≡◌, ◌||◌, List, ℕ, length, drop, IsLonger},
   csv.specs.Records.{fields_of},
-  csv_meaning.specs.CsvRead.{has_misfit},
+  meaning_csv.specs.CsvRead.{has_misfit},
   csv_frames.{specs.Growing.{AreGrown}, proofs.GrowthLaws.{ArePushed}},
 }
 use Rattle.csv_frames.proofs.growth.push_fields.Given as goal

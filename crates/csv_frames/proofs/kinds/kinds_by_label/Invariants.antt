@@ -1,6 +1,6 @@
 use Rattle.{
-  meaning.proofs.Common.{◌≡◌, drop, Text},
-  csv_meaning.specs.CsvRead.{kind_listed, named_kind},
+  column_core.proofs.cells.Common.{◌≡◌, drop, Text},
+  meaning_csv.specs.CsvRead.{kind_listed, named_kind},
   csv_frames.specs.Views.{entries_seen, kinds_seen, kind_at},
 }
 use Rattle.csv_frames.proofs.kinds.kinds_by_label.Given as goal

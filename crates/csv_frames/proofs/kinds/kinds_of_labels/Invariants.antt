@@ -1,6 +1,6 @@
 use Rattle.{
-  meaning.proofs.Common.{◌≡◌, ◌++◌, map, length},
-  csv_meaning.specs.CsvRead.{named_kind},
+  column_core.proofs.cells.Common.{◌≡◌, ◌++◌, map, length},
+  meaning_csv.specs.CsvRead.{named_kind},
   csv_frames.specs.Views.{texts_seen, entries_seen},
 }
 use Rattle.csv_frames.proofs.kinds.kinds_of_labels.Given as goal

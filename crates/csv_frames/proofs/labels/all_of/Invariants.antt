@@ -1,6 +1,6 @@
 use Rattle.{
-  meaning.proofs.Common.{◌≡◌, [], length},
-  csv_meaning.specs.CsvRead.{with_texts},
+  column_core.proofs.cells.Common.{◌≡◌, [], length},
+  meaning_csv.specs.CsvRead.{with_texts},
   csv_frames.specs.Views.{texts_seen},
 }
 use Rattle.csv_frames.proofs.labels.all_of.Given as goal

@@ -1,6 +1,6 @@
 use Rattle.{
-  meaning.proofs.Common.{◌≡◌, ◌++◌, length},
-  csv_meaning.specs.CsvRead.{labels_after, different_labels},
+  column_core.proofs.cells.Common.{◌≡◌, ◌++◌, length},
+  meaning_csv.specs.CsvRead.{labels_after, different_labels},
   csv_frames.specs.{Labels.{AreSkipped}, Views.{texts_seen}},
 }
 use Rattle.csv_frames.proofs.labels.different_labels.Given as goal

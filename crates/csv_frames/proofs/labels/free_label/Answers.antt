@@ -1,5 +1,5 @@
 use Rattle.{
-  meaning.proofs.Common.{arith, string_bytes},
+  column_core.proofs.cells.Common.{arith, string_bytes},
   csv_frames.proofs.SkippedLaws.{label_found},
 }
 use Rattle.csv_frames.proofs.labels.free_label.Goals as goal

@@ -1,5 +1,5 @@
 use Rattle.{
-  meaning.proofs.Common.{◌≡◌},
+  column_core.proofs.cells.Common.{◌≡◌},
   csv_frames.specs.Labels.{IsSkipped},
 }
 use Rattle.csv_frames.proofs.labels.free_label.Given as goal

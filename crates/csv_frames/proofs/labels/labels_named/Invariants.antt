@@ -1,7 +1,7 @@
 use Rattle.{
-  meaning.proofs.Common.{◌≡◌, ◌++◌, drop},
+  column_core.proofs.cells.Common.{◌≡◌, ◌++◌, drop},
   csv.specs.Records.{fields_of},
-  csv_meaning.specs.CsvRead.{labels_named},
+  meaning_csv.specs.CsvRead.{labels_named},
   csv_frames.specs.Views.{texts_seen},
 }
 use Rattle.csv_frames.proofs.labels.labels_named.Given as goal

@@ -1,5 +1,5 @@
 use Rattle.{
-  meaning.proofs.Common.{arith},
+  column_core.proofs.cells.Common.{arith},
   csv_frames.proofs.SkippedLaws.{skipped_new, skipped_old, next_number_of},
 }
 use Rattle.csv_frames.proofs.labels.next_label.Goals as goal

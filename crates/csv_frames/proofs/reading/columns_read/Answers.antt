@@ -1,5 +1,5 @@
 use Rattle.{
-  meaning.proofs.Common.{arith, ◌∙◌},
+  column_core.proofs.cells.Common.{arith, ◌∙◌},
   csv_frames.proofs.ColumnLaws.{columns_settled, columns_right, again_grown, again_kept, again_same},
 }
 use Rattle.csv_frames.proofs.reading.columns_read.Goals as goal

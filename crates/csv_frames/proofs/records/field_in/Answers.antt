@@ -1,5 +1,5 @@
 use Rattle.{
-  meaning.proofs.Common.{◌∙◌, ap, [], unwrap_or},
+  column_core.proofs.cells.Common.{◌∙◌, ap, [], unwrap_or},
   csv_frames.proofs.FieldLaws.{field_unwrapped},
 }
 use Rattle.csv_frames.proofs.records.field_in.Goals as goal

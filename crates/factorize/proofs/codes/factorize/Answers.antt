@@ -1,5 +1,5 @@
 use Rattle.{
-  meaning.proofs.Common.{arith},
+  column_core.proofs.cells.Common.{arith},
   factorize.proofs.GroupLaws.{rows_inside},
 }
 use Rattle.factorize.proofs.codes.factorize.Goals as goal

@@ -1,5 +1,5 @@
 use Rattle.{
-  meaning.proofs.Common.{[], arith, get_or_from_slice_get},
+  column_core.proofs.cells.Common.{[], arith, get_or_from_slice_get},
   multi_index.proofs.SideLaws.{one_row_more},
 }
 use Rattle.factorize.proofs.codes.tuples_of.Goals as goal

@@ -1,5 +1,5 @@
 use Rattle.{
-  meaning.proofs.Common.{◌≡◌, take},
+  column_core.proofs.cells.Common.{◌≡◌, take},
   multi_index.specs.Axes.{tuples_at},
 }
 use Rattle.factorize.proofs.codes.tuples_of.Given as goal

@@ -1,5 +1,5 @@
 use Rattle.{
-  meaning.proofs.Common.{arith, ◌∙◌, ap, rules},
+  column_core.proofs.cells.Common.{arith, ◌∙◌, ap, rules},
   factorize.proofs.{KeyNumberLaws.{sight_firsts, all_codes}, GroupLaws.{below_count, codes_below, codes_are, groups_counted, rows_are, law_of}},
 }
 use Rattle.factorize.proofs.factor.group_by_keys.Goals as goal

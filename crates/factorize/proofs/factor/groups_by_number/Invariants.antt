@@ -1,4 +1,4 @@
-use Rattle.meaning.proofs.Common.{◌≡◌, Some, map, take}
+use Rattle.column_core.proofs.cells.Common.{◌≡◌, Some, map, take}
 use Rattle.factorize.proofs.factor.groups_by_number.Given as goal
 
 -- the groups so far

@@ -1,7 +1,4 @@
-use Rattle.{
-  meaning.proofs.Common.{Some, arith, length, All-map},
-  column_core.specs.Moves.{IsPlaceOf},
-}
+use Rattle.column_core.{proofs.cells.Common.{Some, arith, length, All-map}, specs.Moves.{IsPlaceOf}}
 use Rattle.factorize.proofs.factor.groups_of_all.Goals as goal
 
 pub of-requires : goal.of-requires

@@ -1,5 +1,5 @@
 use Rattle.{
-  meaning.proofs.Common.{◌≡◌, arith, length},
+  column_core.proofs.cells.Common.{◌≡◌, arith, length},
   factorize.{specs.Numbers.{places_of, recoded}, proofs.PlaceLaws.{recoded_inside}},
 }
 use Rattle.factorize.proofs.factor.groups_of_kept.Goals as goal

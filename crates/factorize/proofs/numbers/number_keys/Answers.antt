@@ -1,5 +1,5 @@
 use Rattle.{
-  meaning.proofs.Common.{◌∙◌, false, ap, arith, length, with_items_is},
+  column_core.proofs.cells.Common.{◌∙◌, false, ap, arith, length, with_items_is},
   factorize.proofs.{GroupLaws.{codes_below}, PlaceLaws.{codes_placed}, KeyNumberLaws.{sight_numbers, renumbered}},
 }
 use Rattle.factorize.proofs.numbers.number_keys.Goals as goal

@@ -1,5 +1,5 @@
 use Rattle.{
-  meaning.proofs.Common.{◌<◌, map, drop},
+  column_core.proofs.cells.Common.{◌<◌, map, drop},
   row_keys.{specs.Keys.{same_tuple}, proofs.RecodeLaws.{AreNumbers}},
 }
 use Rattle.factorize.proofs.numbers.numbered.Given as goal

@@ -1,4 +1,4 @@
-use Rattle.meaning.proofs.Common.{◌≡◌, range_with_len}
+use Rattle.column_core.proofs.cells.Common.{◌≡◌, range_with_len}
 use Rattle.factorize.proofs.order.in_sequence.Given as goal
 
 abbrev pub invariant-loop-number : goal.invariant-loop-number

@@ -1,5 +1,5 @@
 use Rattle.{
-  meaning.proofs.Common.{◌≡◌, take},
+  column_core.proofs.cells.Common.{◌≡◌, take},
   factorize.specs.Numbers.{recoded},
 }
 use Rattle.factorize.proofs.places.codes_by.Given as goal

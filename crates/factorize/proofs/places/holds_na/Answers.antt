@@ -1,8 +1,8 @@
 use Rattle.{
-  meaning.proofs.Common.{◌≡◌, ◌∙◌, ◌<◌, ◌||◌, ap, sym, arith, ℕ, false, [], map, slice_index_or, list_any-append, map-range_with_len_more, list_any, range_with_len, LabelValue, na, label_datum},
+  column_core.proofs.cells.Common.{◌≡◌, ◌∙◌, ◌<◌, ◌||◌, ap, sym, arith, ℕ, false, [], map, slice_index_or, list_any-append, map-range_with_len_more, list_any, range_with_len, LabelValue, na, label_datum},
   row_keys.{specs.Keys.{label_in}, proofs.KeyLaws.{any_at}},
   label_align.{specs.Tuples.{labels_of}, proofs.OrderLaws.{label_there, labels_counted}},
-  group_meaning.specs.Keys.{is_na},
+  meaning_group.specs.Keys.{is_na},
 }
 use Rattle.factorize.proofs.places.holds_na.Goals as goal
 

@@ -1,7 +1,7 @@
 use Rattle.{
-  meaning.proofs.Common.{◌≡◌, ℕ, false, List, [], map, slice_index_or, list_any, range_with_len, label_datum},
+  column_core.proofs.cells.Common.{◌≡◌, ℕ, false, List, [], map, slice_index_or, list_any, range_with_len, label_datum},
   row_keys.specs.Keys.{label_in},
-  group_meaning.specs.Keys.{is_na},
+  meaning_group.specs.Keys.{is_na},
 }
 use Rattle.factorize.proofs.places.holds_na.Given as goal
 

@@ -1,5 +1,5 @@
 use Rattle.{
-  meaning.proofs.Common.{◌≡◌, ◌∙◌, ℕ, Bool, List, true, false, not, filter, length, ap, sym, rules},
+  column_core.proofs.cells.Common.{◌≡◌, ◌∙◌, ℕ, Bool, List, true, false, not, filter, length, ap, sym, rules},
   factorize.{specs.Numbers.{first_row, number_less, row_holds_na, kept_numbers}, proofs.NumberLaws.{filter_all}},
 }
 use Rattle.factorize.proofs.places.numbers_kept.Goals as goal

@@ -1,5 +1,5 @@
 use Rattle.{
-  meaning.proofs.Common.{take_all, take_more, length-take-le, fill_by_all, ◌≡◌, ◌<◌, None, length, take, arith, slice_index_or},
+  column_core.proofs.cells.Common.{take_all, take_more, length-take-le, fill_by_all, ◌≡◌, ◌<◌, None, length, take, arith, slice_index_or},
   factorize.{specs.Numbers.{placed}, proofs.PlaceLaws.{placed_more}},
 }
 use Rattle.factorize.proofs.places.place_all.Goals as goal

@@ -1,5 +1,5 @@
 use Rattle.{
-  meaning.proofs.Common.{◌≡◌, ◌<◌, ◌==◌, ℕ, length, take, slice_index_or, None},
+  column_core.proofs.cells.Common.{◌≡◌, ◌<◌, ◌==◌, ℕ, length, take, slice_index_or, None},
   std.specs.List.{position},
 }
 use Rattle.factorize.proofs.places.place_all.Given as goal

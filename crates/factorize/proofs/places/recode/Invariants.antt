@@ -1,5 +1,5 @@
 use Rattle.{
-  meaning.proofs.Common.{◌≡◌, ℕ, ◌<◌, ◌≤◌, slice_index_or, None},
+  column_core.proofs.cells.Common.{◌≡◌, ℕ, ◌<◌, ◌≤◌, slice_index_or, None},
   factorize.specs.Numbers.{number_in},
 }
 use Rattle.factorize.proofs.places.recode.Given as goal

@@ -1,5 +1,5 @@
 use Rattle.{
-  meaning.proofs.Common.{◌≡◌, ◌∙◌, ◌≤◌, ℕ, Bool, not, filter, length, ap, arith, slice_index_or, take_all, filter_more},
+  column_core.proofs.cells.Common.{◌≡◌, ◌∙◌, ◌≤◌, ℕ, Bool, not, filter, length, ap, arith, slice_index_or, take_all, filter_more},
   factorize.specs.Numbers.{first_row, row_holds_na},
 }
 use Rattle.factorize.proofs.places.without_na.Goals as goal

@@ -1,5 +1,5 @@
 use Rattle.{
-  meaning.proofs.Common.{◌≡◌, ℕ, List, not, filter, take},
+  column_core.proofs.cells.Common.{◌≡◌, ℕ, List, not, filter, take},
   factorize.specs.Numbers.{first_row, row_holds_na},
 }
 use Rattle.factorize.proofs.places.without_na.Given as goal

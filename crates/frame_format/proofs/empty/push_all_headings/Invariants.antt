@@ -1,7 +1,4 @@
-use Rattle.{
-  meaning.proofs.Common.{◌≡◌, ◌++◌, codes, join_by},
-  format_meaning.specs.{Told.{heading_at}, Print.{shown_name, places}},
-}
+use Rattle.meaning_format.{proofs.cells.Common.{◌≡◌, ◌++◌, codes, join_by}, specs.{Told.{heading_at}, Print.{shown_name, places}}}
 use Rattle.frame_format.proofs.empty.push_all_headings.Given as goal
 
 abbrev pub invariant-loop-column : goal.invariant-loop-column

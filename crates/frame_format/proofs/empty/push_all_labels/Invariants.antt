@@ -1,7 +1,4 @@
-use Rattle.{
-  meaning.proofs.Common.{◌≡◌, ◌++◌, codes, join_by},
-  format_meaning.specs.Print.{whole_label, places},
-}
+use Rattle.meaning_format.{proofs.cells.Common.{◌≡◌, ◌++◌, codes, join_by}, specs.Print.{whole_label, places}}
 use Rattle.frame_format.proofs.empty.push_all_labels.Given as goal
 
 abbrev pub invariant-loop-row : goal.invariant-loop-row

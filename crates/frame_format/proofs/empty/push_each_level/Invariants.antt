@@ -1,7 +1,4 @@
-use Rattle.{
-  meaning.proofs.Common.{◌≡◌, ◌++◌, codes, join_by},
-  format_meaning.specs.{Told.{label_at}, Print.{shown_label, places}},
-}
+use Rattle.meaning_format.{proofs.cells.Common.{◌≡◌, ◌++◌, codes, join_by}, specs.{Told.{label_at}, Print.{shown_label, places}}}
 use Rattle.frame_format.proofs.empty.push_each_level.Given as goal
 
 abbrev pub invariant-loop-level : goal.invariant-loop-level

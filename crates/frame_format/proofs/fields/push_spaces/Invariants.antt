@@ -1,7 +1,4 @@
-use Rattle.{
-  meaning.proofs.Common.{◌≡◌, ◌++◌},
-  format_meaning.specs.Print.{spaces},
-}
+use Rattle.meaning_format.{proofs.cells.Common.{◌≡◌, ◌++◌}, specs.Print.{spaces}}
 use Rattle.frame_format.proofs.fields.push_spaces.Given as goal
 
 abbrev pub invariant-loop : goal.invariant-loop

@@ -1,7 +1,6 @@
 use Rattle.{
-  meaning.proofs.Common.{arith, ◌≡◌},
+  meaning_format.{proofs.cells.Common.{arith, ◌≡◌}, specs.Print.{levels_width}},
   frame_format.proofs.FieldLaws.{length_measured},
-  format_meaning.specs.Print.{levels_width},
 }
 use Rattle.frame_format.proofs.frame.frame_layout.Goals as goal
 

@@ -1,5 +1,5 @@
 use Rattle.{
-  meaning.proofs.Common.{◌≡◌, ◌++◌, codes, slice_index},
+  meaning_format.proofs.cells.Common.{◌≡◌, ◌++◌, codes, slice_index},
   frame_format.specs.Layouts.{set_columns},
 }
 use Rattle.frame_format.proofs.frame.push_blanks.Given as goal

@@ -1,5 +1,5 @@
 use Rattle.{
-  meaning.proofs.Common.{arith, append_assoc},
+  meaning_format.proofs.cells.Common.{arith, append_assoc},
   frame_format.proofs.FieldLaws.{flat_more},
 }
 use Rattle.frame_format.proofs.frame.push_cells.Goals as goal

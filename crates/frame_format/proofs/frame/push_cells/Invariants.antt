@@ -1,6 +1,5 @@
 use Rattle.{
-  meaning.proofs.Common.{◌≡◌, ◌++◌, slice_index},
-  format_meaning.specs.{Told.{cell_at}, Print.{shown_cell}},
+  meaning_format.{proofs.cells.Common.{◌≡◌, ◌++◌, slice_index}, specs.{Told.{cell_at}, Print.{shown_cell}}},
   frame_format.specs.Layouts.{set_columns},
 }
 use Rattle.frame_format.proofs.frame.push_cells.Given as goal

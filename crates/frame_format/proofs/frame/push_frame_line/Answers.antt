@@ -1,6 +1,5 @@
 use Rattle.{
-  meaning.proofs.Common.{arith, ◌∙◌},
-  format_meaning.specs.{Told.{cell_at}, Print.{shown_cell}},
+  meaning_format.{proofs.cells.Common.{arith, ◌∙◌}, specs.{Told.{cell_at}, Print.{shown_cell}}},
   frame_format.proofs.FieldLaws.{both, both_at_last, at_last, sides_measured, columns_measured},
 }
 use Rattle.frame_format.proofs.frame.push_frame_line.Goals as goal

@@ -1,7 +1,4 @@
-use Rattle.{
-  meaning.proofs.Common.{◌≡◌, ◌++◌, codes, flat_map},
-  format_meaning.specs.Print.{frame_line, places},
-}
+use Rattle.meaning_format.{proofs.cells.Common.{◌≡◌, ◌++◌, codes, flat_map}, specs.Print.{frame_line, places}}
 use Rattle.frame_format.proofs.frame.push_frame_lines.Given as goal
 
 abbrev pub invariant-loop-row : goal.invariant-loop-row

@@ -1,6 +1,5 @@
 use Rattle.{
-  meaning.proofs.Common.{arith, ◌∙◌, append_assoc},
-  format_meaning.specs.{Told.{heading_at}, Print.{shown_name}},
+  meaning_format.{proofs.cells.Common.{arith, ◌∙◌, append_assoc}, specs.{Told.{heading_at}, Print.{shown_name}}},
   frame_format.proofs.FieldLaws.{columns_measured},
 }
 use Rattle.frame_format.proofs.frame.push_header.Goals as goal

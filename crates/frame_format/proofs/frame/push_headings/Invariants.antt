@@ -1,6 +1,5 @@
 use Rattle.{
-  meaning.proofs.Common.{◌≡◌, ◌++◌, slice_index},
-  format_meaning.specs.{Told.{heading_at}, Print.{shown_name}},
+  meaning_format.{proofs.cells.Common.{◌≡◌, ◌++◌, slice_index}, specs.{Told.{heading_at}, Print.{shown_name}}},
   frame_format.specs.Layouts.{set_columns},
 }
 use Rattle.frame_format.proofs.frame.push_headings.Given as goal

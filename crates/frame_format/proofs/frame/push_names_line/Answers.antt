@@ -1,6 +1,5 @@
 use Rattle.{
-  meaning.proofs.Common.{◌∙◌, ◌++◌, ap, codes, slice_index},
-  format_meaning.specs.Print.{spaces},
+  meaning_format.{proofs.cells.Common.{◌∙◌, ◌++◌, ap, codes, slice_index}, specs.Print.{spaces}},
   frame_format.{specs.Layouts.{set_columns}, proofs.FieldLaws.{both, both_at_last, at_last, sides_measured, columns_measured, length_measured}},
 }
 use Rattle.frame_format.proofs.frame.push_names_line.Goals as goal

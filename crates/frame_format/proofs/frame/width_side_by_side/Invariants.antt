@@ -1,5 +1,5 @@
 use Rattle.{
-  meaning.proofs.Common.{◌≡◌, ◌+◌, ◌-◌, length, take},
+  meaning_format.proofs.cells.Common.{◌≡◌, ◌+◌, ◌-◌, length, take},
   std.proofs.Common.{sum},
 }
 use Rattle.frame_format.proofs.frame.width_side_by_side.Given as goal

@@ -1,7 +1,4 @@
-use Rattle.{
-  meaning.proofs.Common.{◌≡◌, map},
-  format_meaning.specs.Print.{titled_width, places},
-}
+use Rattle.meaning_format.{proofs.cells.Common.{◌≡◌, map}, specs.Print.{titled_width, places}}
 use Rattle.frame_format.proofs.frame.widths_of_columns.Given as goal
 
 abbrev pub invariant-loop-column : goal.invariant-loop-column

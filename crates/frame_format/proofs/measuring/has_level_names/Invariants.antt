@@ -1,7 +1,4 @@
-use Rattle.{
-  meaning.proofs.Common.{◌≡◌, drop},
-  format_meaning.specs.Print.{has_names},
-}
+use Rattle.meaning_format.{proofs.cells.Common.{◌≡◌, drop}, specs.Print.{has_names}}
 use Rattle.frame_format.proofs.measuring.has_level_names.Given as goal
 
 abbrev pub invariant-loop-level : goal.invariant-loop-level

@@ -1,5 +1,5 @@
 use Rattle.{
-  meaning.proofs.Common.{arith, append_assoc},
+  meaning_format.proofs.cells.Common.{arith, append_assoc},
   std.proofs.{Common.{append-nil}, lemmas.Grind.{flat_map-append}},
   frame_format.proofs.FieldLaws.{places_more},
 }

@@ -1,7 +1,4 @@
-use Rattle.{
-  meaning.proofs.Common.{◌≡◌, ◌++◌, slice_index},
-  format_meaning.specs.Print.{side_by_side, level_title},
-}
+use Rattle.meaning_format.{proofs.cells.Common.{◌≡◌, ◌++◌, slice_index}, specs.Print.{side_by_side, level_title}}
 use Rattle.frame_format.proofs.measuring.push_names.Given as goal
 
 abbrev pub invariant-loop-level : goal.invariant-loop-level

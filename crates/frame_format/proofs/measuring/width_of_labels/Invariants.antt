@@ -1,7 +1,4 @@
-use Rattle.{
-  meaning.proofs.Common.{◌≡◌, map},
-  format_meaning.specs.{Told.{label_at}, Print.{shown_label, widest, places}},
-}
+use Rattle.meaning_format.{proofs.cells.Common.{◌≡◌, map}, specs.{Told.{label_at}, Print.{shown_label, widest, places}}}
 use Rattle.frame_format.proofs.measuring.width_of_labels.Given as goal
 
 abbrev pub invariant-loop-row : goal.invariant-loop-row

@@ -1,7 +1,4 @@
-use Rattle.{
-  meaning.proofs.Common.{◌≡◌, map},
-  format_meaning.specs.Print.{level_width, places},
-}
+use Rattle.meaning_format.{proofs.cells.Common.{◌≡◌, map}, specs.Print.{level_width, places}}
 use Rattle.frame_format.proofs.measuring.widths_of_levels.Given as goal
 
 abbrev pub invariant-loop-level : goal.invariant-loop-level

@@ -1,7 +1,5 @@
 use Rattle.{
-  meaning.proofs.Common.{◌∙◌, ap, arith, ◌≡◌, length, IfOk-weaker, na_cell},
-  table_meaning.specs.Table.{row_of},
-  format_meaning.specs.CsvWrite.{row_fields, record_text, csv_text_of},
+  meaning_format.{proofs.cells.Common.{◌∙◌, ap, arith, ◌≡◌, length, IfOk-weaker, na_cell}, specs.{tables.Table.{row_of}, CsvWrite.{row_fields, record_text, csv_text_of}}},
   frame_format.proofs.RecordLaws.{nothing_written, header_written, row_written, rows_written},
 }
 use Rattle.frame_format.proofs.records.csv_text.Goals as goal

@@ -1,7 +1,5 @@
 use Rattle.{
-  meaning.proofs.Common.{◌++◌, flat_map, na_cell},
-  table_meaning.specs.Table.{row_of},
-  format_meaning.specs.{CsvWrite.{header_fields, row_fields, record_text}, Print.{places}},
+  meaning_format.{proofs.cells.Common.{◌++◌, flat_map, na_cell}, specs.{tables.Table.{row_of}, CsvWrite.{header_fields, row_fields, record_text}, Print.{places}}},
   frame_format.specs.Written.{HasWritten},
 }
 use Rattle.frame_format.proofs.records.csv_text.Given as goal

@@ -1,7 +1,6 @@
 use Rattle.{
-  meaning.proofs.Common.{◌≡◌, ◌++◌, map},
+  meaning_format.{proofs.cells.Common.{◌≡◌, ◌++◌, map}, specs.{Told.{cell_at}, CsvWrite.{cell_field}, Print.{places}}},
   csv.specs.Records.{fields_of},
-  format_meaning.specs.{Told.{cell_at}, CsvWrite.{cell_field}, Print.{places}},
   frame_format.specs.Written.{IsFilled},
 }
 use Rattle.frame_format.proofs.records.put_cells.Given as goal

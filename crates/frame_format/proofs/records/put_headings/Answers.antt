@@ -1,5 +1,5 @@
 use Rattle.{
-  meaning.proofs.Common.{append_assoc, arith},
+  meaning_format.proofs.cells.Common.{append_assoc, arith},
   frame_format.proofs.{FieldLaws.{map_more}, RecordLaws.{filled_more, fields_placed}},
 }
 use Rattle.frame_format.proofs.records.put_headings.Goals as goal

@@ -1,7 +1,6 @@
 use Rattle.{
-  meaning.proofs.Common.{◌≡◌, ◌++◌, map},
+  meaning_format.{proofs.cells.Common.{◌≡◌, ◌++◌, map}, specs.{Told.{label_at}, CsvWrite.{label_field}, Print.{places}}},
   csv.specs.Records.{fields_of},
-  format_meaning.specs.{Told.{label_at}, CsvWrite.{label_field}, Print.{places}},
   frame_format.specs.Written.{IsFilled},
 }
 use Rattle.frame_format.proofs.records.put_labels.Given as goal

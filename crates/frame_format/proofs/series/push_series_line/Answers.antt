@@ -1,5 +1,5 @@
 use Rattle.{
-  meaning.proofs.Common.{arith, append_assoc},
+  meaning_format.proofs.cells.Common.{arith, append_assoc},
   frame_format.proofs.FieldLaws.{sides_measured},
 }
 use Rattle.frame_format.proofs.series.push_series_line.Goals as goal

@@ -1,7 +1,4 @@
-use Rattle.{
-  meaning.proofs.Common.{◌≡◌, ◌++◌, codes, flat_map},
-  format_meaning.specs.Print.{series_line, places},
-}
+use Rattle.meaning_format.{proofs.cells.Common.{◌≡◌, ◌++◌, codes, flat_map}, specs.Print.{series_line, places}}
 use Rattle.frame_format.proofs.series.push_series_lines.Given as goal
 
 abbrev pub invariant-loop-row : goal.invariant-loop-row

@@ -1,6 +1,5 @@
 use Rattle.{
-  meaning.proofs.Common.{refl, arith, append_assoc, encode_utf8},
-  format_meaning.specs.Print.{shown_byte, shown_text},
+  meaning_format.{proofs.cells.Common.{refl, arith, append_assoc, encode_utf8}, specs.Print.{shown_byte, shown_text}},
   frame_format.proofs.EscapeLaws.{each-append, shown_whole},
 }
 use Rattle.frame_format.proofs.texts.put_escaped.Goals as goal

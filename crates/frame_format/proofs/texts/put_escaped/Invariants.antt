@@ -1,7 +1,4 @@
-use Rattle.{
-  meaning.proofs.Common.{◌≡◌, ◌++◌, string_bytes, chars_rest},
-  format_meaning.specs.Print.{shown_text},
-}
+use Rattle.meaning_format.{proofs.cells.Common.{◌≡◌, ◌++◌, string_bytes, chars_rest}, specs.Print.{shown_text}}
 use Rattle.frame_format.proofs.texts.put_escaped.Given as goal
 
 abbrev pub invariant-loop-character : goal.invariant-loop-character

@@ -1,6 +1,6 @@
 use Rattle.{
-  form_parts.proofs.Common.{object_settled, longer_self, arith},
-  label_methods.proofs.AnswerLaws.{forms_so},
+  frame_parts.proofs.Common.{object_settled, longer_self, arith},
+  frame_labels.proofs.AnswerLaws.{forms_so},
 }
 use Rattle.frame_methods.proofs.calling.answer.Goals as goal
 

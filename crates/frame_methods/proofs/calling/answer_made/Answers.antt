@@ -1,5 +1,5 @@
 use Rattle.{
-  form_parts.proofs.Common.{arith},
+  frame_parts.proofs.Common.{arith},
   frame_store.proofs.ObjectMade.{kept_settled},
   frame_methods.proofs.CallLaws.{refused_made, table_meant, scalar_answered},
 }

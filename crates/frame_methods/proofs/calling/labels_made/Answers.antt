@@ -1,7 +1,7 @@
 use Rattle.{
-  form_parts.proofs.Common.{object_settled, list_in},
-  signatures.proofs.ToldLaws.{told_settled},
-  label_methods.proofs.LevelMoveLaws.{option_given},
+  frame_parts.proofs.Common.{object_settled, list_in},
+  frame_signatures.proofs.ToldLaws.{told_settled},
+  frame_labels.proofs.LevelMoveLaws.{option_given},
 }
 use Rattle.frame_methods.proofs.calling.labels_made.Goals as goal
 

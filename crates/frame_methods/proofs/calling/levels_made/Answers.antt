@@ -1,10 +1,9 @@
 use Rattle.{
-  form_parts.proofs.Common.{arith, ◌≡◌, ap, refl, table_value, on, tables, table_at, world, object_settled},
-  method_meaning.specs.Levels.{set_index_result},
+  frame_parts.proofs.Common.{arith, ◌≡◌, ap, refl, table_value, on, tables, table_at, world, object_settled},
+  frame_labels.{specs.method.Levels.{set_index_result}, proofs.{LevelNameLaws.{names_given}, LevelMoveLaws.{option_given}}},
   frame_methods.proofs.{AnswerLaws.{answer_by, makes_by}, RowLaws.{makes_so}, ShapeLaws.{set_index_of_frame}},
-  label_methods.proofs.{LevelNameLaws.{names_given}, LevelMoveLaws.{option_given}},
 }
-use Rattle.call_meaning.specs.declared.Method.TheVariants as method
+use Rattle.meaning_call.specs.declared.Method.TheVariants as method
 use Rattle.frame_methods.proofs.calling.levels_made.Goals as goal
 
 pub set_index-requires-clause-known : goal.set_index-requires-clause-known

@@ -1,12 +1,10 @@
 use Rattle.{
-  form_parts.proofs.Common.{arith, ◌≡◌, ◌∙◌, ap, sym, refl, then_value, table_value, on, tables, table_at, world, object_settled},
-  call_meaning.specs.Binding.{truth_in},
-  form_meaning.specs.Select.{column_places},
-  method_meaning.specs.Rows.{dropna_result, sort_values_result, sort_by_result, all_places, labels_in},
+  frame_parts.{proofs.Common.{arith, ◌≡◌, ◌∙◌, ap, sym, refl, then_value, table_value, on, tables, table_at, world, object_settled}, specs.form.Select.{column_places}},
+  meaning_call.specs.Binding.{truth_in},
+  frame_labels.{specs.{method.Rows.{dropna_result, sort_values_result, sort_by_result, all_places, labels_in}, Named.{first_in}}, proofs.NamedLaws.{all_are}},
   frame_methods.proofs.AnswerLaws.{makes_by},
-  label_methods.{specs.Named.{first_in}, proofs.NamedLaws.{all_are}},
 }
-use Rattle.call_meaning.specs.declared.Method.TheVariants as method
+use Rattle.meaning_call.specs.declared.Method.TheVariants as method
 use Rattle.frame_methods.proofs.calling.rows_made.Goals as goal
 
 pub returns-in-Dropna : goal.returns-in-Dropna

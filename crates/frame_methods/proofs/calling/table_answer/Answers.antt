@@ -1,12 +1,11 @@
 use Rattle.{
-  form_parts.proofs.Common.{arith, ◌∙◌, ap, refl, rules, to_z-of_z, cell_label, table_value, scalar_in, limited, on, tables, table_at, world, longer_self},
-  meaning.proofs.Common.{option_map, w64, FitsSigned},
-  method_meaning.specs.Methods.{renamed_series},
-  signatures.proofs.ToldLaws.{name_given},
+  frame_parts.proofs.Common.{arith, ◌∙◌, ap, refl, rules, to_z-of_z, cell_label, table_value, scalar_in, limited, on, tables, table_at, world, longer_self},
+  column_core.proofs.cells.Common.{option_map, w64, FitsSigned},
+  frame_labels.{specs.method.Methods.{renamed_series}, proofs.AnswerLaws.{forms_so}},
+  frame_signatures.proofs.ToldLaws.{name_given},
   frame_methods.proofs.{AnswerLaws.{answer_by}, RenameLaws.{pairs_settled}},
-  label_methods.proofs.AnswerLaws.{forms_so},
 }
-use Rattle.call_meaning.specs.declared.Method.TheVariants as method
+use Rattle.meaning_call.specs.declared.Method.TheVariants as method
 use Rattle.frame_methods.proofs.calling.table_answer.Goals as goal
 
 -- the first and the last rows

@@ -1,11 +1,10 @@
 use Rattle.{
-  form_parts.proofs.Common.{◌∙◌, ap, refl, table_value, list_in, on, cells_of, tables, table_at, world},
-  method_meaning.specs.Methods.{each_column},
-  signatures.proofs.ScalarLaws.{items_settled},
+  frame_parts.proofs.Common.{◌∙◌, ap, refl, table_value, list_in, on, cells_of, tables, table_at, world},
+  frame_labels.{specs.method.Methods.{each_column}, proofs.AnswerLaws.{forms_so}},
+  frame_signatures.proofs.ScalarLaws.{items_settled},
   frame_methods.{specs.Listed.{listed_column}, proofs.{AnswerLaws.{answer_by}, ListedLaws.{isin_meant}}},
-  label_methods.proofs.AnswerLaws.{forms_so},
 }
-use Rattle.call_meaning.specs.declared.Method.TheVariants as method
+use Rattle.meaning_call.specs.declared.Method.TheVariants as method
 use Rattle.frame_methods.proofs.column_ops.columns_answer.Goals as goal
 
 -- cells in a list

@@ -1,5 +1,5 @@
 use Rattle.{
-  form_parts.proofs.Common.{◌∙◌, ◌<◌, length, arith, err_from_is_err_and},
+  frame_parts.proofs.Common.{◌∙◌, ◌<◌, length, arith, err_from_is_err_and},
   frame_methods.proofs.{ColumnLaws.{given_later, place_given, same_answer, front_step, front_refused, refused_columns}, HeldLaws.{are_given}},
 }
 use Rattle.frame_methods.proofs.columns.each_column.Goals as goal

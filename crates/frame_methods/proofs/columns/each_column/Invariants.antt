@@ -1,5 +1,5 @@
 use Rattle.{
-  form_parts.proofs.Common.{length, cells_value},
+  frame_parts.proofs.Common.{length, cells_value},
   frame_methods.specs.Columns.{IsFront},
 }
 use Rattle.frame_methods.proofs.columns.each_column.Given as goal

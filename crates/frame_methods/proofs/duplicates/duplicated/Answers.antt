@@ -1,5 +1,5 @@
 use Rattle.{
-  form_parts.proofs.Common.{length-map, arith, ◌≡◌, ◌∙◌, true, length, nat_eq, rules, within_limits},
+  frame_parts.proofs.Common.{length-map, arith, ◌≡◌, ◌∙◌, true, length, nat_eq, rules, within_limits},
   frame_methods.proofs.DuplicateLaws.{repeats_count, duplicated_made},
 }
 use Rattle.frame_methods.proofs.duplicates.duplicated.Goals as goal

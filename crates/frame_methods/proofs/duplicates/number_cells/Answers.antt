@@ -1,5 +1,5 @@
 use Rattle.{
-  form_parts.proofs.Common.{◌<◌, ◌≤◌, sym, length, arith, get_or_from_slice_get},
+  frame_parts.proofs.Common.{◌<◌, ◌≤◌, sym, length, arith, get_or_from_slice_get},
   frame_methods.proofs.DuplicateLaws.{numbered_more, numbers_more},
 }
 use Rattle.frame_methods.proofs.duplicates.number_cells.Goals as goal

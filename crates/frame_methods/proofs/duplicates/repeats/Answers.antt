@@ -1,5 +1,5 @@
 use Rattle.{
-  form_parts.proofs.Common.{◌<◌, refl, ap, length, arith},
+  frame_parts.proofs.Common.{◌<◌, refl, ap, length, arith},
   frame_methods.proofs.DuplicateLaws.{marks_more},
 }
 use Rattle.frame_methods.proofs.duplicates.repeats.Goals as goal

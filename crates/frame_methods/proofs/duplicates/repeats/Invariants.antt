@@ -1,7 +1,7 @@
 use Rattle.{
-  form_parts.proofs.Common.{◌≡◌, [], ◌++◌, map, drop, nat_eq, Boolean},
+  frame_parts.proofs.Common.{◌≡◌, [], ◌++◌, map, drop, nat_eq, Boolean},
   cell_core.specs.declared.cell.Cell.TheVariants.{Bool},
-  method_meaning.specs.Rows.{repeats},
+  frame_labels.specs.method.Rows.{repeats},
 }
 use Rattle.frame_methods.proofs.duplicates.repeats.Given as goal
 

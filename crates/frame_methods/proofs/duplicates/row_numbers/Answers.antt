@@ -1,6 +1,6 @@
 use Rattle.{
-  form_parts.proofs.Common.{◌≡◌, ◌<◌, ◌+◌, ◌++◌, ◌∷◌, [], subst, length, take, arith, take_more, get_or_from_slice_get},
-  meaning.proofs.Common.{take_at},
+  frame_parts.proofs.Common.{◌≡◌, ◌<◌, ◌+◌, ◌++◌, ◌∷◌, [], subst, length, take, arith, take_more, get_or_from_slice_get},
+  column_core.proofs.cells.Common.{take_at},
   frame_methods.specs.Rows.{AreNumbers},
 }
 use Rattle.frame_methods.proofs.duplicates.row_numbers.Goals as goal

@@ -1,5 +1,5 @@
 use Rattle.{
-  form_parts.proofs.Common.{take},
+  frame_parts.proofs.Common.{take},
   frame_methods.specs.Rows.{AreNumbers},
 }
 use Rattle.frame_methods.proofs.duplicates.row_numbers.Given as goal

@@ -1,5 +1,5 @@
 use Rattle.{
-  form_parts.proofs.Common.{◌<◌, length, arith},
+  frame_parts.proofs.Common.{◌<◌, length, arith},
   frame_methods.proofs.ListedLaws.{first_settled, noted_given, noted_step},
 }
 use Rattle.frame_methods.proofs.listed.listed_cells.Goals as goal

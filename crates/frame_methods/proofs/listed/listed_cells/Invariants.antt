@@ -1,6 +1,6 @@
 use Rattle.{
-  form_parts.proofs.Common.{◌≡◌, ◌||◌, Bool, List, drop, list_any, Text, CellValue, AreGiven, IsSettled, cells_value},
-  signatures.specs.Scalars.{scalars},
+  frame_parts.proofs.Common.{◌≡◌, ◌||◌, Bool, List, drop, list_any, Text, CellValue, AreGiven, IsSettled, cells_value},
+  frame_signatures.specs.Scalars.{scalars},
 }
 use Rattle.frame_methods.proofs.listed.listed_cells.Given as goal
 

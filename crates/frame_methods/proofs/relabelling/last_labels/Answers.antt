@@ -1,5 +1,5 @@
 use Rattle.{
-  form_parts.proofs.Common.{◌<◌, length, arith},
+  frame_parts.proofs.Common.{◌<◌, length, arith},
   frame_methods.proofs.RenameLaws.{labels_step},
 }
 use Rattle.frame_methods.proofs.relabelling.last_labels.Goals as goal

@@ -1,5 +1,5 @@
 use Rattle.{
-  form_parts.proofs.Common.{drop, [], same_label},
+  frame_parts.proofs.Common.{drop, [], same_label},
   indexmap.specs.IndexMap.{insert_all},
   frame_methods.{specs.Renames.{given_labels}, proofs.RenameLaws.{LabelsSoFar}},
 }

@@ -1,5 +1,5 @@
 use Rattle.{
-  form_parts.proofs.Common.{◌≡◌, map, take},
+  frame_parts.proofs.Common.{◌≡◌, map, take},
   frame_methods.specs.Renames.{heading_by},
 }
 use Rattle.frame_methods.proofs.relabelling.new_headings.Given as goal

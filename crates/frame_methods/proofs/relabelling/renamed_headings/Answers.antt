@@ -1,5 +1,5 @@
 use Rattle.{
-  form_parts.proofs.Common.{◌∙◌, sym, refl, headings_value, headings_part},
+  frame_parts.proofs.Common.{◌∙◌, sym, refl, headings_value, headings_part},
   frame_methods.proofs.RenameLaws.{new_heads, new_settled, new_meant, no_labels},
 }
 use Rattle.frame_methods.proofs.relabelling.renamed_headings.Goals as goal

@@ -1,5 +1,5 @@
 use Rattle.{
-  form_parts.proofs.Common.{ap, sym, err_from_is_err_and, table_or, object_settled, columns_name_part, longer_self},
+  frame_parts.proofs.Common.{ap, sym, err_from_is_err_and, table_or, object_settled, columns_name_part, longer_self},
   frame_methods.proofs.RenameLaws.{frame_refused},
 }
 use Rattle.frame_methods.proofs.renaming.rename_frame.Goals as goal

@@ -1,5 +1,5 @@
 use Rattle.{
-  form_parts.proofs.Common.{arith, refl},
+  frame_parts.proofs.Common.{arith, refl},
   frame_methods.proofs.NameLaws.{named_settled},
 }
 use Rattle.frame_methods.proofs.renaming.rename_series.Goals as goal

@@ -1,5 +1,5 @@
 use Rattle.{
-  form_parts.proofs.Common.{arith, ◌≡◌, [], ◌∷◌, None, slice_index_or, object_settled, headings_part},
+  frame_parts.proofs.Common.{arith, ◌≡◌, [], ◌∷◌, None, slice_index_or, object_settled, headings_part},
   frame_methods.proofs.NameLaws.{named_settled, heading_list, label_seen, one_item, frame_heading},
 }
 use Rattle.frame_methods.proofs.renaming.to_frame.Goals as goal

@@ -1,5 +1,5 @@
 use Rattle.{
-  form_parts.proofs.Common.{◌∙◌, ◌<◌, ◌≤◌, sym, [], length, arith, length-map, table_value, tuple_value},
+  frame_parts.proofs.Common.{◌∙◌, ◌<◌, ◌≤◌, sym, [], length, arith, length-map, table_value, tuple_value},
   frame_methods.proofs.{RowLaws.{complete_more, complete_same, complete_all, complete_below}, rows.complete_rows.Goals.{then-is_complete+in_ok-push, else-is_complete}},
 }
 use Rattle.frame_methods.proofs.rows.complete_rows.Goals as goal

@@ -1,5 +1,5 @@
 use Rattle.{
-  form_parts.proofs.Common.{◌≡◌, List, Text, table_value},
+  frame_parts.proofs.Common.{◌≡◌, List, Text, table_value},
   frame_methods.proofs.RowLaws.{complete_before},
 }
 use Rattle.frame_methods.proofs.rows.complete_rows.Given as goal

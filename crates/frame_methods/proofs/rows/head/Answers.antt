@@ -1,6 +1,6 @@
 use Rattle.{
-  form_parts.proofs.Common.{arith, to_z-of_z, w64},
-  label_methods.proofs.AnswerLaws.{forms_so},
+  frame_parts.proofs.Common.{arith, to_z-of_z, w64},
+  frame_labels.proofs.AnswerLaws.{forms_so},
   frame_methods.proofs.RowLaws.{first_meant, rows_read},
 }
 use Rattle.frame_methods.proofs.rows.head.Goals as goal

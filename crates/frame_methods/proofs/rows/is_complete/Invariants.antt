@@ -1,5 +1,5 @@
 use Rattle.{
-  form_parts.proofs.Common.{◌≡◌, List, drop, Text},
+  frame_parts.proofs.Common.{◌≡◌, List, drop, Text},
   frame_methods.proofs.RowLaws.{whole_in},
 }
 use Rattle.frame_methods.proofs.rows.is_complete.Given as goal

@@ -1,6 +1,6 @@
 use Rattle.{
-  form_parts.proofs.Common.{arith, ◌≡◌, true, length, rules, within_limits},
-  selections.proofs.PickedLaws.{places_inside, places_count},
+  frame_parts.proofs.Common.{arith, ◌≡◌, true, length, rules, within_limits},
+  frame_select.proofs.PickedLaws.{places_inside, places_count},
   frame_methods.proofs.RowLaws.{rows_made},
 }
 use Rattle.frame_methods.proofs.rows.rows_table.Goals as goal

@@ -1,7 +1,7 @@
 use Rattle.{
-  form_parts.proofs.Common.{◌∙◌, ap, to_z-of_z, w64, object_value, tables},
-  pick_meaning.specs.Positions.{rows_before},
-  label_methods.proofs.AnswerLaws.{forms_so},
+  frame_parts.proofs.Common.{◌∙◌, ap, to_z-of_z, w64, object_value, tables},
+  multi_index.specs.pick.Positions.{rows_before},
+  frame_labels.proofs.AnswerLaws.{forms_so},
   frame_methods.proofs.RowLaws.{last_meant, rows_read},
 }
 use Rattle.frame_methods.proofs.rows.tail.Goals as goal

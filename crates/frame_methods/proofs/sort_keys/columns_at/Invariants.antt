@@ -1,5 +1,5 @@
 use Rattle.{
-  form_parts.proofs.Common.{◌≡◌, map, take},
+  frame_parts.proofs.Common.{◌≡◌, map, take},
   frame_methods.specs.Sorts.{column_of},
 }
 use Rattle.frame_methods.proofs.sort_keys.columns_at.Given as goal

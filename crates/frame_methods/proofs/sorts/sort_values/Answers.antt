@@ -1,5 +1,5 @@
 use Rattle.{
-  form_parts.proofs.Common.{length-map, length-range_with_len},
+  frame_parts.proofs.Common.{length-map, length-range_with_len},
   frame_methods.proofs.SortLaws.{cells_of_row},
 }
 use Rattle.frame_methods.proofs.sorts.sort_values.Goals as goal

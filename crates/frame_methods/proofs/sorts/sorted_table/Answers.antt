@@ -1,5 +1,5 @@
 use Rattle.{
-  form_parts.proofs.Common.{length},
+  frame_parts.proofs.Common.{length},
   frame_methods.proofs.{RowLaws.{makes_so}, SortLaws.{sorted_so}},
 }
 use Rattle.frame_methods.proofs.sorts.sorted_table.Goals as goal

@@ -1,5 +1,5 @@
 use Rattle.{
-  form_parts.proofs.Common.{◌<◌, length, sym, arith},
+  frame_parts.proofs.Common.{◌<◌, length, sym, arith},
   frame_methods.proofs.ColumnLaws.{place_given},
 }
 use Rattle.frame_methods.proofs.summaries.summarize.Goals as goal

@@ -1,5 +1,5 @@
 use Rattle.{
-  form_parts.proofs.Common.{◌<◌, ◌^◌, arith},
+  frame_parts.proofs.Common.{◌<◌, ◌^◌, arith},
   frame_methods.proofs.SummaryLaws.{distinct_answer},
 }
 use Rattle.frame_methods.proofs.summaries.summary_cell.Goals as goal

@@ -1,5 +1,5 @@
 use Rattle.{
-  form_parts.proofs.Common.{◌<◌, length, arith},
+  frame_parts.proofs.Common.{◌<◌, length, arith},
   frame_methods.proofs.{ColumnLaws.{place_given}, SummaryLaws.{cells_step}},
 }
 use Rattle.frame_methods.proofs.summaries.summary_column.Goals as goal

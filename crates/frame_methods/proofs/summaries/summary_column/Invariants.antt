@@ -1,5 +1,5 @@
 use Rattle.frame_methods.specs.Summaries.{summary_value, AreCells}
-use Rattle.method_meaning.specs.Methods as meant
+use Rattle.frame_labels.specs.method.Methods as meant
 use Rattle.frame_methods.proofs.summaries.summary_column.Given as goal
 
 -- the cells of the columns so far

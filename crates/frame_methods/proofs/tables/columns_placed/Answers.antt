@@ -1,6 +1,6 @@
 use Rattle.{
-  form_parts.proofs.Common.{object_settled, tables, table_at, arith, ◌≡◌},
-  label_methods.proofs.AnswerLaws.{forms_so},
+  frame_parts.proofs.Common.{object_settled, tables, table_at, arith, ◌≡◌},
+  frame_labels.proofs.AnswerLaws.{forms_so},
 }
 use Rattle.frame_methods.proofs.tables.columns_placed.Goals as goal
 

@@ -1,5 +1,5 @@
 use Rattle.{
-  form_parts.proofs.Common.{◌≡◌, true, length, rules, within_limits},
+  frame_parts.proofs.Common.{◌≡◌, true, length, rules, within_limits},
   frame_methods.proofs.TableLaws.{columns_made},
 }
 use Rattle.frame_methods.proofs.tables.columns_table.Goals as goal

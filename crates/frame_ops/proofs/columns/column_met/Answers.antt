@@ -1,5 +1,5 @@
 use Rattle.{
-  form_parts.proofs.Common.{refl, []},
+  frame_parts.proofs.Common.{refl, []},
   frame_ops.proofs.MeetingLaws.{beside_scalar, across_scalar},
 }
 use Rattle.frame_ops.proofs.columns.column_met.Goals as goal

@@ -1,5 +1,5 @@
 use Rattle.{
-  form_parts.proofs.Common.{◌≡◌, ◌<◌, length, arith, rules, Err, longer_twice},
+  frame_parts.proofs.Common.{◌≡◌, ◌<◌, length, arith, rules, Err, longer_twice},
   frame_ops.proofs.MeetingLaws.{kinds_here, columns_more, whole_more, whole_refused},
 }
 use Rattle.frame_ops.proofs.columns.columns_met.Goals as goal

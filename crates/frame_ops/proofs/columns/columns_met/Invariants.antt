@@ -1,5 +1,5 @@
 use Rattle.{
-  form_parts.proofs.Common.{◌≡◌, ◌++◌, drop, length, true, Ok, list_all, IsLonger, then_value, try_all, met, blocks_value, AreColumns},
+  frame_parts.proofs.Common.{◌≡◌, ◌++◌, drop, length, true, Ok, list_all, IsLonger, then_value, try_all, met, blocks_value, AreColumns},
   column_operators.specs.Tasks.{operator_of},
   frame_ops.specs.Pairs.{kinds_meet, pairs_from, meetings_value},
 }

@@ -1,5 +1,5 @@
 use Rattle.{
-  form_parts.proofs.Common.{tables, object_settled},
+  frame_parts.proofs.Common.{tables, object_settled},
   frame_ops.proofs.InfixLaws.{scalar_given},
 }
 use Rattle.frame_ops.proofs.forms.infix_made.Goals as goal

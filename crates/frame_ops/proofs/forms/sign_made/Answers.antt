@@ -1,5 +1,5 @@
 use Rattle.{
-  form_parts.proofs.Common.{object_settled},
+  frame_parts.proofs.Common.{object_settled},
   frame_ops.proofs.InfixLaws.{makes_as, inverted_by_xor, inverted_as_read},
 }
 use Rattle.frame_ops.proofs.forms.sign_made.Goals as goal

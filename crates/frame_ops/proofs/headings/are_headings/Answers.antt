@@ -1,6 +1,6 @@
 use Rattle.{
-  form_parts.proofs.Common.{◌≡◌, ◌<◌, length, arith, HaveLevels, headings_part},
-  selections.proofs.PlaceLaws.{heading_settled},
+  frame_parts.proofs.Common.{◌≡◌, ◌<◌, length, arith, HaveLevels, headings_part},
+  frame_select.proofs.PlaceLaws.{heading_settled},
   frame_ops.proofs.HeadingLaws.{other_levels, one_more_heading},
 }
 use Rattle.frame_ops.proofs.headings.are_headings.Goals as goal

@@ -1,5 +1,5 @@
-use Rattle.form_parts.proofs.Common.{◌≡◌, drop, headings_value, labels_value}
-use Rattle.form_meaning.specs.Infix as meant
+use Rattle.frame_parts.proofs.Common.{◌≡◌, drop, headings_value, labels_value}
+use Rattle.frame_parts.specs.form.Infix as meant
 use Rattle.frame_ops.proofs.headings.are_headings.Given as goal
 
 abbrev pub invariant-loop-place : goal.invariant-loop-place

@@ -1,6 +1,6 @@
 use Rattle.{
-  form_parts.proofs.Common.{headings_part},
-  selections.proofs.PlaceLaws.{heading_settled},
+  frame_parts.proofs.Common.{headings_part},
+  frame_select.proofs.PlaceLaws.{heading_settled},
 }
 use Rattle.frame_ops.proofs.headings.same_headings.Goals as goal
 

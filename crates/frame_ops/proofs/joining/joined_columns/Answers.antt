@@ -1,5 +1,5 @@
 use Rattle.{
-  form_parts.proofs.Common.{arith, ◌∙◌, length-map},
+  frame_parts.proofs.Common.{arith, ◌∙◌, length-map},
   frame_ops.proofs.JoinLaws.{rows_numbered, side_given},
 }
 use Rattle.frame_ops.proofs.joining.joined_columns.Goals as goal

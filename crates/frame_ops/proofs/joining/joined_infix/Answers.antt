@@ -1,5 +1,5 @@
 use Rattle.{
-  form_parts.proofs.Common.{arith, ◌≡◌, Err, rules, Joined},
+  frame_parts.proofs.Common.{arith, ◌≡◌, Err, rules, Joined},
   frame_ops.proofs.JoinLaws.{joined_refused, joined_makes},
   column_operators.specs.Tasks.{operator_of},
 }

@@ -1,7 +1,6 @@
 use Rattle.{
-  form_parts.proofs.{Common.{arith, length, lists_seen}, RowLaws.{tuples_given}},
-  align_meaning.proofs.DifferLaws.{joined_apart},
-  label_align.proofs.SameLaws.{tuple_decides},
+  frame_parts.proofs.{Common.{arith, length, lists_seen}, RowLaws.{tuples_given}},
+  label_align.proofs.{align.DifferLaws.{joined_apart}, SameLaws.{tuple_decides}},
   frame_ops.proofs.JoinLaws.{rows_inside, joined_given},
 }
 use Rattle.frame_ops.proofs.joining.joined_rows.Goals as goal

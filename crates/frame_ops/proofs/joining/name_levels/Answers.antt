@@ -1,6 +1,6 @@
 use Rattle.{
-  form_parts.proofs.Common.{◌≡◌, ◌∙◌, ◌<◌, ap, sym, length, arith, slice_index_or, None, length-set, get_or_from_slice_get, IsSettled, heading_value, common_name},
-  selections.proofs.PlaceLaws.{heading_settled},
+  frame_parts.proofs.Common.{◌≡◌, ◌∙◌, ◌<◌, ap, sym, length, arith, slice_index_or, None, length-set, get_or_from_slice_get, IsSettled, heading_value, common_name},
+  frame_select.proofs.PlaceLaws.{heading_settled},
   frame_ops.proofs.JoinLaws.{one_named, names_given},
 }
 use Rattle.frame_ops.proofs.joining.name_levels.Goals as goal

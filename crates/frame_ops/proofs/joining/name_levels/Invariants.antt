@@ -1,4 +1,4 @@
-use Rattle.form_parts.proofs.Common.{◌≡◌, ◌<◌, ℕ, length, slice_index_or, None, IsSettled, heading_value, common_name}
+use Rattle.frame_parts.proofs.Common.{◌≡◌, ◌<◌, ℕ, length, slice_index_or, None, IsSettled, heading_value, common_name}
 use Rattle.frame_ops.proofs.joining.name_levels.Given as goal
 
 abbrev pub invariant-loop-level : goal.invariant-loop-level

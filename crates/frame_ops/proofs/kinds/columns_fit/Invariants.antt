@@ -1,5 +1,5 @@
 use Rattle.{
-  form_parts.proofs.Common.{◌≡◌, drop, list_all},
+  frame_parts.proofs.Common.{◌≡◌, drop, list_all},
   column_operators.specs.Tasks.{operator_of},
   frame_ops.specs.{declared.other.Other.TheVariants.{Beside}, Pairs.{kinds_meet, pairs_from}},
 }

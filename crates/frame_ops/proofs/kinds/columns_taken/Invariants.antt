@@ -1,7 +1,6 @@
 use Rattle.{
-  form_parts.proofs.Common.{◌≡◌, drop, list_all},
+  frame_parts.{proofs.Common.{◌≡◌, drop, list_all}, specs.form.Infix.{takes_twice}},
   column_operators.specs.Tasks.{operator_of},
-  form_meaning.specs.Infix.{takes_twice},
 }
 use Rattle.frame_ops.proofs.kinds.columns_taken.Given as goal
 

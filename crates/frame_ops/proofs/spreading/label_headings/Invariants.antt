@@ -1,4 +1,4 @@
-use Rattle.form_parts.proofs.Common.{◌≡◌, map, take, tuple_heading}
+use Rattle.frame_parts.proofs.Common.{◌≡◌, map, take, tuple_heading}
 use Rattle.frame_ops.proofs.spreading.label_headings.Given as goal
 
 -- the headings of the rows so far

@@ -1,5 +1,5 @@
 use Rattle.{
-  form_parts.proofs.Common.{◌≡◌, length, arith, All-append},
+  frame_parts.proofs.Common.{◌≡◌, length, arith, All-append},
   frame_ops.proofs.WideLaws.{tuples_alike},
 }
 use Rattle.frame_ops.proofs.spreading.labels_fit.Goals as goal

@@ -1,5 +1,5 @@
 use Rattle.{
-  form_parts.proofs.Common.{◌≡◌, drop, map, column_at, labels_fit},
+  frame_parts.proofs.Common.{◌≡◌, drop, map, column_at, labels_fit},
   row_keys.specs.Keys.{same_tuple},
   frame_ops.specs.Widening.{heading_tuple},
 }

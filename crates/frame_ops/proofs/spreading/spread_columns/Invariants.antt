@@ -1,5 +1,5 @@
 use Rattle.{
-  form_parts.proofs.Common.{◌≡◌, take, map, All, block_column, IsSingle},
+  frame_parts.proofs.Common.{◌≡◌, take, map, All, block_column, IsSingle},
   frame_ops.specs.Pairs.{repeated},
 }
 use Rattle.frame_ops.proofs.spreading.spread_columns.Given as goal

@@ -1,5 +1,5 @@
 use Rattle.{
-  form_parts.proofs.Common.{arith, subst, IsWhole, IsKnownTable},
+  frame_parts.proofs.Common.{arith, subst, IsWhole, IsKnownTable},
   frame_ops.proofs.WideLaws.{spread_known},
 }
 use Rattle.frame_ops.proofs.spreading.spread_frame.Goals as goal

@@ -1,5 +1,5 @@
 use Rattle.{
-  form_parts.proofs.Common.{arith},
+  frame_parts.proofs.Common.{arith},
   frame_ops.proofs.InfixLaws.{makes_as, across_is_meant, across_opposite, series_given},
 }
 use Rattle.frame_ops.proofs.tables.across_infix.Goals as goal

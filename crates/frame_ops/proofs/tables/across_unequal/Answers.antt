@@ -1,5 +1,5 @@
 use Rattle.{
-  form_parts.proofs.Common.{arith, refl, sym, true, false, nat_tests},
+  frame_parts.proofs.Common.{arith, refl, sym, true, false, nat_tests},
   frame_ops.proofs.{InfixLaws.{makes_as}, WideLaws.{by_tests, by_labels}},
 }
 use Rattle.frame_ops.proofs.tables.across_unequal.Goals as goal

@@ -1,4 +1,4 @@
-use Rattle.form_parts.proofs.Common.{columns_name_part}
+use Rattle.frame_parts.proofs.Common.{columns_name_part}
 use Rattle.frame_ops.proofs.tables.common_infix.Goals as goal
 
 pub common_name-name-requires-clause-a : goal.common_name-name-requires-clause-a

@@ -1,7 +1,6 @@
 use Rattle.{
-  form_parts.proofs.Common.{arith, ap, table_value},
+  frame_parts.{proofs.Common.{arith, ap, table_value}, specs.form.Infix.{joined_frames}},
   column_operators.specs.Tasks.{operator_of},
-  form_meaning.specs.Infix.{joined_frames},
   frame_ops.proofs.InfixLaws.{makes_as},
 }
 use Rattle.frame_ops.proofs.tables.joined_across.Goals as goal

@@ -1,5 +1,5 @@
 use Rattle.{
-  form_parts.proofs.Common.{columns_given, columns_part, labels_value, arith, ◌≡◌, true, rules, length-map, same_tuples},
+  frame_parts.proofs.Common.{columns_given, columns_part, labels_value, arith, ◌≡◌, true, rules, length-map, same_tuples},
   frame_ops.proofs.InfixLaws.{makes_as, rows_are_meant},
 }
 use Rattle.frame_ops.proofs.tables.rows_infix.Goals as goal

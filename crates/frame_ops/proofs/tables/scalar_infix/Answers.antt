@@ -1,5 +1,5 @@
 use Rattle.{
-  form_parts.proofs.Common.{arith, length-map},
+  frame_parts.proofs.Common.{arith, length-map},
   frame_ops.proofs.{MeetingLaws.{table_meant, scalar_meetings}, InfixLaws.{makes_as}},
 }
 use Rattle.frame_ops.proofs.tables.scalar_infix.Goals as goal

@@ -1,5 +1,5 @@
 use Rattle.{
-  form_parts.proofs.Common.{columns_given, columns_part},
+  frame_parts.proofs.Common.{columns_given, columns_part},
   frame_ops.proofs.HeadingLaws.{whole_named, named_makes},
 }
 use Rattle.frame_ops.proofs.tables.table_met.Goals as goal

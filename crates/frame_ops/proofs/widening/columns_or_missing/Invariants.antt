@@ -1,4 +1,4 @@
-use Rattle.form_parts.proofs.Common.{◌≡◌, length, take, map, All, Na, columns_or_missing, block_column, IsSingle}
+use Rattle.frame_parts.proofs.Common.{◌≡◌, length, take, map, All, Na, columns_or_missing, block_column, IsSingle}
 use Rattle.frame_ops.proofs.widening.columns_or_missing.Given as goal
 
 abbrev pub invariant-loop-k : goal.invariant-loop-k

@@ -1,5 +1,5 @@
 use Rattle.{
-  form_parts.proofs.Common.{◌≡◌, map, take},
+  frame_parts.proofs.Common.{◌≡◌, map, take},
   frame_ops.specs.Widening.{heading_tuple},
 }
 use Rattle.frame_ops.proofs.widening.heading_tuples.Given as goal

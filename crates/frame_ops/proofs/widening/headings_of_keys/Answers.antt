@@ -1,5 +1,5 @@
 use Rattle.{
-  form_parts.proofs.Common.{◌<◌, length, arith, slice_get},
+  frame_parts.proofs.Common.{◌<◌, length, arith, slice_get},
   multi_index.proofs.SideLaws.{tuple_there},
   frame_ops.proofs.WideLaws.{one_more_key},
 }

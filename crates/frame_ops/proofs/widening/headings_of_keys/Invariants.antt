@@ -1,5 +1,5 @@
 use Rattle.{
-  form_parts.proofs.Common.{◌≡◌, take},
+  frame_parts.proofs.Common.{◌≡◌, take},
   frame_ops.specs.Widening.{headings_of_keys},
 }
 use Rattle.frame_ops.proofs.widening.headings_of_keys.Given as goal

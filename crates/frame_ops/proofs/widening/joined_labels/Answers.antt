@@ -1,5 +1,5 @@
 use Rattle.{
-  form_parts.proofs.Common.{arith},
+  frame_parts.proofs.Common.{arith},
   frame_ops.proofs.WideLaws.{labels_apart},
 }
 use Rattle.frame_ops.proofs.widening.joined_labels.Goals as goal

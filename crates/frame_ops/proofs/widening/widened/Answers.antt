@@ -1,5 +1,5 @@
 use Rattle.{
-  form_parts.proofs.Common.{arith, subst, IsWhole},
+  frame_parts.proofs.Common.{arith, subst, IsWhole},
   frame_ops.proofs.WideLaws.{widened_whole},
 }
 use Rattle.frame_ops.proofs.widening.widened.Goals as goal

@@ -1,5 +1,5 @@
 use Rattle.{
-  meaning.proofs.Common.{◌<◌, length, arith},
+  meaning_tables.proofs.cells.Common.{◌<◌, length, arith},
   frame_store.proofs.PartLaws.{number_inside, one_more_cut, singles_more, block_below},
 }
 use Rattle.frame_store.proofs.columns.cut.Goals as goal

@@ -1,6 +1,5 @@
 use Rattle.{
-  meaning.proofs.Common.{◌≡◌, take, map, All, Na},
-  table_meaning.specs.Change.{cut_columns},
+  meaning_tables.{proofs.cells.Common.{◌≡◌, take, map, All, Na}, specs.Change.{cut_columns}},
   frame_store.specs.Parts.{block_column, IsSingle},
 }
 use Rattle.frame_store.proofs.columns.cut.Given as goal

@@ -1,4 +1,4 @@
-use Rattle.meaning.proofs.Common.{arith}
+use Rattle.meaning_tables.proofs.cells.Common.{arith}
 use Rattle.frame_store.proofs.columns.strided_copy.Goals as goal
 
 pub returns : goal.returns

@@ -1,4 +1,4 @@
-use Rattle.meaning.proofs.Common.{◌≡◌, take}
+use Rattle.meaning_tables.proofs.cells.Common.{◌≡◌, take}
 use Rattle.frame_store.proofs.made.headings_named.Given as goal
 
 abbrev pub invariant-loop-column : goal.invariant-loop-column

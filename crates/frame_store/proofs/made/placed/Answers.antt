@@ -1,5 +1,5 @@
 use Rattle.{
-  meaning.proofs.Common.{arith},
+  meaning_tables.proofs.cells.Common.{arith},
   frame_store.{proofs.{Settling.{settled_later, settled_with}, ObjectMade.{kept_settled, refused, out_of_memory, added}}, specs.Shown.{shown}},
 }
 use Rattle.frame_store.proofs.made.placed.Goals as goal

@@ -1,5 +1,5 @@
 use Rattle.{
-  meaning.proofs.Common.{◌<◌, length, arith},
+  meaning_tables.proofs.cells.Common.{◌<◌, length, arith},
   frame_store.proofs.ValueLaws.{put_column_cell},
 }
 use Rattle.frame_store.proofs.values.put_value.Goals as goal

@@ -1,5 +1,5 @@
 use Rattle.{
-  meaning.proofs.Common.{get_or_from_slice_get, length-map, ◌≡◌, ◌<◌, length, map, arith},
+  meaning_tables.proofs.cells.Common.{get_or_from_slice_get, length-map, ◌≡◌, ◌<◌, length, map, arith},
   frame_store.{specs.Parts.{block_column}, proofs.ValueLaws.{alike_put, one_more_put, rows_kept}},
 }
 use Rattle.frame_store.proofs.values.put_values.Goals as goal

@@ -1,6 +1,5 @@
 use Rattle.{
-  meaning.proofs.Common.{◌≡◌, drop, map, All, vec_len},
-  table_meaning.specs.Change.{with_values_from},
+  meaning_tables.{proofs.cells.Common.{◌≡◌, drop, map, All, vec_len}, specs.Change.{with_values_from}},
   frame_store.{specs.Parts.{block_column, IsSingle}, proofs.ValueLaws.{AreAlike}},
 }
 use Rattle.frame_store.proofs.values.put_values.Given as goal

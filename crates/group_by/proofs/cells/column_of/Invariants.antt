@@ -1,4 +1,4 @@
-use Rattle.meaning.proofs.Common.{◌≡◌, take}
+use Rattle.column_core.proofs.cells.Common.{◌≡◌, take}
 use Rattle.group_by.proofs.cells.column_of.Given as goal
 
 -- the cells so far

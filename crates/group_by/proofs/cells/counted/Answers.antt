@@ -1,5 +1,5 @@
 use Rattle.{
-  meaning.proofs.Common.{arith},
+  column_core.proofs.cells.Common.{arith},
   std.proofs.Common.{to_z-of_z},
   group_by.proofs.GatherLaws.{count_wraps},
 }

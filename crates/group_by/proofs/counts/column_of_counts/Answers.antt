@@ -1,6 +1,6 @@
 use Rattle.{
-  meaning.proofs.Common.{◌∷◌, [], arith, take, slice_index_or, take_more, take_all, map-append},
-  group_meaning.specs.Reductions.{count_cell},
+  column_core.proofs.cells.Common.{◌∷◌, [], arith, take, slice_index_or, take_more, take_all, map-append},
+  factorize.specs.group.Reductions.{count_cell},
   group_by.proofs.NumberLaws.{no_numbers, numbers_more, same_numbers},
 }
 use Rattle.group_by.proofs.counts.column_of_counts.Goals as goal

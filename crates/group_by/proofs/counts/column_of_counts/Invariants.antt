@@ -1,6 +1,6 @@
 use Rattle.{
-  meaning.proofs.Common.{map, take},
-  group_meaning.specs.Reductions.{count_cell},
+  column_core.proofs.cells.Common.{map, take},
+  factorize.specs.group.Reductions.{count_cell},
   group_by.specs.Counted.{AreNumbers},
 }
 use Rattle.group_by.proofs.counts.column_of_counts.Given as goal

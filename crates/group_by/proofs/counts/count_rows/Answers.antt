@@ -1,5 +1,5 @@
 use Rattle.{
-  meaning.proofs.Common.{◌≡◌, arith, slice_index_or, None, take_all, get_or_from_slice_get},
+  column_core.proofs.cells.Common.{◌≡◌, arith, slice_index_or, None, take_all, get_or_from_slice_get},
   group_by.proofs.NumberLaws.{room, rows_counted},
 }
 use Rattle.group_by.proofs.counts.count_rows.Goals as goal

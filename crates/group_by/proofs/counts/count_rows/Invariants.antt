@@ -1,6 +1,6 @@
 use Rattle.{
-  meaning.proofs.Common.{◌≡◌, ◌<◌, ℕ, length, take, slice_index_or},
-  group_meaning.specs.Rows.{rows_of_group},
+  column_core.proofs.cells.Common.{◌≡◌, ◌<◌, ℕ, length, take, slice_index_or},
+  factorize.specs.group.Rows.{rows_of_group},
 }
 use Rattle.group_by.proofs.counts.count_rows.Given as goal
 

@@ -1,6 +1,6 @@
 use Rattle.{
-  meaning.proofs.Common.{◌≡◌, ◌∙◌, ◌<◌, ap, sym, arith, length, take, slice_index_or, None, map-range_with_len_more, get_or_from_slice_get},
-  group_meaning.specs.{Rows.{rows_of_group}, Reductions.{count_cell, of_group}},
+  column_core.proofs.cells.Common.{◌≡◌, ◌∙◌, ◌<◌, ap, sym, arith, length, take, slice_index_or, None, map-range_with_len_more, get_or_from_slice_get},
+  factorize.specs.group.{Rows.{rows_of_group}, Reductions.{count_cell, of_group}},
   group_by.proofs.NumberLaws.{room, rows_counted, no_numbers, numbers_more, same_numbers, of_one_group},
 }
 use Rattle.group_by.proofs.counts.place_rows.Goals as goal

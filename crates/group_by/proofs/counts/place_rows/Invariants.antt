@@ -1,6 +1,6 @@
 use Rattle.{
-  meaning.proofs.Common.{◌≡◌, ◌<◌, ℕ, length, map, take, slice_index_or, range_with_len},
-  group_meaning.specs.{Rows.{rows_of_group}, Reductions.{count_before}},
+  column_core.proofs.cells.Common.{◌≡◌, ◌<◌, ℕ, length, map, take, slice_index_or, range_with_len},
+  factorize.specs.group.{Rows.{rows_of_group}, Reductions.{count_before}},
   group_by.specs.Counted.{AreNumbers},
 }
 use Rattle.group_by.proofs.counts.place_rows.Given as goal

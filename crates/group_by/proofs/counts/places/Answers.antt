@@ -1,5 +1,5 @@
 use Rattle.{
-  meaning.proofs.Common.{arith},
+  column_core.proofs.cells.Common.{arith},
   group_by.proofs.NumberLaws.{all_alike},
 }
 use Rattle.group_by.proofs.counts.places.Goals as goal

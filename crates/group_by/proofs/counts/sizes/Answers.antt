@@ -1,5 +1,5 @@
 use Rattle.{
-  meaning.proofs.Common.{◌∙◌, ap, arith, map, with_items_is},
+  column_core.proofs.cells.Common.{◌∙◌, ap, arith, map, with_items_is},
   group_by.proofs.NumberLaws.{all_alike, same_numbers, counts_cells, if_ok_more},
 }
 use Rattle.group_by.proofs.counts.sizes.Goals as goal

@@ -1,5 +1,5 @@
 use Rattle.{
-  meaning.proofs.Common.{◌≡◌, ◌<◌, arith, length, map, slice_index_or, None, get_or-map, get_or_from_slice_get, na_cell, datum, IsGiven},
+  column_core.proofs.cells.Common.{◌≡◌, ◌<◌, arith, length, map, slice_index_or, None, get_or-map, get_or_from_slice_get, na_cell, datum, IsGiven},
   group_by.proofs.DistinctLaws.{room, seen_more, distinct_more},
 }
 use Rattle.group_by.proofs.distinct.count_distinct.Goals as goal

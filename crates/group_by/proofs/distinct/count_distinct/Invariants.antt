@@ -1,6 +1,6 @@
 use Rattle.{
-  meaning.proofs.Common.{◌≡◌, ◌<◌, ℕ, false, length, map, take, slice_index_or, list_any, Cell, datum, IsGiven, present, same_cell, distinct_count},
-  group_meaning.specs.Rows.{cells_of_group},
+  column_core.proofs.cells.Common.{◌≡◌, ◌<◌, ℕ, false, length, map, take, slice_index_or, list_any, Cell, datum, IsGiven, present, same_cell, distinct_count},
+  factorize.specs.group.Rows.{cells_of_group},
   group_by.specs.Distincts.{is_missing, same_member},
 }
 use Rattle.group_by.proofs.distinct.count_distinct.Given as goal

@@ -1,7 +1,7 @@
 use Rattle.{
-  meaning.proofs.Common.{◌∙◌, ap, arith, map, with_items_is},
+  column_core.proofs.cells.Common.{◌∙◌, ap, arith, map, with_items_is},
   group_by.proofs.NumberLaws.{all_alike, same_numbers, counts_cells, if_ok_more},
-  group_meaning.specs.Reductions.{count_cell},
+  factorize.specs.group.Reductions.{count_cell},
 }
 use Rattle.group_by.proofs.distinct.distinct_counts.Goals as goal
 

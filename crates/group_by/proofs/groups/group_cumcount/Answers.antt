@@ -1,6 +1,6 @@
 use Rattle.{
-  meaning.proofs.Common.{◌∙◌, ap},
-  group_meaning.specs.Reductions.{group_places},
+  column_core.proofs.cells.Common.{◌∙◌, ap},
+  factorize.specs.group.Reductions.{group_places},
   group_by.proofs.NumberLaws.{numbers_value, if_ok_more},
 }
 use Rattle.group_by.proofs.groups.group_cumcount.Goals as goal

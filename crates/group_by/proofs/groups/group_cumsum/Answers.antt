@@ -1,5 +1,5 @@
 use Rattle.{
-  meaning.proofs.Common.{arith},
+  column_core.proofs.cells.Common.{arith},
   group_by.proofs.CallLaws.{cumsum_answer},
 }
 use Rattle.group_by.proofs.groups.group_cumsum.Goals as goal

@@ -1,6 +1,6 @@
 use Rattle.{
-  meaning.proofs.Common.{◌∙◌, ap},
-  group_meaning.specs.Reductions.{group_sizes},
+  column_core.proofs.cells.Common.{◌∙◌, ap},
+  factorize.specs.group.Reductions.{group_sizes},
   group_by.proofs.NumberLaws.{numbers_value, if_ok_more},
 }
 use Rattle.group_by.proofs.groups.group_size.Goals as goal

@@ -1,6 +1,6 @@
 use Rattle.{
-  meaning.proofs.Common.{arith, ◌≡◌, ◌∙◌, ap, map, na_cell, datum, gap_cell},
-  group_meaning.specs.Reductions.{reduced_cells},
+  column_core.proofs.cells.Common.{arith, ◌≡◌, ◌∙◌, ap, map, na_cell, datum, gap_cell},
+  factorize.specs.group.Reductions.{reduced_cells},
   group_by.{specs.Operations.{reduction_of}, proofs.CallLaws.{transform_answer, gaps_seen, taken_given}},
 }
 use Rattle.group_by.proofs.groups.group_transform.Goals as goal

@@ -1,6 +1,6 @@
 use Rattle.{
-  meaning.proofs.Common.{arith, ◌<◌, length, All-set},
-  group_meaning.specs.Reductions.{group_kind},
+  column_core.proofs.cells.Common.{arith, ◌<◌, length, All-set},
+  factorize.specs.group.Reductions.{group_kind},
   group_by.specs.Cells.{IsCellOf},
 }
 use Rattle.group_by.proofs.reduce.gather_cell.Goals as goal

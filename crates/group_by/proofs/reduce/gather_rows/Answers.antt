@@ -1,5 +1,5 @@
 use Rattle.{
-  meaning.proofs.Common.{◌≡◌, ◌<◌, arith, length, map, slice_index_or, None, take_all, get_or-map, get_or_from_slice_get, na_cell, datum},
+  column_core.proofs.cells.Common.{◌≡◌, ◌<◌, arith, length, map, slice_index_or, None, take_all, get_or-map, get_or_from_slice_get, na_cell, datum},
   group_by.proofs.RowLaws.{taken_in},
 }
 use Rattle.group_by.proofs.reduce.gather_rows.Goals as goal

@@ -1,6 +1,6 @@
 use Rattle.{
-  meaning.proofs.Common.{◌≡◌, ◌<◌, ℕ, length, map, take, slice_index_or, All, Na, datum},
-  group_meaning.specs.{Rows.{cells_of_group}, Reductions.{group_cell, group_kind}},
+  column_core.proofs.cells.Common.{◌≡◌, ◌<◌, ℕ, length, map, take, slice_index_or, All, Na, datum},
+  factorize.specs.group.{Rows.{cells_of_group}, Reductions.{group_cell, group_kind}},
   group_by.specs.Cells.{IsCellOf},
 }
 use Rattle.group_by.proofs.reduce.gather_rows.Given as goal

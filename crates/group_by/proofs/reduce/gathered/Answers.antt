@@ -1,7 +1,6 @@
 use Rattle.{
-  meaning.proofs.Common.{◌≡◌, ◌∙◌, [], ap, subst, arith, map, All, with_items_is, All-replicate, Cell, datum},
-  column_core.specs.Columns.{CellColumn, column_value},
-  group_meaning.specs.Reductions.{group_cell, group_kind},
+  column_core.{proofs.cells.Common.{◌≡◌, ◌∙◌, [], ap, subst, arith, map, All, with_items_is, All-replicate, Cell, datum}, specs.Columns.{CellColumn, column_value}},
+  factorize.specs.group.Reductions.{group_cell, group_kind},
   group_by.{specs.Cells.{IsCellOf}, proofs.{GatherLaws.{gathered_cells}, NumberLaws.{if_ok_more}}},
 }
 use Rattle.group_by.proofs.reduce.gathered.Goals as goal

@@ -1,6 +1,6 @@
 use Rattle.{
-  meaning.proofs.Common.{◌∙◌, sym, map, datum},
-  group_meaning.specs.Reductions.{group_kind, reduced_cells},
+  column_core.proofs.cells.Common.{◌∙◌, sym, map, datum},
+  factorize.specs.group.Reductions.{group_kind, reduced_cells},
   group_by.{specs.Operations.{reduction_of}, proofs.NumberLaws.{numbers_value, if_ok_more}},
 }
 use Rattle.group_by.proofs.reduce.reduced.Goals as goal

@@ -1,5 +1,5 @@
 use Rattle.{
-  meaning.proofs.Common.{arith, ◌≡◌, ◌∙◌, ◌<◌, ℕ, List, true, ap, length, get_or_default, All-set, Cell, Int64, int_cell, datum, holds, number_in},
+  column_core.proofs.cells.Common.{arith, ◌≡◌, ◌∙◌, ◌<◌, ℕ, List, true, ap, length, get_or_default, All-set, Cell, Int64, int_cell, datum, holds, number_in},
   group_by.{specs.Gathered.{plus, total_of}, proofs.{GatherLaws.{total_more, takes_at}, NumberLaws.{number_given}}},
 }
 use Rattle.group_by.proofs.running.add_cell.Goals as goal

@@ -1,5 +1,5 @@
 use Rattle.{
-  meaning.proofs.Common.{arith, pos, Int},
+  column_core.proofs.cells.Common.{arith, pos, Int},
   group_by.proofs.NumberLaws.{all_alike},
 }
 use Rattle.group_by.proofs.running.running_sums.Goals as goal

@@ -1,6 +1,6 @@
 use Rattle.{
-  meaning.proofs.Common.{◌≡◌, ◌∙◌, ◌<◌, ◌+◌, ap, sym, arith, length, map, take, slice_index_or, ℕ, List, None, get_or-map, map-range_with_len_more, get_or_from_slice_get, Na, na_cell, datum, unless_missing},
-  group_meaning.specs.{Rows.{cells_of_group}, Reductions.{of_group, group_cell, sum}},
+  column_core.proofs.cells.Common.{◌≡◌, ◌∙◌, ◌<◌, ◌+◌, ap, sym, arith, length, map, take, slice_index_or, ℕ, List, None, get_or-map, map-range_with_len_more, get_or_from_slice_get, Na, na_cell, datum, unless_missing},
+  factorize.specs.group.{Rows.{cells_of_group}, Reductions.{of_group, group_cell, sum}},
   group_by.proofs.{RowLaws.{taken_in}, NumberLaws.{numbers_more, same_numbers, of_one_group}},
 }
 use Rattle.group_by.proofs.running.sum_rows.Goals as goal

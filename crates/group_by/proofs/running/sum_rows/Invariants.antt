@@ -1,6 +1,6 @@
 use Rattle.{
-  meaning.proofs.Common.{◌≡◌, ◌<◌, ℕ, true, List, length, map, take, slice_index_or, All, range_with_len, Cell, Na, Int64, datum, holds},
-  group_meaning.specs.{Rows.{cells_of_group}, Reductions.{sum, group_cell, running_cell}},
+  column_core.proofs.cells.Common.{◌≡◌, ◌<◌, ℕ, true, List, length, map, take, slice_index_or, All, range_with_len, Cell, Na, Int64, datum, holds},
+  factorize.specs.group.{Rows.{cells_of_group}, Reductions.{sum, group_cell, running_cell}},
   group_by.specs.Counted.{AreNumbers},
 }
 use Rattle.group_by.proofs.running.sum_rows.Given as goal

@@ -1,5 +1,5 @@
 use Rattle.{
-  meaning.proofs.Common.{length-set, get_or_default, get_or-set_same, get_or-set_other, cases_eq, ◌<◌, ◌+◌, ◌-◌, length, arith},
+  meaning_pick.proofs.cells.Common.{length-set, get_or_default, get_or-set_same, get_or-set_other, cases_eq, ◌<◌, ◌+◌, ◌-◌, length, arith},
   index_core.{specs.Found.{HaveFirstRows, HaveNextRows}, proofs.LinkLaws.{first_more}},
 }
 use Rattle.index_core.proofs.found.linked.Goals as goal

@@ -1,6 +1,5 @@
 use Rattle.{
-  meaning.proofs.Common.{drop_more, ◌≡◌, ◌∙◌, ◌<◌, ◌+◌, ◌-◌, true, sym, length, drop, arith},
-  pick_meaning.specs.Labels.{all_differ},
+  meaning_pick.{proofs.cells.Common.{drop_more, ◌≡◌, ◌∙◌, ◌<◌, ◌+◌, ◌-◌, true, sym, length, drop, arith}, specs.Labels.{all_differ}},
   index_core.{specs.Labels.{same_number}, proofs.DifferLaws.{AreKeys, keys_more, stands_twice}},
 }
 use Rattle.index_core.proofs.listed.all_differ.Goals as goal

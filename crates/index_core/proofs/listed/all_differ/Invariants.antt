@@ -1,6 +1,5 @@
 use Rattle.{
-  meaning.proofs.Common.{◌≡◌, true, drop},
-  pick_meaning.specs.Labels.{all_differ},
+  meaning_pick.{proofs.cells.Common.{◌≡◌, true, drop}, specs.Labels.{all_differ}},
   index_core.{specs.Labels.{same_number}, proofs.DifferLaws.{AreKeys}},
 }
 use Rattle.index_core.proofs.listed.all_differ.Given as goal

@@ -1,5 +1,5 @@
 use Rattle.{
-  meaning.proofs.Common.{arith, of_calls, not, always_returns_same, is_gt},
+  meaning_pick.proofs.cells.Common.{arith, of_calls, not, always_returns_same, is_gt},
   index_core.{specs.Labels.{order_in}, proofs.SplitLaws.{within_first}},
 }
 use Rattle.index_core.proofs.listed.end_within.Goals as goal

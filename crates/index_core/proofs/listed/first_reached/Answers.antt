@@ -1,5 +1,5 @@
 use Rattle.{
-  meaning.proofs.Common.{arith, of_calls, always_returns_same, is_lt},
+  meaning_pick.proofs.cells.Common.{arith, of_calls, always_returns_same, is_lt},
   index_core.{specs.Labels.{order_in}, proofs.SplitLaws.{below_first}},
 }
 use Rattle.index_core.proofs.listed.first_reached.Goals as goal

@@ -1,7 +1,4 @@
-use Rattle.{
-  meaning.proofs.Common.{◌∙◌, ap, sym, is_lt},
-  pick_meaning.proofs.OrderLaws.{order_goes_on, order_broken},
-}
+use Rattle.meaning_pick.proofs.{cells.Common.{◌∙◌, ap, sym, is_lt}, OrderLaws.{order_goes_on, order_broken}}
 use Rattle.index_core.proofs.listed.is_sorted.Goals as goal
 
 pub loop-place-preserved : goal.loop-place-preserved

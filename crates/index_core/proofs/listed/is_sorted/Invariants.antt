@@ -1,6 +1,5 @@
 use Rattle.{
-  meaning.proofs.Common.{◌≡◌, ◌-◌, drop},
-  pick_meaning.specs.Slices.{is_in_order},
+  meaning_pick.{proofs.cells.Common.{◌≡◌, ◌-◌, drop}, specs.Slices.{is_in_order}},
   index_core.specs.Labels.{order_in},
 }
 use Rattle.index_core.proofs.listed.is_sorted.Given as goal

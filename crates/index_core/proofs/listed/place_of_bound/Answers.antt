@@ -1,6 +1,5 @@
 use Rattle.{
-  meaning.proofs.Common.{arith, Bool, ◌∙◌, ap, sym, is_eq, Label},
-  pick_meaning.proofs.RowLaws.{rows_more_no},
+  meaning_pick.proofs.{cells.Common.{arith, Bool, ◌∙◌, ap, sym, is_eq, Label}, RowLaws.{rows_more_no}},
   index_core.{specs.Labels.{order_in}, proofs.{BoundLaws.{first_time, second_time}, listed.place_of_bound.Goals.{then-is_eq+else-is_some, else-is_eq}}},
 }
 use Rattle.index_core.proofs.listed.place_of_bound.Goals as goal

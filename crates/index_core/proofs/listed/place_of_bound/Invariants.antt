@@ -1,5 +1,5 @@
 use Rattle.{
-  meaning.proofs.Common.{◌<◌, length, IfSome, is_eq},
+  meaning_pick.proofs.cells.Common.{◌<◌, length, IfSome, is_eq},
   index_core.{specs.Labels.{order_in}, proofs.BoundLaws.{IsSoFar}},
 }
 use Rattle.index_core.proofs.listed.place_of_bound.Given as goal

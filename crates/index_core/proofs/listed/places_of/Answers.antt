@@ -1,7 +1,6 @@
 use Rattle.{
-  meaning.proofs.Common.{arith},
+  meaning_pick.proofs.{cells.Common.{arith}, RowLaws.{rows_more_yes, rows_more_no}},
   index_core.proofs.listed.places_of.Goals.{then-eq+in_ok-push},
-  pick_meaning.proofs.RowLaws.{rows_more_yes, rows_more_no},
 }
 use Rattle.index_core.proofs.listed.places_of.Goals as goal
 

@@ -1,6 +1,5 @@
 use Rattle.{
-  meaning.proofs.Common.{◌≡◌, take},
-  pick_meaning.specs.Rows.{rows_where},
+  meaning_pick.{proofs.cells.Common.{◌≡◌, take}, specs.Rows.{rows_where}},
   index_core.specs.Labels.{same_number},
 }
 use Rattle.index_core.proofs.listed.places_of.Given as goal

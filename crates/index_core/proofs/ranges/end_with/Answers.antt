@@ -1,5 +1,5 @@
 use Rattle.{
-  meaning.proofs.Common.{arith, to_z-of_z},
+  meaning_pick.proofs.cells.Common.{arith, to_z-of_z},
   index_core.proofs.NumberLaws.{left_number, left_below},
 }
 use Rattle.index_core.proofs.ranges.end_with.Goals as goal

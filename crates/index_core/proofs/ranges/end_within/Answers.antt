@@ -1,5 +1,5 @@
 use Rattle.{
-  meaning.proofs.Common.{refl},
+  meaning_pick.proofs.cells.Common.{refl},
   index_core.proofs.NumberLaws.{none_passes},
 }
 use Rattle.index_core.proofs.ranges.end_within.Goals as goal

@@ -1,5 +1,5 @@
 use Rattle.{
-  meaning.proofs.Common.{refl, rules, w64, FitsSigned, to_z-of_z},
+  meaning_pick.proofs.cells.Common.{refl, rules, w64, FitsSigned, to_z-of_z},
   index_core.proofs.NumberLaws.{all_pass, none_passes},
 }
 use Rattle.index_core.proofs.ranges.first_at.Goals as goal

@@ -1,5 +1,5 @@
 use Rattle.{
-  meaning.proofs.Common.{arith, to_z-of_z},
+  meaning_pick.proofs.cells.Common.{arith, to_z-of_z},
   index_core.proofs.NumberLaws.{reached_number, reached_below},
 }
 use Rattle.index_core.proofs.ranges.first_from.Goals as goal

@@ -1,5 +1,5 @@
 use Rattle.{
-  meaning.proofs.Common.{arith, to_z-of_z},
+  meaning_pick.proofs.cells.Common.{arith, to_z-of_z},
   index_core.proofs.NumberLaws.{nowhere, not_same, label_decides, same_pos, number_there, no_number},
 }
 use Rattle.index_core.proofs.ranges.place_of_number.Goals as goal

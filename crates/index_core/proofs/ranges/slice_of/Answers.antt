@@ -1,5 +1,5 @@
 use Rattle.{
-  meaning.proofs.Common.{◌∙◌, [], arith},
+  meaning_pick.proofs.cells.Common.{◌∙◌, [], arith},
   cell_core.specs.declared.cell.Label.TheVariants.{Na},
   index_core.proofs.{RangeLaws.{length-range_labels}, SplitLaws.{rows_of_splits}},
 }

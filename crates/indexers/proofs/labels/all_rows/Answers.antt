@@ -1,5 +1,5 @@
 use Rattle.{
-  meaning.proofs.Common.{arith},
+  column_core.proofs.cells.Common.{arith},
   indexers.proofs.SpanLaws.{all_listed},
 }
 use Rattle.indexers.proofs.labels.all_rows.Goals as goal

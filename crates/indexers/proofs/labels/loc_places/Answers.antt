@@ -1,5 +1,5 @@
 use Rattle.{
-  pick_meaning.{specs.Keys.{all_rows}, proofs.{KeyLaws.{picked_inside}, PositionLaws.{spaced_inside}}},
+  index_core.{specs.pick.Keys.{all_rows}, proofs.pick.{KeyLaws.{picked_inside}, PositionLaws.{spaced_inside}}},
   indexers.proofs.AnswerLaws.{picks_inside},
 }
 use Rattle.indexers.proofs.labels.loc_places.Goals as goal

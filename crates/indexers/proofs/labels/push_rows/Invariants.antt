@@ -1,4 +1,4 @@
-use Rattle.meaning.proofs.Common.{◌≡◌, ◌++◌, take}
+use Rattle.column_core.proofs.cells.Common.{◌≡◌, ◌++◌, take}
 use Rattle.indexers.proofs.labels.push_rows.Given as goal
 
 -- the rows so far

@@ -1,4 +1,4 @@
-use Rattle.meaning.proofs.Common.{arith}
+use Rattle.column_core.proofs.cells.Common.{arith}
 use Rattle.indexers.proofs.labels.rows_of_key.Goals as goal
 
 pub returns-clause-picked : goal.returns-clause-picked

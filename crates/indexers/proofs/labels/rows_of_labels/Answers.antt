@@ -1,7 +1,6 @@
 use Rattle.{
-  meaning.proofs.Common.{◌∙◌, ◌<◌, ap, sym, length, [], arith, get_or_from_slice_get},
-  pick_meaning.specs.{Faults.{not_there}, Labels.{rows_of_key}, Leading.{leads}},
-  index_core.specs.Labels.{same_number},
+  column_core.proofs.cells.Common.{◌∙◌, ◌<◌, ap, sym, length, [], arith, get_or_from_slice_get},
+  index_core.specs.{pick.{Faults.{not_there}, Labels.{rows_of_key}, Leading.{leads}}, Labels.{same_number}},
   multi_index.specs.Axes.{single_tuples},
   indexers.proofs.{AnswerLaws.{label_found, label_missing}, TurnLaws.{label_more, label_refused}},
 }

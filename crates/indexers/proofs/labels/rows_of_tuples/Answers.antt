@@ -1,7 +1,6 @@
 use Rattle.{
-  meaning.proofs.Common.{◌≡◌, ◌∙◌, ◌<◌, sym, length, slice_index_or, [], arith, length-map, All-append, get_or_from_slice_get},
-  pick_meaning.specs.{Faults.{not_there}, Leading.{leads}},
-  index_core.specs.Labels.{same_number},
+  column_core.proofs.cells.Common.{◌≡◌, ◌∙◌, ◌<◌, sym, length, slice_index_or, [], arith, length-map, All-append, get_or_from_slice_get},
+  index_core.specs.{pick.{Faults.{not_there}, Leading.{leads}}, Labels.{same_number}},
   indexers.proofs.{AnswerLaws.{row_found, whole_found, whole_missing}, TurnLaws.{label_more, label_refused}},
 }
 use Rattle.indexers.proofs.labels.rows_of_tuples.Goals as goal

@@ -1,7 +1,6 @@
 use Rattle.{
-  meaning.proofs.Common.{◌≡◌, drop},
-  pick_meaning.specs.{Labels.{rows_of_keys}, Leading.{leads}},
-  index_core.specs.Labels.{same_number},
+  column_core.proofs.cells.Common.{◌≡◌, drop},
+  index_core.specs.{pick.{Labels.{rows_of_keys}, Leading.{leads}}, Labels.{same_number}},
   indexers.proofs.TurnLaws.{added},
 }
 use Rattle.indexers.proofs.labels.rows_of_tuples.Given as goal

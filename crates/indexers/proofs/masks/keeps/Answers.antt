@@ -1,5 +1,5 @@
 use Rattle.{
-  meaning.proofs.Common.{arith},
+  column_core.proofs.cells.Common.{arith},
   indexers.proofs.MaskLaws.{cell_read, only_inside},
 }
 use Rattle.indexers.proofs.masks.keeps.Goals as goal

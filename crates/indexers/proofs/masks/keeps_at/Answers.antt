@@ -1,5 +1,5 @@
 use Rattle.{
-  meaning.proofs.Common.{◌≡◌, refl, length, arith},
+  column_core.proofs.cells.Common.{◌≡◌, refl, length, arith},
   indexers.proofs.MaskLaws.{cell_at_rows},
 }
 use Rattle.indexers.proofs.masks.keeps_at.Goals as goal

@@ -1,8 +1,7 @@
 use Rattle.{
-  meaning.proofs.Common.{◌∙◌, ◌<◌, ap, sym, length, map, arith, get_or_from_slice_get, err_from_is_err_and},
+  column_core.proofs.cells.Common.{◌∙◌, ◌<◌, ap, sym, length, map, arith, get_or_from_slice_get, err_from_is_err_and},
   cell_core.specs.declared.cell.Label.TheVariants.{Na},
-  pick_meaning.{specs.Masks.{cell_of_label}, proofs.RowLaws.{when_so, when_not}},
-  index_core.specs.Labels.{same_number},
+  index_core.{specs.{pick.Masks.{cell_of_label}, Labels.{same_number}}, proofs.pick.RowLaws.{when_so, when_not}},
   indexers.{specs.{Masks.{is_true}, Picks.{as_it_is}}, proofs.{AnswerLaws.{handed_on, seen_ok, seen_refused}, TurnLaws.{mask_more, mask_refused}, masks.kept_by_label.Goals.{then-branch+in_ok-push, else-branch}}},
 }
 use Rattle.indexers.proofs.masks.kept_by_label.Goals as goal

@@ -1,6 +1,6 @@
 use Rattle.{
-  meaning.proofs.Common.{◌≡◌, ◌∙◌, ◌<◌, [], ap, sym, length, map, slice_index_or, arith, get_or-map, length-map, All-append, err_from_is_err_and},
-  pick_meaning.{specs.{Masks.{cell_or_fault}, Rows.{only_row}}, proofs.{RowLaws.{when_so, when_not}, InsideLaws.{rows_inside}}},
+  column_core.proofs.cells.Common.{◌≡◌, ◌∙◌, ◌<◌, [], ap, sym, length, map, slice_index_or, arith, get_or-map, length-map, All-append, err_from_is_err_and},
+  index_core.{specs.pick.{Masks.{cell_or_fault}, Rows.{only_row}}, proofs.pick.{RowLaws.{when_so, when_not}, InsideLaws.{rows_inside}}},
   indexers.{specs.{Masks.{is_true}, Picks.{as_it_is}}, proofs.{AnswerLaws.{handed_on, row_found}, TurnLaws.{added_to_none, mask_more, mask_refused}, masks.kept_by_tuple.Goals.{then-branch+in_ok-push, else-branch}}},
 }
 use Rattle.indexers.proofs.masks.kept_by_tuple.Goals as goal

@@ -1,7 +1,6 @@
 use Rattle.{
-  meaning.proofs.Common.{◌≡◌, drop, map, pointwise},
-  pick_meaning.specs.Masks.{kept_by_label},
-  index_core.specs.Labels.{same_number},
+  column_core.proofs.cells.Common.{◌≡◌, drop, map, pointwise},
+  index_core.specs.{pick.Masks.{kept_by_label}, Labels.{same_number}},
   indexers.{specs.Masks.{is_true}, proofs.TurnLaws.{added}},
 }
 use Rattle.indexers.proofs.masks.kept_by_tuple.Given as goal

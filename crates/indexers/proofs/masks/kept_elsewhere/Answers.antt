@@ -1,5 +1,5 @@
 use Rattle.{
-  meaning.proofs.Common.{map, arith},
+  column_core.proofs.cells.Common.{map, arith},
   indexers.{specs.Masks.{is_true}, proofs.MaskLaws.{kept_seen, none_kept}},
 }
 use Rattle.indexers.proofs.masks.kept_elsewhere.Goals as goal

@@ -1,6 +1,6 @@
 use Rattle.{
-  meaning.proofs.Common.{◌∙◌, ◌<◌, sym, map, length, arith, length-map},
-  pick_meaning.proofs.RowLaws.{rows_more_yes, rows_more_no},
+  column_core.proofs.cells.Common.{◌∙◌, ◌<◌, sym, map, length, arith, length-map},
+  index_core.proofs.pick.RowLaws.{rows_more_yes, rows_more_no},
   indexers.{specs.Masks.{is_true}, proofs.{MaskLaws.{cell_read}, masks.kept_rows.Goals.{then-is_true+in_ok-push, else-is_true}}},
 }
 use Rattle.indexers.proofs.masks.kept_rows.Goals as goal

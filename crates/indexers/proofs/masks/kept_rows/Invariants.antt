@@ -1,6 +1,6 @@
 use Rattle.{
-  meaning.proofs.Common.{◌≡◌, take, map},
-  pick_meaning.specs.Rows.{rows_where},
+  column_core.proofs.cells.Common.{◌≡◌, take, map},
+  index_core.specs.pick.Rows.{rows_where},
   indexers.specs.Masks.{is_true},
 }
 use Rattle.indexers.proofs.masks.kept_rows.Given as goal

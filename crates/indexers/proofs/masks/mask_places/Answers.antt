@@ -1,6 +1,6 @@
 use Rattle.{
-  meaning.proofs.Common.{arith, map},
-  pick_meaning.proofs.InsideLaws.{by_label_inside},
+  column_core.proofs.cells.Common.{arith, map},
+  index_core.proofs.pick.InsideLaws.{by_label_inside},
   indexers.{specs.Masks.{is_true}, proofs.{AnswerLaws.{rows_inside}, MaskLaws.{masked_alike, alike_inside, masked_otherwise}}},
 }
 use Rattle.indexers.proofs.masks.mask_places.Goals as goal

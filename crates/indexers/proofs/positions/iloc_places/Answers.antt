@@ -1,5 +1,5 @@
 use Rattle.{
-  pick_meaning.proofs.{KeyLaws.{placed_inside}, PositionLaws.{spaced_inside}},
+  index_core.proofs.pick.{KeyLaws.{placed_inside}, PositionLaws.{spaced_inside}},
   indexers.proofs.AnswerLaws.{picks_inside},
 }
 use Rattle.indexers.proofs.positions.iloc_places.Goals as goal

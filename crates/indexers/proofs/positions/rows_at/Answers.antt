@@ -1,6 +1,6 @@
 use Rattle.{
-  meaning.proofs.Common.{◌∙◌, ◌<◌, ap, length, pos, Ok, arith, rules, w64, FitsSigned, get_or_from_slice_get, to_z-of_z, err_from_is_err_and},
-  pick_meaning.specs.{Faults.{then_pick}, Keys.{listed_pick}, Positions.{row_at}},
+  column_core.proofs.cells.Common.{◌∙◌, ◌<◌, ap, length, pos, Ok, arith, rules, w64, FitsSigned, get_or_from_slice_get, to_z-of_z, err_from_is_err_and},
+  index_core.specs.pick.{Faults.{then_pick}, Keys.{listed_pick}, Positions.{row_at}},
   indexers.{specs.Picks.{as_it_is, pick_of}, proofs.{AnswerLaws.{handed_on}, TurnLaws.{place_more, place_refused}}},
 }
 use Rattle.indexers.proofs.positions.rows_at.Goals as goal

@@ -1,6 +1,6 @@
 use Rattle.{
-  meaning.proofs.Common.{◌≡◌, drop, List, Label},
-  pick_meaning.specs.Positions.{rows_at},
+  column_core.proofs.cells.Common.{◌≡◌, drop, List, Label},
+  index_core.specs.pick.Positions.{rows_at},
   indexers.proofs.TurnLaws.{added},
 }
 use Rattle.indexers.proofs.positions.rows_at.Given as goal

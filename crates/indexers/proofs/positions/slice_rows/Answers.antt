@@ -1,5 +1,5 @@
 use Rattle.{
-  meaning.proofs.Common.{of_z, ap, w64, to_z-of_z},
+  column_core.proofs.cells.Common.{of_z, ap, w64, to_z-of_z},
   indexers.proofs.SpanLaws.{forward_spaced, backward_spaced},
 }
 use Rattle.indexers.proofs.positions.slice_rows.Goals as goal

@@ -1,4 +1,4 @@
-use Rattle.meaning.proofs.Common.{◌≡◌, map, range_with_len, place_from}
+use Rattle.column_core.proofs.cells.Common.{◌≡◌, map, range_with_len, place_from}
 use Rattle.indexers.proofs.spans.spanned.Given as goal
 
 -- the places so far

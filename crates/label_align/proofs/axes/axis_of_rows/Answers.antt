@@ -1,5 +1,5 @@
 use Rattle.{
-  meaning.proofs.Common.{arith, ◌≡◌, ◌∙◌, ap, subst, sym},
+  meaning_align.proofs.cells.Common.{arith, ◌≡◌, ◌∙◌, ap, subst, sym},
   multi_index.{specs.Axes.{HaveLevels, nameless_axis, single_tuples}, proofs.TupleLaws.{levels_of_taken}},
   label_align.proofs.OuterJoinLaws.{single_rows},
 }

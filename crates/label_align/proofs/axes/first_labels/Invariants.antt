@@ -1,5 +1,5 @@
 use Rattle.{
-  meaning.proofs.Common.{◌≡◌, map, take},
+  meaning_align.proofs.cells.Common.{◌≡◌, map, take},
   label_align.specs.{Both.{tuples_of}, Runs.{label_of_row}},
 }
 use Rattle.label_align.proofs.axes.first_labels.Given as goal

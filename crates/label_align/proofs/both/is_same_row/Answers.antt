@@ -1,5 +1,5 @@
 use Rattle.{
-  meaning.proofs.Common.{arith},
+  meaning_align.proofs.cells.Common.{arith},
   label_align.proofs.OuterJoinLaws.{rows_agree},
 }
 use Rattle.label_align.proofs.both.is_same_row.Goals as goal

@@ -1,5 +1,5 @@
 use Rattle.{
-  meaning.proofs.Common.{◌≡◌, ◌<◌, ℕ},
+  meaning_align.proofs.cells.Common.{◌≡◌, ◌<◌, ℕ},
   label_align.specs.{Both.{tuples_of}, Runs.{label_of_row}},
 }
 use Rattle.label_align.proofs.both.is_same_row.Given as goal

@@ -1,6 +1,5 @@
 use Rattle.{
-  meaning.proofs.Common.{drop-drop, sum_by_more, ◌≡◌, ◌∙◌, ◌<◌, List, ℕ, take, drop, length, ap, arith, slice_index_or},
-  align_meaning.specs.Joins.{lists_of},
+  meaning_align.{proofs.cells.Common.{drop-drop, sum_by_more, ◌≡◌, ◌∙◌, ◌<◌, List, ℕ, take, drop, length, ap, arith, slice_index_or}, specs.Joins.{lists_of}},
   label_align.{specs.{declared.runs.Run.{Run}, Runs.{no_run, entries_in, rows_in, total}}, proofs.OuterJoinLaws.{lists_more, run_more}},
 }
 use Rattle.label_align.proofs.joined.entries_of_runs.Goals as goal

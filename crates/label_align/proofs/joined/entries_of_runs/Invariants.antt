@@ -1,6 +1,5 @@
 use Rattle.{
-  meaning.proofs.Common.{◌≡◌, take},
-  align_meaning.specs.Joins.{lists_of},
+  meaning_align.{proofs.cells.Common.{◌≡◌, take}, specs.Joins.{lists_of}},
   label_align.specs.{Joined.{entries_seen}, Runs.{run_entries, total}},
 }
 use Rattle.label_align.proofs.joined.entries_of_runs.Given as goal

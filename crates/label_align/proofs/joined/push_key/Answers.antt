@@ -1,5 +1,5 @@
 use Rattle.{
-  meaning.proofs.Common.{arith, ◌<◌, length, subst, take_all},
+  meaning_align.proofs.cells.Common.{arith, ◌<◌, length, subst, take_all},
   label_align.{specs.Joined.{HasMore}, proofs.OuterJoinLaws.{entries_of_some}},
 }
 use Rattle.label_align.proofs.joined.push_key.Goals as goal

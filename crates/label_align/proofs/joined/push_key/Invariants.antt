@@ -1,6 +1,5 @@
 use Rattle.{
-  meaning.proofs.Common.{Some, take, map, ◌-◌, flat_map},
-  align_meaning.specs.Joins.{entries_with},
+  meaning_align.{proofs.cells.Common.{Some, take, map, ◌-◌, flat_map}, specs.Joins.{entries_with}},
   label_align.specs.Joined.{HasMore},
 }
 use Rattle.label_align.proofs.joined.push_key.Given as goal

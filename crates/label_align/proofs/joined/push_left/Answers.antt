@@ -1,5 +1,5 @@
 use Rattle.{
-  meaning.proofs.Common.{arith, ◌<◌, ◌-◌, length, take_all},
+  meaning_align.proofs.cells.Common.{arith, ◌<◌, ◌-◌, length, take_all},
   label_align.proofs.OuterJoinLaws.{entries_with_some},
 }
 use Rattle.label_align.proofs.joined.push_left.Goals as goal

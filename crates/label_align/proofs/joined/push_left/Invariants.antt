@@ -1,6 +1,5 @@
 use Rattle.{
-  meaning.proofs.Common.{map, Some, take, ◌-◌},
-  align_meaning.specs.Joins.{entry},
+  meaning_align.{proofs.cells.Common.{map, Some, take, ◌-◌}, specs.Joins.{entry}},
   label_align.specs.Joined.{HasMore},
 }
 use Rattle.label_align.proofs.joined.push_left.Given as goal

@@ -1,5 +1,5 @@
 use Rattle.{
-  meaning.proofs.Common.{◌∙◌, ◌++◌, ap, sym, Ok},
+  meaning_align.proofs.cells.Common.{◌∙◌, ◌++◌, ap, sym, Ok},
   multi_index.specs.Axes.{AxisValue, tuples_at},
   label_align.proofs.OuterJoinLaws.{law_of},
 }

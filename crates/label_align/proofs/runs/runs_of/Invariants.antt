@@ -1,5 +1,5 @@
 use Rattle.{
-  meaning.proofs.Common.{◌≡◌, ◌≤◌, ◌+◌, ◌++◌, drop},
+  meaning_align.proofs.cells.Common.{◌≡◌, ◌≤◌, ◌+◌, ◌++◌, drop},
   label_align.specs.{Both.{tuples_of}, Runs.{same_row, no_run, runs_from}},
 }
 use Rattle.label_align.proofs.runs.runs_of.Given as goal

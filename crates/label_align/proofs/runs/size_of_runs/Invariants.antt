@@ -1,5 +1,5 @@
 use Rattle.{
-  meaning.proofs.Common.{◌≡◌, ◌≤◌, take},
+  meaning_align.proofs.cells.Common.{◌≡◌, ◌≤◌, take},
   label_align.specs.Runs.{counted},
 }
 use Rattle.label_align.proofs.runs.size_of_runs.Given as goal

@@ -1,4 +1,4 @@
-use Rattle.meaning.proofs.Common.{Some, arith, map-range_with_len_more}
+use Rattle.meaning_align.proofs.cells.Common.{Some, arith, map-range_with_len_more}
 use Rattle.label_align.proofs.targets.all_rows.Goals as goal
 
 pub loop-row-preserved : goal.loop-row-preserved

@@ -1,4 +1,4 @@
-use Rattle.meaning.proofs.Common.{◌≡◌, Some, map, range_with_len}
+use Rattle.meaning_align.proofs.cells.Common.{◌≡◌, Some, map, range_with_len}
 use Rattle.label_align.proofs.targets.all_rows.Given as goal
 
 -- the rows so far

@@ -1,4 +1,4 @@
-use Rattle.meaning.proofs.Common.{◌≡◌, ◌<◌, ℕ, slice_index}
+use Rattle.meaning_align.proofs.cells.Common.{◌≡◌, ◌<◌, ℕ, slice_index}
 use Rattle.label_align.proofs.targets.are_in_sequence.Given as goal
 
 -- the codes so far are their places

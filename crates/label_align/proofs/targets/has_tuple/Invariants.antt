@@ -1,4 +1,4 @@
-use Rattle.meaning.proofs.Common.{◌≡◌, ◌<◌, [], ℕ, slice_get, slice_index_or}
+use Rattle.meaning_align.proofs.cells.Common.{◌≡◌, ◌<◌, [], ℕ, slice_get, slice_index_or}
 use Rattle.label_align.proofs.targets.has_tuple.Given as goal
 
 -- the labels so far are the same

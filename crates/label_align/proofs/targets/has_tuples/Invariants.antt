@@ -1,4 +1,4 @@
-use Rattle.meaning.proofs.Common.{◌≡◌, ◌<◌, ℕ, slice_get}
+use Rattle.meaning_align.proofs.cells.Common.{◌≡◌, ◌<◌, ℕ, slice_get}
 use Rattle.label_align.proofs.targets.has_tuples.Given as goal
 
 -- the tuples so far are the same

@@ -1,5 +1,5 @@
 use Rattle.{
-  meaning.proofs.Common.{arith, ◌∙◌, sym, get_or_from_slice_get},
+  meaning_align.proofs.cells.Common.{arith, ◌∙◌, sym, get_or_from_slice_get},
   row_keys.proofs.PartnerLaws.{firsts_counted, left_is, right_is, left_below, right_below, buckets_counted},
   label_align.proofs.TargetLaws.{repeated, found},
 }

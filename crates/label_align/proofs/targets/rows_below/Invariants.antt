@@ -1,5 +1,5 @@
 use Rattle.{
-  meaning.proofs.Common.{◌≡◌, map, take},
+  meaning_align.proofs.cells.Common.{◌≡◌, map, take},
   label_align.specs.Targets.{row_below},
 }
 use Rattle.label_align.proofs.targets.rows_below.Given as goal

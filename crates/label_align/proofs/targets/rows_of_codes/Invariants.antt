@@ -1,7 +1,4 @@
-use Rattle.{
-  meaning.proofs.Common.{◌≡◌, [], map, take, slice_index_or},
-  pick_meaning.specs.Rows.{only_row},
-}
+use Rattle.meaning_align.{proofs.cells.Common.{◌≡◌, [], map, take, slice_index_or}, specs.pick.Rows.{only_row}}
 use Rattle.label_align.proofs.targets.rows_of_codes.Given as goal
 
 -- the rows so far

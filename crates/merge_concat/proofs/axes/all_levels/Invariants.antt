@@ -1,5 +1,5 @@
 use Rattle.{
-  meaning.proofs.Common.{◌≡◌, ◌<◌, ◌-◌, drop, map},
+  column_core.proofs.cells.Common.{◌≡◌, ◌<◌, ◌-◌, drop, map},
   multi_index.specs.Axes.{nameless_axis},
   merge_concat.specs.Axes.{levels_of_first, tuples_in},
 }

@@ -1,5 +1,5 @@
 use Rattle.{
-  meaning.proofs.Common.{◌≡◌, ◌∙◌, ◌+◌, ◌<◌, suc, length, ap, arith, length-map},
+  column_core.proofs.cells.Common.{◌≡◌, ◌∙◌, ◌+◌, ◌<◌, suc, length, ap, arith, length-map},
   merge_concat.{specs.Axes.{tuples_of_each}, proofs.UnitedLaws.{keys_more, tuples_there}},
 }
 use Rattle.merge_concat.proofs.axes.keys_by_row.Goals as goal

@@ -1,5 +1,5 @@
 use Rattle.{
-  meaning.proofs.Common.{◌≡◌, take},
+  column_core.proofs.cells.Common.{◌≡◌, take},
   merge_concat.specs.Axes.{tuples_of_each, keys_below},
 }
 use Rattle.merge_concat.proofs.axes.keys_by_row.Given as goal

@@ -1,5 +1,5 @@
 use Rattle.{
-  meaning.proofs.Common.{◌≡◌, take, map},
+  column_core.proofs.cells.Common.{◌≡◌, take, map},
   row_keys.specs.Keys.{label_in},
   merge_concat.specs.Axes.{tuples_in},
 }

@@ -1,5 +1,5 @@
 use Rattle.{
-  meaning.proofs.Common.{◌∙◌, length, ap},
+  column_core.proofs.cells.Common.{◌∙◌, length, ap},
   merge_concat.proofs.UnitedLaws.{levels_more},
 }
 use Rattle.merge_concat.proofs.axes.levels_of.Goals as goal

@@ -1,5 +1,5 @@
 use Rattle.{
-  meaning.proofs.Common.{◌≡◌, ◌≤◌, take},
+  column_core.proofs.cells.Common.{◌≡◌, ◌≤◌, take},
   multi_index.specs.Axes.{HaveLevels},
   merge_concat.specs.Axes.{levels_of_first, tuples_in},
 }

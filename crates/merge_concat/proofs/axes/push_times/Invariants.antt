@@ -1,4 +1,4 @@
-use Rattle.meaning.proofs.Common.{◌≡◌, ◌++◌, replicate}
+use Rattle.column_core.proofs.cells.Common.{◌≡◌, ◌++◌, replicate}
 use Rattle.merge_concat.proofs.axes.push_times.Given as goal
 
 -- so many so far

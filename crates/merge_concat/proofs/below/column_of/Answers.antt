@@ -1,5 +1,5 @@
 use Rattle.{
-  meaning.proofs.Common.{arith, length-flat_map},
+  column_core.proofs.cells.Common.{arith, length-flat_map},
   std.proofs.lemmas.List.Folds.{length-flat_map-take},
   merge_concat.{specs.Parts.{part_cells}, proofs.BelowLaws.{rows_counted}},
 }

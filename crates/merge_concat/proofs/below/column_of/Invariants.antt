@@ -1,5 +1,5 @@
 use Rattle.{
-  meaning.proofs.Common.{◌≡◌, take},
+  column_core.proofs.cells.Common.{◌≡◌, take},
   merge_concat.specs.{Growing.{cells_of_rows}, Parts.{cells_below}},
 }
 use Rattle.merge_concat.proofs.below.column_of.Given as goal

@@ -1,5 +1,5 @@
 use Rattle.{
-  meaning.proofs.Common.{◌∙◌, sym, arith},
+  column_core.proofs.cells.Common.{◌∙◌, sym, arith},
   merge_concat.proofs.BelowLaws.{is_mixed, is_too_large, is_made},
 }
 use Rattle.merge_concat.proofs.below.concat_parts.Goals as goal

@@ -1,6 +1,5 @@
 use Rattle.{
-  meaning.proofs.Common.{◌∙◌, sym, ap, map, map-map, Int64},
-  column_core.specs.Columns.{column_value},
+  column_core.{proofs.cells.Common.{◌∙◌, sym, ap, map, map-map, Int64}, specs.Columns.{column_value}},
   merge_concat.specs.Parts.{part_column},
 }
 use Rattle.merge_concat.proofs.below.concat_rows.Goals as goal

@@ -1,5 +1,5 @@
 use Rattle.{
-  meaning.proofs.Common.{◌≡◌, ◌≤◌, take},
+  column_core.proofs.cells.Common.{◌≡◌, ◌≤◌, take},
   merge_concat.specs.Parts.{count_below},
 }
 use Rattle.merge_concat.proofs.below.count_of.Given as goal

@@ -1,6 +1,6 @@
 use Rattle.{
-  meaning.proofs.Common.{◌≡◌, true, arith, ◌-◌, length, take, drop, sym, take_all, list_all},
-  join_meaning.specs.Concat.{same_kind},
+  column_core.proofs.cells.Common.{◌≡◌, true, arith, ◌-◌, length, take, drop, sym, take_all, list_all},
+  meaning_join.specs.Concat.{same_kind},
   merge_concat.{specs.Parts.{part_kind}, proofs.BelowLaws.{kind_told}},
 }
 use Rattle.merge_concat.proofs.below.kind_of.Goals as goal

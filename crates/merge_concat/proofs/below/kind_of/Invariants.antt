@@ -1,6 +1,6 @@
 use Rattle.{
-  meaning.proofs.Common.{◌≡◌, take, true, list_all},
-  join_meaning.specs.Concat.{same_kind},
+  column_core.proofs.cells.Common.{◌≡◌, take, true, list_all},
+  meaning_join.specs.Concat.{same_kind},
   merge_concat.specs.Parts.{part_kind},
 }
 use Rattle.merge_concat.proofs.below.kind_of.Given as goal

@@ -1,5 +1,5 @@
 use Rattle.{
-  meaning.proofs.Common.{◌≡◌, take, map, Int64},
+  column_core.proofs.cells.Common.{◌≡◌, take, map, Int64},
   merge_concat.specs.Parts.{part_column},
 }
 use Rattle.merge_concat.proofs.below.parts_of.Given as goal

@@ -1,6 +1,6 @@
 use Rattle.{
-  meaning.proofs.Common.{◌≡◌, take, None},
-  join_meaning.specs.Concat.{repeated_on_any},
+  column_core.proofs.cells.Common.{◌≡◌, take, None},
+  meaning_join.specs.Concat.{repeated_on_any},
   row_keys.specs.Keys.{same_tuple},
   merge_concat.specs.Axes.{tuples_of_each},
 }

@@ -1,5 +1,5 @@
 use Rattle.{
-  meaning.proofs.Common.{arith, ◌-◌, length, take, drop, sym, true, take_all, list_all_at, list_all_more},
+  column_core.proofs.cells.Common.{arith, ◌-◌, length, take, drop, sym, true, take_all, list_all_at, list_all_more},
   merge_concat.proofs.BelowLaws.{has_labels_of, labels_told, equal_told},
 }
 use Rattle.merge_concat.proofs.beside.have_same_labels.Goals as goal

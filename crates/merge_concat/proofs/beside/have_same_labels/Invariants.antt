@@ -1,5 +1,5 @@
 use Rattle.{
-  meaning.proofs.Common.{◌≡◌, take, true, list_all},
+  column_core.proofs.cells.Common.{◌≡◌, take, true, list_all},
   merge_concat.proofs.BelowLaws.{has_labels_of},
 }
 use Rattle.merge_concat.proofs.beside.have_same_labels.Given as goal

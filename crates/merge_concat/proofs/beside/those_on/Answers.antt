@@ -1,5 +1,5 @@
 use Rattle.{
-  meaning.proofs.Common.{◌∙◌, ◌<◌, length, arith},
+  column_core.proofs.cells.Common.{◌∙◌, ◌<◌, length, arith},
   merge_concat.proofs.{UnitedLaws.{one_kept, none_kept}, beside.those_on.Goals.{then-not-is_empty+in_ok-push, else-not-is_empty}},
 }
 use Rattle.merge_concat.proofs.beside.those_on.Goals as goal

@@ -1,5 +1,5 @@
 use Rattle.{
-  meaning.proofs.Common.{◌≡◌, take, list_any},
+  column_core.proofs.cells.Common.{◌≡◌, take, list_any},
   std.specs.List.{filter},
   row_keys.specs.Keys.{same_tuple},
 }

@@ -1,5 +1,5 @@
 use Rattle.{
-  meaning.proofs.Common.{◌+◌, ◌≡◌, ◌∙◌, List, [], length, take, sym, arith, length-map, list_all_more, All-filter, list_any, list_all, Label},
+  column_core.proofs.cells.Common.{◌+◌, ◌≡◌, ◌∙◌, List, [], length, take, sym, arith, length-map, list_all_more, All-filter, list_any, list_all, Label},
   row_keys.specs.Keys.{same_tuple},
   merge_concat.{specs.Axes.{tuples_of_each}, proofs.UnitedLaws.{tuples_there, both_pass}},
   factorize.proofs.NumberLaws.{filter_all},

@@ -1,5 +1,5 @@
 use Rattle.{
-  meaning.proofs.Common.{◌≡◌, take, list_any, list_all},
+  column_core.proofs.cells.Common.{◌≡◌, take, list_any, list_all},
   std.specs.List.{filter},
   multi_index.specs.Axes.{HaveLevels},
   row_keys.specs.Keys.{same_tuple},

@@ -1,4 +1,4 @@
-use Rattle.meaning.proofs.Common.{arith, [], take_more, get_or_from_slice_get}
+use Rattle.column_core.proofs.cells.Common.{arith, [], take_more, get_or_from_slice_get}
 use Rattle.merge_concat.proofs.beside.tuples_of.Goals as goal
 
 pub loop-row-preserved : goal.loop-row-preserved

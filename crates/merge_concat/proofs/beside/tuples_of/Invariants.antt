@@ -1,4 +1,4 @@
-use Rattle.meaning.proofs.Common.{◌≡◌, take}
+use Rattle.column_core.proofs.cells.Common.{◌≡◌, take}
 use Rattle.merge_concat.proofs.beside.tuples_of.Given as goal
 
 -- the tuples so far

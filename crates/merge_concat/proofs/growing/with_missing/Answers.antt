@@ -1,5 +1,5 @@
 use Rattle.{
-  meaning.proofs.Common.{arith},
+  column_core.proofs.cells.Common.{arith},
   merge_concat.proofs.BelowLaws.{cells_append, cells_missing, resized},
 }
 use Rattle.merge_concat.proofs.growing.with_missing.Goals as goal

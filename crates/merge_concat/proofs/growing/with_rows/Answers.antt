@@ -1,5 +1,5 @@
 use Rattle.{
-  meaning.proofs.Common.{arith},
+  column_core.proofs.cells.Common.{arith},
   merge_concat.{specs.Growing.{cells_of_rows}, proofs.BelowLaws.{one_row_more}},
 }
 use Rattle.merge_concat.proofs.growing.with_rows.Goals as goal

@@ -1,6 +1,5 @@
 use Rattle.{
-  meaning.proofs.Common.{◌≡◌, ◌++◌, tabulate},
-  column_core.specs.Lanes.{lane_row},
+  column_core.{proofs.cells.Common.{◌≡◌, ◌++◌, tabulate}, specs.Lanes.{lane_row}},
   merge_concat.specs.Growing.{cells_of_rows},
 }
 use Rattle.merge_concat.proofs.growing.with_rows.Given as goal

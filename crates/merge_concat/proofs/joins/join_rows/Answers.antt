@@ -1,5 +1,5 @@
 use Rattle.{
-  meaning.proofs.Common.{arith},
+  column_core.proofs.cells.Common.{arith},
   merge_concat.proofs.JoinLaws.{left_below, right_below, allowed, law_of},
 }
 use Rattle.merge_concat.proofs.joins.join_rows.Goals as goal

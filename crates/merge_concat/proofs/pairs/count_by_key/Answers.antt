@@ -1,5 +1,5 @@
 use Rattle.{
-  meaning.proofs.Common.{arith, cases_lt},
+  column_core.proofs.cells.Common.{arith, cases_lt},
   merge_concat.proofs.JoinLaws.{counted_within},
 }
 use Rattle.merge_concat.proofs.pairs.count_by_key.Goals as goal

@@ -1,5 +1,5 @@
 use Rattle.{
-  meaning.proofs.Common.{◌≡◌, ◌≤◌},
+  column_core.proofs.cells.Common.{◌≡◌, ◌≤◌},
   merge_concat.specs.Codes.{counted_by_key},
 }
 use Rattle.merge_concat.proofs.pairs.count_by_key.Given as goal

@@ -1,5 +1,5 @@
 use Rattle.{
-  meaning.proofs.Common.{◌≡◌, ◌≤◌, take},
+  column_core.proofs.cells.Common.{◌≡◌, ◌≤◌, take},
   merge_concat.specs.Codes.{counted_by_row},
 }
 use Rattle.merge_concat.proofs.pairs.count_by_row.Given as goal

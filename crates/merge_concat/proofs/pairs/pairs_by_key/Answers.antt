@@ -1,5 +1,5 @@
 use Rattle.{
-  meaning.proofs.Common.{arith},
+  column_core.proofs.cells.Common.{arith},
   merge_concat.proofs.JoinLaws.{outer_more, pairs_more},
 }
 use Rattle.merge_concat.proofs.pairs.pairs_by_key.Goals as goal

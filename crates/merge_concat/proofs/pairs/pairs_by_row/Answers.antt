@@ -1,5 +1,5 @@
 use Rattle.{
-  meaning.proofs.Common.{nat_eq, arith},
+  column_core.proofs.cells.Common.{nat_eq, arith},
   merge_concat.proofs.JoinLaws.{from_more, pairs_more},
 }
 use Rattle.merge_concat.proofs.pairs.pairs_by_row.Goals as goal

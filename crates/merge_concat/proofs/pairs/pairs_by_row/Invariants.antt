@@ -1,6 +1,6 @@
 use Rattle.{
-  meaning.proofs.Common.{take, nat_eq},
-  join_meaning.specs.Pairs.{pairs_from},
+  column_core.proofs.cells.Common.{take, nat_eq},
+  meaning_join.specs.Pairs.{pairs_from},
   merge_concat.specs.Pairs.{AreListed},
 }
 use Rattle.merge_concat.proofs.pairs.pairs_by_row.Given as goal

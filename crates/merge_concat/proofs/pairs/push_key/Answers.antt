@@ -1,5 +1,5 @@
 use Rattle.{
-  meaning.proofs.Common.{arith, ◌<◌, length, subst, take_all},
+  column_core.proofs.cells.Common.{arith, ◌<◌, length, subst, take_all},
   merge_concat.{specs.Pairs.{HasMore}, proofs.JoinLaws.{of_some}},
 }
 use Rattle.merge_concat.proofs.pairs.push_key.Goals as goal

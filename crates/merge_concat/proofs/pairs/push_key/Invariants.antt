@@ -1,5 +1,5 @@
 use Rattle.{
-  meaning.proofs.Common.{Some, take, flat_map},
+  column_core.proofs.cells.Common.{Some, take, flat_map},
   merge_concat.specs.{Codes.{pairs_with}, Pairs.{HasMore}},
 }
 use Rattle.merge_concat.proofs.pairs.push_key.Given as goal

@@ -1,6 +1,6 @@
 use Rattle.{
-  meaning.proofs.Common.{map, Some, take},
-  join_meaning.specs.Pairs.{pair},
+  column_core.proofs.cells.Common.{map, Some, take},
+  meaning_join.specs.Pairs.{pair},
   merge_concat.specs.Pairs.{HasMore},
 }
 use Rattle.merge_concat.proofs.pairs.push_left.Given as goal

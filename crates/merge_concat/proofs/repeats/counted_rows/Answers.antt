@@ -1,5 +1,5 @@
 use Rattle.{
-  meaning.proofs.Common.{arith, get_or_read},
+  column_core.proofs.cells.Common.{arith, get_or_read},
   merge_concat.proofs.JoinLaws.{counts_more},
 }
 use Rattle.merge_concat.proofs.repeats.counted_rows.Goals as goal

@@ -1,5 +1,5 @@
 use Rattle.{
-  meaning.proofs.Common.{take},
+  column_core.proofs.cells.Common.{take},
   merge_concat.specs.Codes.{AreCounts},
 }
 use Rattle.merge_concat.proofs.repeats.counted_rows.Given as goal

@@ -1,5 +1,5 @@
 use Rattle.{
-  meaning.proofs.Common.{◌≡◌, drop},
+  column_core.proofs.cells.Common.{◌≡◌, drop},
   merge_concat.specs.Codes.{repeated_from},
 }
 use Rattle.merge_concat.proofs.repeats.first_repeat.Given as goal

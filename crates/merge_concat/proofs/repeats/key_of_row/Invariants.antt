@@ -1,4 +1,4 @@
-use Rattle.meaning.proofs.Common.{◌≡◌, [], length, take, slice_index_or}
+use Rattle.column_core.proofs.cells.Common.{◌≡◌, [], length, take, slice_index_or}
 use Rattle.merge_concat.proofs.repeats.key_of_row.Given as goal
 
 -- there is room for four labels, and the first ones are those of the key

@@ -1,4 +1,4 @@
-use Rattle.meaning.proofs.Common.{◌≡◌, take}
+use Rattle.index_core.proofs.cells.Common.{◌≡◌, take}
 use Rattle.multi_index.proofs.axis.copy_of.Given as goal
 
 abbrev pub invariant-loop-tuple : goal.invariant-loop-tuple

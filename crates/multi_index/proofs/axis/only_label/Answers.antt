@@ -1,5 +1,5 @@
 use Rattle.{
-  meaning.proofs.Common.{arith},
+  index_core.proofs.cells.Common.{arith},
   multi_index.proofs.TupleLaws.{only_label_is},
 }
 use Rattle.multi_index.proofs.axis.only_label.Goals as goal

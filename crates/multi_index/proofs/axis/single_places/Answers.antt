@@ -1,5 +1,5 @@
 use Rattle.{
-  meaning.proofs.Common.{arith, refl},
+  index_core.proofs.cells.Common.{arith, refl},
   multi_index.{specs.Picks.{as_it_is}, proofs.PickLaws.{rows_seen, fault_lifted}},
 }
 use Rattle.multi_index.proofs.axis.single_places.Goals as goal

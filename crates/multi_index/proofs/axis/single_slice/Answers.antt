@@ -1,6 +1,5 @@
 use Rattle.{
-  meaning.proofs.Common.{arith, refl},
-  pick_meaning.specs.Rows.{rows_of},
+  index_core.{proofs.cells.Common.{arith, refl}, specs.pick.Rows.{rows_of}},
   multi_index.proofs.PickLaws.{slice_seen, fault_lifted},
 }
 use Rattle.multi_index.proofs.axis.single_slice.Goals as goal

@@ -1,4 +1,4 @@
-use Rattle.meaning.proofs.Common.{map_more, get_or_from_slice_get, [], slice_index_or, arith}
+use Rattle.index_core.proofs.cells.Common.{map_more, get_or_from_slice_get, [], slice_index_or, arith}
 use Rattle.multi_index.proofs.axis.taken.Goals as goal
 
 pub loop-place-preserved : goal.loop-place-preserved

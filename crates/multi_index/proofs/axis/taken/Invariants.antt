@@ -1,5 +1,5 @@
 use Rattle.{
-  meaning.proofs.Common.{◌≡◌, take},
+  index_core.proofs.cells.Common.{◌≡◌, take},
   multi_index.specs.Axes.{tuples_at},
 }
 use Rattle.multi_index.proofs.axis.taken.Given as goal

@@ -1,4 +1,4 @@
-use Rattle.meaning.proofs.Common.{◌≡◌, range_with_len}
+use Rattle.index_core.proofs.cells.Common.{◌≡◌, range_with_len}
 use Rattle.multi_index.proofs.levels.all_levels.Given as goal
 
 abbrev pub invariant-loop-level : goal.invariant-loop-level

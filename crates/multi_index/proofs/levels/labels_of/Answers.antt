@@ -1,5 +1,5 @@
 use Rattle.{
-  meaning.proofs.Common.{◌<◌, ◌∷◌, [], length, arith, map-append},
+  index_core.proofs.cells.Common.{◌<◌, ◌∷◌, [], length, arith, map-append},
   multi_index.proofs.SideLaws.{one_row_more, every_row, label_there},
 }
 use Rattle.multi_index.proofs.levels.labels_of.Goals as goal

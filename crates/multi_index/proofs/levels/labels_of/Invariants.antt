@@ -1,6 +1,5 @@
 use Rattle.{
-  meaning.proofs.Common.{◌≡◌, ◌∷◌, [], map, take},
-  index_core.specs.Labels.{labels_at},
+  index_core.{proofs.cells.Common.{◌≡◌, ◌∷◌, [], map, take}, specs.Labels.{labels_at}},
   multi_index.specs.Axes.{single_tuples},
 }
 use Rattle.multi_index.proofs.levels.labels_of.Given as goal

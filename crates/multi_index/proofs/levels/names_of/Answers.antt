@@ -1,5 +1,5 @@
 use Rattle.{
-  meaning.proofs.Common.{◌<◌, length, sym, arith, length-set, get_or_from_slice_get},
+  index_core.proofs.cells.Common.{◌<◌, length, sym, arith, length-set, get_or_from_slice_get},
   multi_index.proofs.LevelLaws.{one_read_more},
 }
 use Rattle.multi_index.proofs.levels.names_of.Goals as goal

@@ -1,4 +1,4 @@
-use Rattle.meaning.proofs.Common.{◌≡◌, None, length, map, take, slice_index_or}
+use Rattle.index_core.proofs.cells.Common.{◌≡◌, None, length, map, take, slice_index_or}
 use Rattle.multi_index.proofs.levels.names_of.Given as goal
 
 -- there is room for four names, and the first ones are those of the levels so far

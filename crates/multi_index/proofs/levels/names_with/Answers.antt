@@ -1,5 +1,5 @@
 use Rattle.{
-  meaning.proofs.Common.{take_all, length-replicate, length-take-le, get_or_from_slice_get, ◌≡◌, ◌<◌, ◌≤◌, ◌+◌, length, sym, arith},
+  index_core.proofs.cells.Common.{take_all, length-replicate, length-take-le, get_or_from_slice_get, ◌≡◌, ◌<◌, ◌≤◌, ◌+◌, length, sym, arith},
   std.proofs.lemmas.List.{length-append},
   multi_index.{proofs.AddedLaws.{all_written, next_written}, specs.Axes.{first_of}},
 }

@@ -1,5 +1,5 @@
 use Rattle.{
-  meaning.proofs.Common.{◌≡◌, None, take},
+  index_core.proofs.cells.Common.{◌≡◌, None, take},
   multi_index.proofs.AddedLaws.{four_with},
 }
 use Rattle.multi_index.proofs.levels.names_with.Given as goal

@@ -1,5 +1,5 @@
 use Rattle.{
-  meaning.proofs.Common.{◌<◌, length, arith, take_all, length-set},
+  index_core.proofs.cells.Common.{◌<◌, length, arith, take_all, length-set},
   multi_index.proofs.{LevelLaws.{one_read_more}, SideLaws.{label_there}},
 }
 use Rattle.multi_index.proofs.levels.tuple_of.Goals as goal

@@ -1,5 +1,5 @@
 use Rattle.{
-  meaning.proofs.Common.{◌≡◌, [], length, map, take, slice_index_or},
+  index_core.proofs.cells.Common.{◌≡◌, [], length, map, take, slice_index_or},
   cell_core.specs.declared.cell.Label.TheVariants.{Na},
 }
 use Rattle.multi_index.proofs.levels.tuple_of.Given as goal

@@ -1,5 +1,5 @@
 use Rattle.{
-  meaning.proofs.Common.{take_all, get_or_default, ◌≡◌, ◌<◌, ◌≤◌, ◌+◌, [], length, slice_index_or, arith},
+  index_core.proofs.cells.Common.{take_all, get_or_default, ◌≡◌, ◌<◌, ◌≤◌, ◌+◌, [], length, slice_index_or, arith},
   multi_index.{proofs.{AddedLaws.{all_written, next_written}, SideLaws.{label_there}}, specs.Axes.{first_of}},
 }
 use Rattle.multi_index.proofs.levels.tuple_with.Goals as goal

@@ -1,5 +1,5 @@
 use Rattle.{
-  meaning.proofs.Common.{◌≡◌, [], take, slice_index_or},
+  index_core.proofs.cells.Common.{◌≡◌, [], take, slice_index_or},
   multi_index.proofs.AddedLaws.{four_with},
 }
 use Rattle.multi_index.proofs.levels.tuple_with.Given as goal

@@ -1,5 +1,5 @@
 use Rattle.{
-  meaning.proofs.Common.{[], arith},
+  index_core.proofs.cells.Common.{[], arith},
   multi_index.proofs.SideLaws.{one_row_more, every_row},
 }
 use Rattle.multi_index.proofs.levels.tuples_of.Goals as goal

@@ -1,7 +1,4 @@
-use Rattle.{
-  meaning.proofs.Common.{◌≡◌, map, take},
-  index_core.specs.Labels.{labels_at},
-}
+use Rattle.index_core.{proofs.cells.Common.{◌≡◌, map, take}, specs.Labels.{labels_at}}
 use Rattle.multi_index.proofs.levels.tuples_of.Given as goal
 
 -- the tuples so far

@@ -1,5 +1,5 @@
 use Rattle.{
-  meaning.proofs.Common.{arith},
+  index_core.proofs.cells.Common.{arith},
   multi_index.proofs.AddedLaws.{added_next},
 }
 use Rattle.multi_index.proofs.levels.tuples_with.Goals as goal

@@ -1,5 +1,5 @@
 use Rattle.{
-  meaning.proofs.Common.{◌≡◌, take},
+  index_core.proofs.cells.Common.{◌≡◌, take},
   multi_index.specs.Axes.{tuples_with},
 }
 use Rattle.multi_index.proofs.levels.tuples_with.Given as goal

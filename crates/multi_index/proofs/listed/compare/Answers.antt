@@ -1,7 +1,6 @@
 use Rattle.{
-  meaning.proofs.Common.{arith},
+  index_core.{proofs.cells.Common.{arith}, specs.Labels.{order_in}},
   cell_core.specs.declared.cell.Label.TheVariants.{Na},
-  index_core.specs.Labels.{order_in},
   multi_index.proofs.ListedLaws.{stands_step, stands_short, stays},
 }
 use Rattle.multi_index.proofs.listed.compare.Goals as goal

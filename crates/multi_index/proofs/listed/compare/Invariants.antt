@@ -1,8 +1,4 @@
-use Rattle.{
-  meaning.proofs.Common.{◌≡◌, drop},
-  pick_meaning.specs.Leading.{leading_cmp},
-  index_core.specs.Labels.{order_in},
-}
+use Rattle.index_core.{proofs.cells.Common.{◌≡◌, drop}, specs.{pick.Leading.{leading_cmp}, Labels.{order_in}}}
 use Rattle.multi_index.proofs.listed.compare.Given as goal
 
 -- the labels so far tie

@@ -1,5 +1,5 @@
 use Rattle.{
-  meaning.proofs.Common.{arith, below_more, get_or_from_slice_get},
+  index_core.proofs.cells.Common.{arith, below_more, get_or_from_slice_get},
   multi_index.proofs.ListedLaws.{begins_at},
 }
 use Rattle.multi_index.proofs.listed.first_reached.Goals as goal

@@ -1,8 +1,4 @@
-use Rattle.{
-  meaning.proofs.Common.{◌≡◌, ◌<◌, ℕ, List, true, slice_index_or, is_lt, Label},
-  pick_meaning.specs.Leading.{leading_cmp},
-  index_core.specs.Labels.{order_in},
-}
+use Rattle.index_core.{proofs.cells.Common.{◌≡◌, ◌<◌, ℕ, List, true, slice_index_or, is_lt, Label}, specs.{pick.Leading.{leading_cmp}, Labels.{order_in}}}
 use Rattle.multi_index.proofs.listed.first_reached.Given as goal
 
 -- the rows so far are below the bound

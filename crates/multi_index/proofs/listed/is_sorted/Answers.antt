@@ -1,8 +1,4 @@
-use Rattle.{
-  meaning.proofs.Common.{arith, ◌≡◌, ◌-◌, [], slice_index_or, get_or_from_slice_get, is_lt},
-  index_core.specs.Labels.{order_in},
-  pick_meaning.{specs.Leading.{leading_cmp}, proofs.OrderLaws.{order_goes_on, order_broken, order_kept}},
-}
+use Rattle.index_core.{proofs.{cells.Common.{arith, ◌≡◌, ◌-◌, [], slice_index_or, get_or_from_slice_get, is_lt}, pick.OrderLaws.{order_goes_on, order_broken, order_kept}}, specs.{Labels.{order_in}, pick.Leading.{leading_cmp}}}
 use Rattle.multi_index.proofs.listed.is_sorted.Goals as goal
 
 pub loop-row-preserved : goal.loop-row-preserved

@@ -1,8 +1,4 @@
-use Rattle.{
-  meaning.proofs.Common.{◌≡◌, ◌-◌, drop},
-  pick_meaning.specs.{Leading.{leading_cmp}, Slices.{is_in_order}},
-  index_core.specs.Labels.{order_in},
-}
+use Rattle.index_core.{proofs.cells.Common.{◌≡◌, ◌-◌, drop}, specs.{pick.{Leading.{leading_cmp}, Slices.{is_in_order}}, Labels.{order_in}}}
 use Rattle.multi_index.proofs.listed.is_sorted.Given as goal
 
 -- all are in order where those from the last row on are

@@ -1,6 +1,5 @@
 use Rattle.{
-  meaning.proofs.Common.{◌≡◌, true, false, arith, rules},
-  index_core.specs.Labels.{same_number},
+  index_core.{proofs.cells.Common.{◌≡◌, true, false, arith, rules}, specs.Labels.{same_number}},
   multi_index.proofs.ListedLaws.{leads_step},
 }
 use Rattle.multi_index.proofs.listed.leads.Goals as goal

@@ -1,8 +1,4 @@
-use Rattle.{
-  meaning.proofs.Common.{◌≡◌, drop},
-  pick_meaning.specs.Leading.{leads},
-  index_core.specs.Labels.{same_number},
-}
+use Rattle.index_core.{proofs.cells.Common.{◌≡◌, drop}, specs.{pick.Leading.{leads}, Labels.{same_number}}}
 use Rattle.multi_index.proofs.listed.leads.Given as goal
 
 -- they lead where those from a level on do

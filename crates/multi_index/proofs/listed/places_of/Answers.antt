@@ -1,7 +1,5 @@
 use Rattle.{
-  meaning.proofs.Common.{◌∙◌, [], ap, sym, arith, get_or_from_slice_get},
-  pick_meaning.{specs.Leading.{leads}, proofs.RowLaws.{rows_more_yes, rows_more_no}},
-  index_core.specs.Labels.{same_number},
+  index_core.{proofs.{cells.Common.{◌∙◌, [], ap, sym, arith, get_or_from_slice_get}, pick.RowLaws.{rows_more_yes, rows_more_no}}, specs.{pick.Leading.{leads}, Labels.{same_number}}},
   multi_index.proofs.listed.places_of.Goals.{then-leads+in_ok-push, else-leads},
 }
 use Rattle.multi_index.proofs.listed.places_of.Goals as goal

@@ -1,8 +1,4 @@
-use Rattle.{
-  meaning.proofs.Common.{◌≡◌, take},
-  pick_meaning.specs.{Leading.{leads}, Rows.{rows_where}},
-  index_core.specs.Labels.{same_number},
-}
+use Rattle.index_core.{proofs.cells.Common.{◌≡◌, take}, specs.{pick.{Leading.{leads}, Rows.{rows_where}}, Labels.{same_number}}}
 use Rattle.multi_index.proofs.listed.places_of.Given as goal
 
 -- the rows so far

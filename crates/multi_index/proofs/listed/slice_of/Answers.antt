@@ -1,5 +1,5 @@
 use Rattle.{
-  meaning.proofs.Common.{◌∙◌, sym},
+  index_core.proofs.cells.Common.{◌∙◌, sym},
   multi_index.proofs.ListedLaws.{slice_found},
 }
 use Rattle.multi_index.proofs.listed.slice_of.Goals as goal

@@ -1,6 +1,5 @@
 use Rattle.{
-  meaning.proofs.Common.{arith, Int64},
-  column_core.specs.{Lanes.{lane_row}, Columns.{number_cell}},
+  column_core.{proofs.cells.Common.{arith, Int64}, specs.{Lanes.{lane_row}, Columns.{number_cell}}},
   nullable_array.proofs.{ColumnAnswers.{numbers_given, text_cast, kept_cast, cast_answer, given_at}, CastLaws.{number_truth_cast}},
 }
 use Rattle.nullable_array.proofs.casts.cast_numbers.Goals as goal

@@ -1,7 +1,6 @@
 use Rattle.{
-  meaning.proofs.Common.{arith},
+  column_core.{proofs.cells.Common.{arith}, specs.{Lanes.{lane_row}, Columns.{text_cell}}},
   cell_core.specs.declared.cell.Kind.TheVariants.{Text as string},
-  column_core.specs.{Lanes.{lane_row}, Columns.{text_cell}},
   nullable_array.proofs.{ColumnAnswers.{kept_cast, cast_answer, given_at}, CastLaws.{text_number_cast, text_truth_cast}},
 }
 use Rattle.nullable_array.proofs.casts.cast_texts.Goals as goal

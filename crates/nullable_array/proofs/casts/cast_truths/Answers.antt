@@ -1,6 +1,5 @@
 use Rattle.{
-  meaning.proofs.Common.{arith, Boolean},
-  column_core.{specs.Columns.{truth_cell, truth_given}, proofs.ColumnLaws.{given-plain}},
+  column_core.{proofs.{cells.Common.{arith, Boolean}, ColumnLaws.{given-plain}}, specs.Columns.{truth_cell, truth_given}},
   nullable_array.proofs.ColumnAnswers.{text_cast, kept_cast, given_at},
 }
 use Rattle.nullable_array.proofs.casts.cast_truths.Goals as goal

@@ -1,6 +1,5 @@
 use Rattle.{
-  meaning.proofs.Common.{arith, refl, Ok, Int64, Boolean, number_of_truth},
-  column_core.{specs.Columns.{number_cell, truth_cell}, proofs.{CellRows.{made_column}, RowsMade.{rows_written}}},
+  column_core.{proofs.{cells.Common.{arith, refl, Ok, Int64, Boolean, number_of_truth}, CellRows.{made_column}, RowsMade.{rows_written}}, specs.Columns.{number_cell, truth_cell}},
   nullable_array.{specs.Casts.{total_cast}, proofs.ColumnAnswers.{numbers_given, cast_answer}},
 }
 use Rattle.nullable_array.proofs.casts.numbers_of_side.Goals as goal

@@ -1,6 +1,5 @@
 use Rattle.{
-  meaning.proofs.Common.{arith, refl, Boolean, number_of_truth},
-  column_core.{proofs.CellRows.{range-same}, specs.{Lanes.{lane_row}, Columns.{truth_cell}}},
+  column_core.{proofs.{cells.Common.{arith, refl, Boolean, number_of_truth}, CellRows.{range-same}}, specs.{Lanes.{lane_row}, Columns.{truth_cell}}},
   nullable_array.{specs.Casts.{total_cast}, proofs.ColumnAnswers.{cast_answer}},
 }
 use Rattle.nullable_array.proofs.casts.numbers_of_truths.Goals as goal

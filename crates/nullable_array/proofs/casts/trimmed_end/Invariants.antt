@@ -1,4 +1,4 @@
-use Rattle.meaning.proofs.Common.{◌≡◌, length, reverse, after_spaces}
+use Rattle.column_core.proofs.cells.Common.{◌≡◌, length, reverse, after_spaces}
 use Rattle.nullable_array.proofs.casts.trimmed_end.Given as goal
 
 -- only spaces were left out

@@ -1,4 +1,4 @@
-use Rattle.meaning.proofs.Common.{◌≡◌, length, after_spaces}
+use Rattle.column_core.proofs.cells.Common.{◌≡◌, length, after_spaces}
 use Rattle.nullable_array.proofs.casts.trimmed_start.Given as goal
 
 -- only spaces were left out

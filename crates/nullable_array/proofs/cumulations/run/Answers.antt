@@ -1,7 +1,6 @@
 use Rattle.{
-  meaning.proofs.Common.{refl},
+  column_core.proofs.{cells.Common.{refl}, CellRows.{total_made}, RowsMade.{rows_written}},
   nullable_array.specs.Folds.{running_row},
-  column_core.proofs.{CellRows.{total_made}, RowsMade.{rows_written}},
 }
 use Rattle.nullable_array.proofs.cumulations.run.Goals as goal
 

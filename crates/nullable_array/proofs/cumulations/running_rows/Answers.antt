@@ -1,5 +1,5 @@
 use Rattle.{
-  meaning.proofs.Common.{◌≡◌, ◌+◌, ap, arith, Some, None, is_some},
+  column_core.proofs.cells.Common.{◌≡◌, ◌+◌, ap, arith, Some, None, is_some},
   nullable_array.{specs.Folds.{folded, running_row}, proofs.{FoldLaws.{folded_more}, PairRows.{row_pushed}}},
 }
 use Rattle.nullable_array.proofs.cumulations.running_rows.Goals as goal

@@ -1,7 +1,6 @@
 use Rattle.{
-  meaning.proofs.Common.{◌≡◌, ◌≤◌, length, Some, None, vec_len, vec_capacity},
+  column_core.{proofs.cells.Common.{◌≡◌, ◌≤◌, length, Some, None, vec_len, vec_capacity}, specs.Rows.{AreWritten}},
   nullable_array.specs.Folds.{folded, running_row},
-  column_core.specs.Rows.{AreWritten},
 }
 use Rattle.nullable_array.proofs.cumulations.running_rows.Given as goal
 

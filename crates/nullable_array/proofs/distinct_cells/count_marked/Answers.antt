@@ -1,6 +1,6 @@
 use mir.Val.{bool_byte}
 use Rattle.{
-  meaning.proofs.Common.{int_eq_equiv, ◌≡◌, ◌∙◌, Bool, cond, arith},
+  column_core.proofs.cells.Common.{int_eq_equiv, ◌≡◌, ◌∙◌, Bool, cond, arith},
   nullable_array.proofs.{DistinctLaws.{each_value_once}, PlaceLaws.{marked_step, one_at_most}},
 }
 use Rattle.nullable_array.proofs.distinct_cells.count_marked.Goals as goal

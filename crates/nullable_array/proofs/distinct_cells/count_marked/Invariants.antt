@@ -1,5 +1,5 @@
 use Rattle.{
-  meaning.proofs.Common.{◌≡◌, ◌≤◌, [], length, int_eq},
+  column_core.proofs.cells.Common.{◌≡◌, ◌≤◌, [], length, int_eq},
   indexmap.specs.IndexSet.{insert_key},
   nullable_array.specs.{Distincts.{AreMarked}, Folds.{folded}},
 }

@@ -1,6 +1,5 @@
 use Rattle.{
-  meaning.proofs.Common.{ap, sym, ◌∙◌},
-  column_core.specs.Views.{borrowed_column},
+  column_core.{proofs.cells.Common.{ap, sym, ◌∙◌}, specs.Views.{borrowed_column}},
   nullable_array.proofs.{DistinctLaws.{if_ok_same, numbers_distinct, texts_distinct}, TruthLaws.{truths_distinct}},
 }
 use Rattle.nullable_array.proofs.distinct_cells.distinct.Goals as goal

@@ -1,5 +1,5 @@
 use Rattle.{
-  meaning.proofs.Common.{arith},
+  column_core.proofs.cells.Common.{arith},
   nullable_array.proofs.DistinctLaws.{each_value_once},
 }
 use Rattle.nullable_array.proofs.distinct_cells.distinct_values.Goals as goal

@@ -1,5 +1,5 @@
 use Rattle.{
-  meaning.proofs.Common.{◌≡◌, []},
+  column_core.proofs.cells.Common.{◌≡◌, []},
   indexmap.specs.IndexSet.{insert_key},
   nullable_array.specs.Folds.{folded},
 }

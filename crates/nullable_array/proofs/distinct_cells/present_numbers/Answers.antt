@@ -1,5 +1,5 @@
 use Rattle.{
-  meaning.proofs.Common.{arith},
+  column_core.proofs.cells.Common.{arith},
   nullable_array.proofs.OrderedLaws.{values_kept},
 }
 use Rattle.nullable_array.proofs.distinct_cells.present_numbers.Goals as goal

@@ -1,5 +1,5 @@
 use Rattle.{
-  meaning.proofs.Common.{◌≡◌, []},
+  column_core.proofs.cells.Common.{◌≡◌, []},
   nullable_array.specs.{Distincts.{then_value}, Folds.{folded}},
 }
 use Rattle.nullable_array.proofs.distinct_cells.present_numbers.Given as goal

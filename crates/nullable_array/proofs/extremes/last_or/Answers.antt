@@ -1,5 +1,5 @@
 use Rattle.{
-  meaning.proofs.Common.{of_z, to_z, arith, rules, FitsSigned, unwrap_or},
+  column_core.proofs.cells.Common.{of_z, to_z, arith, rules, FitsSigned, unwrap_or},
   std.{proofs.Math.Facts.{to_z-of_z}, specs.Int.{w64}},
   nullable_array.proofs.ExtremeLaws.{last_more},
 }

@@ -1,5 +1,5 @@
 use Rattle.{
-  meaning.proofs.Common.{◌≡◌, None, unwrap_or},
+  column_core.proofs.cells.Common.{◌≡◌, None, unwrap_or},
   nullable_array.specs.Folds.{folded, greatest_step},
 }
 use Rattle.nullable_array.proofs.extremes.last_or.Given as goal

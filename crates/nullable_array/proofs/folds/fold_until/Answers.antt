@@ -1,5 +1,5 @@
 use Rattle.{
-  meaning.proofs.Common.{◌≡◌, ◌+◌, ◌-◌, arith},
+  column_core.proofs.cells.Common.{◌≡◌, ◌+◌, ◌-◌, arith},
   nullable_array.proofs.FoldLaws.{folded_more, folded_stays, changed},
 }
 use Rattle.nullable_array.proofs.folds.fold_until.Goals as goal

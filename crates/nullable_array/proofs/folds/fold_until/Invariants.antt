@@ -1,5 +1,5 @@
 use Rattle.{
-  meaning.proofs.Common.{◌≡◌},
+  column_core.proofs.cells.Common.{◌≡◌},
   nullable_array.specs.Folds.{folded},
 }
 use Rattle.nullable_array.proofs.folds.fold_until.Given as goal

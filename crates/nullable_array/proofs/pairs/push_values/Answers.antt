@@ -1,5 +1,5 @@
 use Rattle.{
-  meaning.proofs.Common.{arith},
+  column_core.proofs.cells.Common.{arith},
   nullable_array.proofs.PairRows.{value_pushed},
 }
 use Rattle.nullable_array.proofs.pairs.push_values.Goals as goal

@@ -1,5 +1,5 @@
 use Rattle.{
-  meaning.proofs.Common.{◌≡◌, ◌≤◌, length, vec_len, vec_capacity},
+  column_core.proofs.cells.Common.{◌≡◌, ◌≤◌, length, vec_len, vec_capacity},
   nullable_array.specs.Pairs.{AreFlagged},
 }
 use Rattle.nullable_array.proofs.pairs.row_flags.Given as goal

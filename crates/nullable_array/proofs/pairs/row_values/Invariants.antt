@@ -1,5 +1,5 @@
 use Rattle.{
-  meaning.proofs.Common.{◌*◌},
+  column_core.proofs.cells.Common.{◌*◌},
   nullable_array.specs.Pairs.{AreFilled},
 }
 use Rattle.nullable_array.proofs.pairs.row_values.Given as goal

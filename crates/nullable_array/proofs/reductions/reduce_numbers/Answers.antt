@@ -1,7 +1,4 @@
-use Rattle.{
-  meaning.proofs.Common.{arith},
-  column_core.proofs.CellRows.{range-same},
-}
+use Rattle.column_core.proofs.{cells.Common.{arith}, CellRows.{range-same}}
 use Rattle.nullable_array.proofs.reductions.reduce_numbers.Goals as goal
 
 pub returns-in-Some-clause-value : goal.returns-in-Some-clause-value

@@ -1,5 +1,5 @@
 use Rattle.{
-  meaning.proofs.Common.{arith, refl},
+  column_core.proofs.cells.Common.{arith, refl},
   std.proofs.Math.Facts.{to_z-of_z},
   nullable_array.proofs.FoldLaws.{texts_reduced, rows_keep},
 }

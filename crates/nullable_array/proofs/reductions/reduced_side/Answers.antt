@@ -1,5 +1,5 @@
 use Rattle.{
-  meaning.proofs.Common.{arith},
+  column_core.proofs.cells.Common.{arith},
   nullable_array.proofs.FoldLaws.{numbers_reduced},
 }
 use Rattle.nullable_array.proofs.reductions.reduced_side.Goals as goal

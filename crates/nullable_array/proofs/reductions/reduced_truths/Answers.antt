@@ -1,5 +1,5 @@
 use Rattle.{
-  meaning.proofs.Common.{arith},
+  column_core.proofs.cells.Common.{arith},
   std.proofs.Math.Facts.{to_z-of_z},
   nullable_array.proofs.FoldLaws.{truths_reduced},
 }

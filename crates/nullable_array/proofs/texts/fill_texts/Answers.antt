@@ -1,5 +1,5 @@
 use Rattle.{
-  meaning.proofs.Common.{arith},
+  column_core.proofs.cells.Common.{arith},
   nullable_array.proofs.TextRows.{longer_trans, text_written},
 }
 use Rattle.nullable_array.proofs.texts.fill_texts.Goals as goal

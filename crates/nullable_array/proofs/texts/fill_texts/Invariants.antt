@@ -1,7 +1,4 @@
-use Rattle.{
-  meaning.proofs.Common.{IsLonger},
-  column_core.specs.Rows.{AreTexts},
-}
+use Rattle.column_core.{proofs.cells.Common.{IsLonger}, specs.Rows.{AreTexts}}
 use Rattle.nullable_array.proofs.texts.fill_texts.Given as goal
 
 -- the dictionary has grown, and the texts so far are written

@@ -1,5 +1,5 @@
 use Rattle.{
-  meaning.proofs.Common.{arith},
+  column_core.proofs.cells.Common.{arith},
   nullable_array.proofs.TextRows.{text_made},
 }
 use Rattle.nullable_array.proofs.texts.text_column.Goals as goal

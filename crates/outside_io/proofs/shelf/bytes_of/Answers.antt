@@ -1,5 +1,5 @@
 use Rattle.{
-  meaning.proofs.Common.{◌<◌, ap, length, arith},
+  meaning_cells.proofs.Common.{◌<◌, ap, length, arith},
   outside_io.{specs.Shelf.{least_held}, proofs.Held.{bytes_at-get}},
 }
 use Rattle.outside_io.proofs.shelf.bytes_of.Goals as goal

@@ -1,5 +1,5 @@
 use Rattle.{
-  meaning.proofs.Common.{arith},
+  meaning_cells.proofs.Common.{arith},
   outside_io.proofs.Held.{bytes_at-get, set-with_bytes},
 }
 use Rattle.outside_io.proofs.shelf.replace_bytes.Goals as goal

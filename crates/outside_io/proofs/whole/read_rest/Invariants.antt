@@ -1,5 +1,5 @@
 use Rattle.{
-  meaning.proofs.Common.{◌≡◌, ◌≤◌, ◌-◌, ◌+◌, length},
+  meaning_cells.proofs.Common.{◌≡◌, ◌≤◌, ◌-◌, ◌+◌, length},
   outside_io.{specs.Files.{Serves}, proofs.ReadOff.{IsReadOff}},
 }
 use Rattle.outside_io.proofs.whole.read_rest.Given as goal

@@ -1,5 +1,5 @@
 use Rattle.{
-  meaning.proofs.Common.{IfOk-weaker},
+  meaning_cells.proofs.Common.{IfOk-weaker},
   outside_io.proofs.ReadOff.{whole-from_rest, longer-from_rest},
 }
 use Rattle.outside_io.proofs.whole.read_whole.Goals as goal

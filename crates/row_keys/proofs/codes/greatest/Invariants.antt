@@ -1,4 +1,4 @@
-use Rattle.meaning.proofs.Common.{◌≤◌, ℕ, take, All, Label}
+use Rattle.multi_index.proofs.cells.Common.{◌≤◌, ℕ, take, All, Label}
 use Rattle.row_keys.proofs.codes.greatest.Given as goal
 
 abbrev pub invariant-loop-row : goal.invariant-loop-row

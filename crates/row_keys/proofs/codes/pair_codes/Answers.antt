@@ -1,7 +1,6 @@
 use Rattle.{
-  meaning.proofs.Common.{rules},
+  multi_index.{proofs.cells.Common.{rules}, specs.index_core.Labels.{same_number}},
   cell_core.specs.declared.cell.Label.TheVariants.{Na},
-  index_core.specs.Labels.{same_number},
   row_keys.{specs.{Keys.{same_pair}, Numbers.{StandFor}}, proofs.StandLaws.{codes_stand}},
 }
 use Rattle.row_keys.proofs.codes.pair_codes.Goals as goal

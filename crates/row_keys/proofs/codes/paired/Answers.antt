@@ -1,5 +1,5 @@
 use Rattle.{
-  meaning.proofs.Common.{◌≡◌, ◌<◌, ◌^◌, length, arith, rules, common_steps, get_or_from_slice_get},
+  multi_index.proofs.cells.Common.{◌≡◌, ◌<◌, ◌^◌, length, arith, rules, common_steps, get_or_from_slice_get},
   cell_core.specs.declared.cell.Label.TheVariants.{Na},
   row_keys.proofs.{StandLaws.{row_more}, PairLaws.{pair_number, pair_below, pairs_below, pairs_stand}},
 }

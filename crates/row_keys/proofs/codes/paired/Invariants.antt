@@ -1,5 +1,5 @@
 use Rattle.{
-  meaning.proofs.Common.{◌≡◌, map, range_with_len},
+  multi_index.proofs.cells.Common.{◌≡◌, map, range_with_len},
   row_keys.proofs.PairLaws.{pair_number},
 }
 use Rattle.row_keys.proofs.codes.paired.Given as goal

@@ -1,5 +1,5 @@
 use Rattle.{
-  meaning.proofs.Common.{◌≡◌, ◌<◌, ◌++◌, ◌∷◌, [], length, arith, cond, get_or_from_slice_get},
+  multi_index.proofs.cells.Common.{◌≡◌, ◌<◌, ◌++◌, ◌∷◌, [], length, arith, cond, get_or_from_slice_get},
   row_keys.proofs.{DistinctLaws.{numbers_more, seen_more}, factor.factorize.Goals.{then-new+in_ok-push-2, else-new}},
 }
 use Rattle.row_keys.proofs.factor.factorize.Goals as goal

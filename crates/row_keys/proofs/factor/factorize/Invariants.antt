@@ -1,5 +1,5 @@
 use Rattle.{
-  meaning.proofs.Common.{◌≡◌, take, distinct},
+  multi_index.proofs.cells.Common.{◌≡◌, take, distinct},
   row_keys.proofs.RecodeLaws.{AreNumbers},
 }
 use Rattle.row_keys.proofs.factor.factorize.Given as goal

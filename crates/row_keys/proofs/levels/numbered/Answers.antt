@@ -1,6 +1,5 @@
 use Rattle.{
-  meaning.proofs.Common.{◌≡◌, ◌+◌, ◌-◌, ◌<◌, ◌++◌, length, arith, All, laws-law},
-  index_core.specs.Labels.{same_number},
+  multi_index.{proofs.cells.Common.{◌≡◌, ◌+◌, ◌-◌, ◌<◌, ◌++◌, length, arith, All, laws-law}, specs.index_core.Labels.{same_number}},
   row_keys.proofs.RecodeLaws.{last_level, one_level, drop_none},
 }
 use Rattle.cell_core.specs.declared.cell.Label.TheVariants as label

@@ -1,5 +1,5 @@
 use Rattle.{
-  meaning.proofs.Common.{◌<◌, ◌++◌, map, drop},
+  multi_index.proofs.cells.Common.{◌<◌, ◌++◌, map, drop},
   row_keys.{specs.Keys.{same_tuple}, proofs.RecodeLaws.{AreNumbers}},
 }
 use Rattle.row_keys.proofs.levels.numbered.Given as goal

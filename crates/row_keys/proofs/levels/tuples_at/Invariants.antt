@@ -1,7 +1,4 @@
-use Rattle.{
-  meaning.proofs.Common.{◌≡◌, ◌++◌, take},
-  multi_index.specs.Axes.{tuples_at},
-}
+use Rattle.multi_index.{proofs.cells.Common.{◌≡◌, ◌++◌, take}, specs.Axes.{tuples_at}}
 use Rattle.row_keys.proofs.levels.tuples_at.Given as goal
 
 -- the tuples so far

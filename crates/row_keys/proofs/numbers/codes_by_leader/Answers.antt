@@ -1,5 +1,5 @@
 use Rattle.{
-  meaning.proofs.Common.{nat_eq, ◌<◌, ◌+◌, length, take, arith, get_or_read, nat_tests},
+  multi_index.proofs.cells.Common.{nat_eq, ◌<◌, ◌+◌, length, take, arith, get_or_read, nat_tests},
   row_keys.proofs.{DistinctLaws.{led_more, code_inside}, RecodeLaws.{AreNumbers}, numbers.codes_by_leader.Goals.{then-leader-row+in_ok-push+in_ok-push-2, else-leader-row+in_ok-push-3}},
 }
 use Rattle.row_keys.proofs.numbers.codes_by_leader.Goals as goal

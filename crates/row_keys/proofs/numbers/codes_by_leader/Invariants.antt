@@ -1,5 +1,5 @@
 use Rattle.{
-  meaning.proofs.Common.{nat_eq, take},
+  multi_index.proofs.cells.Common.{nat_eq, take},
   row_keys.proofs.RecodeLaws.{AreNumbers},
 }
 use Rattle.row_keys.proofs.numbers.codes_by_leader.Given as goal

@@ -1,5 +1,5 @@
 use Rattle.{
-  meaning.proofs.Common.{nat_eq, rules},
+  multi_index.proofs.cells.Common.{nat_eq, rules},
   row_keys.proofs.{StandLaws.{codes_stand}, LeaderLaws.{leaders_stand}},
 }
 use Rattle.row_keys.proofs.numbers.codes_by_number.Goals as goal

@@ -1,5 +1,5 @@
 use Rattle.{
-  meaning.proofs.Common.{◌≡◌, ◌<◌, ◌≤◌, ℕ, length, min, arith, common_steps, length-set, map_more, slice_index},
+  multi_index.proofs.cells.Common.{◌≡◌, ◌<◌, ◌≤◌, ℕ, length, min, arith, common_steps, length-set, map_more, slice_index},
   row_keys.{specs.Numbers.{first_with}, proofs.LeaderLaws.{table_leads, table_more}},
 }
 use Rattle.row_keys.proofs.numbers.leaders_by_table.Goals as goal

@@ -1,5 +1,5 @@
 use Rattle.{
-  meaning.proofs.Common.{◌≡◌, ◌+◌, map, take, length},
+  multi_index.proofs.cells.Common.{◌≡◌, ◌+◌, map, take, length},
   row_keys.{specs.Numbers.{first_with}, proofs.LeaderLaws.{IsTable}},
 }
 use Rattle.row_keys.proofs.numbers.leaders_by_table.Given as goal

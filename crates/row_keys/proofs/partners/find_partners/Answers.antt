@@ -1,5 +1,5 @@
 use Rattle.{
-  meaning.proofs.Common.{◌∙◌},
+  multi_index.proofs.cells.Common.{◌∙◌},
   row_keys.proofs.PartnerLaws.{firsts_counted, left_is, right_is, right_below, partners_below},
 }
 use Rattle.row_keys.proofs.partners.find_partners.Goals as goal

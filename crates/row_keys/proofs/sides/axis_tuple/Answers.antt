@@ -1,7 +1,4 @@
-use Rattle.{
-  meaning.proofs.Common.{◌≡◌, ◌<◌, [], length, slice_index_or, arith, take_all, length-set},
-  multi_index.proofs.SideLaws.{tuple_there, label_there, one_label_more},
-}
+use Rattle.multi_index.proofs.{cells.Common.{◌≡◌, ◌<◌, [], length, slice_index_or, arith, take_all, length-set}, SideLaws.{tuple_there, label_there, one_label_more}}
 use Rattle.row_keys.proofs.sides.axis_tuple.Goals as goal
 
 pub loop-level-preserved : goal.loop-level-preserved

@@ -1,4 +1,4 @@
-use Rattle.meaning.proofs.Common.{◌≡◌, [], length, take, slice_index_or}
+use Rattle.multi_index.proofs.cells.Common.{◌≡◌, [], length, take, slice_index_or}
 use Rattle.row_keys.proofs.sides.axis_tuple.Given as goal
 
 -- there is room for four labels, and the first ones are those of the tuple

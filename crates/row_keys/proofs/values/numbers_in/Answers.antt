@@ -1,7 +1,6 @@
 use mir.Val.{SFits}
 use Rattle.{
-  meaning.proofs.Common.{w64, ◌≡◌, ◌<◌, ◌≤◌, [], length, arith, rules, to_z-of_z, get_or_from_slice_get, slice_index_or},
-  multi_index.proofs.SideLaws.{one_row_more},
+  multi_index.proofs.{cells.Common.{w64, ◌≡◌, ◌<◌, ◌≤◌, [], length, arith, rules, to_z-of_z, get_or_from_slice_get, slice_index_or}, SideLaws.{one_row_more}},
   row_keys.{specs.Values.{number_in}, proofs.ValueLaws.{label_below, labels_below, labels_stand}},
 }
 use Rattle.row_keys.proofs.values.numbers_in.Goals as goal

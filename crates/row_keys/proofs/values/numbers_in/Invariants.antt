@@ -1,5 +1,5 @@
 use Rattle.{
-  meaning.proofs.Common.{◌≡◌, map, take},
+  multi_index.proofs.cells.Common.{◌≡◌, map, take},
   row_keys.specs.Values.{number_in},
 }
 use Rattle.row_keys.proofs.values.numbers_in.Given as goal

@@ -1,5 +1,5 @@
 use Rattle.{
-  meaning.proofs.Common.{◌<◌, length, arith, get_or_from_slice_get},
+  multi_index.proofs.cells.Common.{◌<◌, length, arith, get_or_from_slice_get},
   row_keys.proofs.ValueLaws.{spanned_more},
 }
 use Rattle.row_keys.proofs.values.span_of.Goals as goal

@@ -1,5 +1,5 @@
 use Rattle.{
-  meaning.proofs.Common.{take, All},
+  multi_index.proofs.cells.Common.{take, All},
   row_keys.specs.Values.{IsSpanned},
 }
 use Rattle.row_keys.proofs.values.span_of.Given as goal

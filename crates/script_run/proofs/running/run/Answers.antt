@@ -1,9 +1,7 @@
 use Rattle.{
-  meaning.proofs.Common.{◌≡◌, ◌∙◌, Option, ap, map, refl, subst, sym, inr, IfSome},
+  script_session.{proofs.cells.Common.{◌≡◌, ◌∙◌, Option, ap, map, refl, subst, sym, inr, IfSome}, specs.script.Run.{RunWords, IsWordsResult, not_found_line, usage, usage_line, with_line, with_script}},
   outside_io.specs.{Count.{HasRisen}, Files.{FilesValue}, Sink.{SinkValue, appended}},
-  script_meaning.specs.Run.{RunWords, IsWordsResult, not_found_line, usage, usage_line, with_line, with_script},
-  script_steps.{specs.{Ends.{outside, Ends, Is}, Errors.{RunLeaves}, declared.status.Status.{Status, TheVariants.{Usage}}}, proofs.{RunLaws.{early_none, ends_with_line}, Options.{none-always, some-always}}},
-  script_run.proofs.{FileLaws.{complete_run, ends_unbegun, not_unread}, OneResult.{run_one}},
+  script_run.{specs.{Ends.{outside, Ends, Is}, Errors.{RunLeaves}, declared.status.Status.{Status, TheVariants.{Usage}}}, proofs.{RunLaws.{early_none, ends_with_line}, Options.{none-always, some-always}, FileLaws.{complete_run, ends_unbegun, not_unread}, OneResult.{run_one}}},
 }
 use Rattle.script_run.proofs.running.run.Goals as goal
 

@@ -1,7 +1,6 @@
 use Rattle.{
-  meaning.proofs.Common.{refl},
-  script_steps.{specs.Ends.{outside}, proofs.Options.{some-always}},
-  script_run.proofs.{FileLaws.{ends_unbegun}, OneResult.{script_one}},
+  script_session.proofs.cells.Common.{refl},
+  script_run.{specs.Ends.{outside}, proofs.{Options.{some-always}, FileLaws.{ends_unbegun}, OneResult.{script_one}}},
 }
 use Rattle.script_run.proofs.running.run_bytes.Goals as goal
 

@@ -1,9 +1,6 @@
 use Rattle.{
-  meaning.proofs.Common.{Some, refl, arith},
-  script_meaning.specs.Run.{RunWords},
-  script_work.specs.Reads.{paths_of},
-  script_steps.{specs.Ends.{outside}, proofs.{Options.{some-always, some-both, some-weaker}, RunLaws.{ends_with_line}}},
-  script_run.proofs.{FileLaws.{does_fetch, ends_held, ends_absent, ends_too_large, ends_unbegun, ends_unread}, OneResult.{words_one}},
+  script_session.{proofs.cells.Common.{Some, refl, arith}, specs.{script.Run.{RunWords}, script_state.Reads.{paths_of}}},
+  script_run.{specs.Ends.{outside}, proofs.{Options.{some-always, some-both, some-weaker}, RunLaws.{ends_with_line}, FileLaws.{does_fetch, ends_held, ends_absent, ends_too_large, ends_unbegun, ends_unread}, OneResult.{words_one}}},
 }
 use Rattle.script_run.proofs.running.run_file.Goals as goal
 

@@ -1,10 +1,7 @@
 use Rattle.{
-  meaning.proofs.Common.{◌+◌, drop, arith, Contents},
-  script_meaning.specs.{Reading.{Reading}, State.{no_names}, Statement.{Answer, statement_result}, Run.{RunResult, statements_result}},
+  script_session.{proofs.{cells.Common.{◌+◌, drop, arith, Contents}, script_state.Rides.{serves_both}}, specs.{script.{Reading.{Reading}, State.{no_names}, Statement.{Answer, statement_result}, Run.{RunResult, statements_result}}, script_state.Reads.{files_in}, Session.{state_of}}},
   script_tree.specs.{View.{action_of, statement_of}, ScriptView.{statements_of}},
-  script_work.{specs.Reads.{files_in}, proofs.Rides.{serves_both}},
-  script_session.specs.Session.{state_of},
-  script_steps.{specs.{Ends.{outside}, Steps.{Stops}}, proofs.{Options.{some-both, some-weaker}, RunLaws.{comes_more, ends_come, ends_done, next-result}, ErrorLaws.{warns_both, leaves_later}}},
+  script_run.{specs.{Ends.{outside}, Steps.{Stops}}, proofs.{Options.{some-both, some-weaker}, RunLaws.{comes_more, ends_come, ends_done, next-result}, ErrorLaws.{warns_both, leaves_later}}},
 }
 use Rattle.script_run.proofs.running.run_script.Goals as goal
 

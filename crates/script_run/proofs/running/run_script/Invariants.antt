@@ -1,11 +1,8 @@
 use Rattle.{
-  meaning.proofs.Common.{◌≤◌, drop, IfSome},
+  script_session.{proofs.cells.Common.{◌≤◌, drop, IfSome}, specs.{script.{State.{no_names}, Run.{statements_result}}, script_state.Reads.{files_in}, Session.{state_of}}},
   outside_io.specs.Files.{Serves},
-  script_meaning.specs.{State.{no_names}, Run.{statements_result}},
   script_tree.specs.ScriptView.{statements_of},
-  script_work.specs.Reads.{files_in},
-  script_session.specs.Session.{state_of},
-  script_steps.specs.{Errors.{Warns}, Ends.{outside}, Steps.{ComesTo}},
+  script_run.specs.{Errors.{Warns}, Ends.{outside}, Steps.{ComesTo}},
 }
 use Rattle.script_run.proofs.running.run_script.Given as goal
 

@@ -1,8 +1,4 @@
-use Rattle.{
-  meaning.proofs.Common.{◌≡◌, [], drop, map, string_bytes},
-  script_meaning.specs.Run.{pairs_after},
-  script_work.specs.Reads.{paths_of},
-}
+use Rattle.script_session.{proofs.cells.Common.{◌≡◌, [], drop, map, string_bytes}, specs.{script.Run.{pairs_after}, script_state.Reads.{paths_of}}}
 use Rattle.script_run.proofs.words.names_in.Given as goal
 
 -- the pairs of all words are those so far, and then those of the words that are left

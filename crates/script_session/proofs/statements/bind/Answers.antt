@@ -1,5 +1,5 @@
 use Rattle.{
-  script_work.proofs.Worlds.{keeps_same},
+  script_state.proofs.Worlds.{keeps_same},
   script_session.proofs.Answering.{fails, follows, runs_out, does, set_name},
 }
 use Rattle.script_session.proofs.statements.bind.Goals as goal

@@ -1,7 +1,5 @@
 use Rattle.{
-  meaning.proofs.Common.{sym, Some, Ok, Err},
-  fault_laws.proofs.SetFaults.{removal_result_fault},
-  script_work.proofs.{Evaluations.{known_after, seen_after, names_value}, Worlds.{of_value}},
+  script_state.proofs.{cells.Common.{sym, Some, Ok, Err}, laws.SetFaults.{removal_result_fault}, Evaluations.{known_after, seen_after, names_value}, Worlds.{of_value}},
   script_session.proofs.{Answering.{fails, follows, does, alone, set_done, set_longer, set_refused, state_after}, Settings.{set_apart}},
 }
 use Rattle.script_session.proofs.statements.drop_column.Goals as goal

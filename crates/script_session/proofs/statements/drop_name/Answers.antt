@@ -1,7 +1,6 @@
 use Rattle.{
-  meaning.{specs.Cell.{IsLonger}, proofs.Common.{Ok, Err, subst, sym}},
+  script_state.{specs.{cells.Cell.{IsLonger}, Work.{world_of}}, proofs.{cells.Common.{Ok, Err, subst, sym}, Evaluations.{names_value}}},
   frame_store.proofs.Settling.{longer_self},
-  script_work.{specs.Work.{world_of}, proofs.Evaluations.{names_value}},
   script_session.proofs.Answering.{fails, follows, does},
 }
 use Rattle.script_session.proofs.statements.drop_name.Goals as goal

@@ -1,7 +1,6 @@
 use Rattle.{
-  meaning.proofs.Common.{refl, [], false},
+  script_state.{proofs.cells.Common.{refl, [], false}, specs.script.Statement.{done}},
   frame_store.proofs.Settling.{longer_self},
-  script_meaning.specs.Statement.{done},
   script_session.proofs.Answering.{does},
 }
 use Rattle.script_session.proofs.statements.perform.Goals as goal

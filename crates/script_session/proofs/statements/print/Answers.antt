@@ -1,6 +1,5 @@
 use Rattle.{
-  meaning.proofs.Common.{refl},
-  script_work.proofs.Worlds.{keeps_same},
+  script_state.proofs.{cells.Common.{refl}, Worlds.{keeps_same}},
   frame_store.proofs.Settling.{longer_self},
   script_session.proofs.Answering.{fails, follows, runs_out, does},
 }

@@ -1,9 +1,6 @@
 use Rattle.{
-  meaning.proofs.Common.{sym, ◌∙◌},
-  fault_laws.proofs.SetFaults.{assign_result_fault},
-  script_meaning.specs.Expression.{named_by},
+  script_state.{proofs.{cells.Common.{sym, ◌∙◌}, laws.SetFaults.{assign_result_fault}, Evaluations.{known_after, seen_after}, Worlds.{of_argument, of_value}}, specs.script.Expression.{named_by}},
   script_tree.specs.View.{expr_of},
-  script_work.proofs.{Evaluations.{known_after, seen_after}, Worlds.{of_argument, of_value}},
   script_session.proofs.{Answering.{fails, follows, does, set_done, set_longer, set_refused, state_after}, Settings.{set_apart}},
 }
 use Rattle.script_session.proofs.statements.put.Goals as goal

@@ -1,4 +1,4 @@
-use Rattle.meaning.proofs.Common.{arith}
+use Rattle.script_tokens.proofs.cells.Common.{arith}
 use Rattle.script_syntax.proofs.Rooms as rooms
 use Rattle.script_syntax.proofs.grammar.+parse.Goals as goal
 

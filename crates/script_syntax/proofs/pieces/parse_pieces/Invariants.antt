@@ -1,6 +1,5 @@
 use Rattle.{
-  meaning.proofs.Common.{length, ◌+◌, ◌≤◌},
-  language_meaning.specs.Pieces.{pieces},
+  script_tokens.{proofs.cells.Common.{length, ◌+◌, ◌≤◌}, specs.language.Pieces.{pieces}},
   script_tree.specs.ScriptView.{statements_of},
   script_syntax.specs.PieceRead.{Reads},
 }

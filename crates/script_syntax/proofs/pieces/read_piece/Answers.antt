@@ -1,9 +1,7 @@
 use Rattle.{
-  meaning.proofs.Common.{arith, ◌≡◌, subst, Some, None},
-  language_meaning.specs.Script.{IsBlank},
+  script_tokens.{proofs.cells.Common.{arith, ◌≡◌, subst, Some, None}, specs.{language.Script.{IsBlank}, View.{tokens_of}}},
   script_tree.specs.View.{action_of},
   script_syntax.{specs.Reading.{action_read}, proofs.PieceLaws.{blank_is_none, no_statement, one_statement, filled_of, lexes_of}},
-  script_tokens.specs.View.{tokens_of},
 }
 use Rattle.script_syntax.proofs.pieces.read_piece.Goals as goal
 

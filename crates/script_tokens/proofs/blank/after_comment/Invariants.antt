@@ -1,7 +1,4 @@
-use Rattle.{
-  meaning.proofs.Common.{◌≡◌, ◌≤◌, length},
-  language_meaning.specs.Token.{skip_comment},
-}
+use Rattle.meaning_language.{proofs.cells.Common.{◌≡◌, ◌≤◌, length}, specs.Token.{skip_comment}}
 use Rattle.script_tokens.proofs.blank.after_comment.Given as goal
 
 abbrev pub invariant-passing : goal.invariant-passing

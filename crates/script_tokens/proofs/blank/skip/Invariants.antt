@@ -1,7 +1,4 @@
-use Rattle.{
-  meaning.proofs.Common.{◌≡◌, length},
-  language_meaning.specs.Token.{skip},
-}
+use Rattle.meaning_language.{proofs.cells.Common.{◌≡◌, length}, specs.Token.{skip}}
 use Rattle.script_tokens.proofs.blank.skip.Given as goal
 
 abbrev pub invariant-skipping : goal.invariant-skipping

@@ -1,5 +1,5 @@
 use Rattle.{
-  meaning.proofs.Common.{common_steps, ◌<◌, length, refl, arith},
+  meaning_language.proofs.cells.Common.{common_steps, ◌<◌, length, refl, arith},
   script_tokens.proofs.LexLaws.{no_token_short, no_text, only_signs, IsUtf8-after_quote},
 }
 use Rattle.script_tokens.proofs.lexing.token_at.Goals as goal

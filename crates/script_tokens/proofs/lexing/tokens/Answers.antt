@@ -1,5 +1,5 @@
 use Rattle.{
-  meaning.proofs.Common.{arith, ◌≡◌, length, rules},
+  meaning_language.proofs.cells.Common.{arith, ◌≡◌, length, rules},
   script_tokens.{specs.View.{token_of, tokens_of}, proofs.LexLaws.{lexed_stops, lexed_pushed, lexed_shorter, lexed_end, Lexes-unique, IsUtf8-after_lexed}},
 }
 use Rattle.script_tokens.proofs.lexing.tokens.Goals as goal

@@ -1,5 +1,5 @@
 use Rattle.{
-  meaning.proofs.Common.{length, IsUtf8},
+  meaning_language.proofs.cells.Common.{length, IsUtf8},
   script_tokens.{specs.View.{tokens_of}, proofs.LexLaws.{IsLexedTo}},
 }
 use Rattle.script_tokens.proofs.lexing.tokens.Given as goal

@@ -1,5 +1,5 @@
 use Rattle.{
-  meaning.proofs.Common.{arith},
+  meaning_language.proofs.cells.Common.{arith},
   script_tokens.proofs.FirstPiece.{pieces_first, rest_len-none},
 }
 use Rattle.script_tokens.proofs.piece.piece_len.Goals as goal

@@ -1,6 +1,5 @@
 use Rattle.{
-  meaning.proofs.Common.{◌≡◌, ◌+◌, ◌≤◌, length},
-  language_meaning.specs.Pieces.{plain},
+  meaning_language.{proofs.cells.Common.{◌≡◌, ◌+◌, ◌≤◌, length}, specs.Pieces.{plain}},
   script_tokens.{specs.View.{mode_of}, proofs.FirstPiece.{rest_len}},
 }
 use Rattle.script_tokens.proofs.piece.piece_len.Given as goal

@@ -1,5 +1,5 @@
 use Rattle.{
-  meaning.proofs.Common.{common_steps, arith},
+  meaning_language.proofs.cells.Common.{common_steps, arith},
   script_tokens.proofs.Signs.{short_operator_stands, mark_stands, no_sign},
 }
 use Rattle.script_tokens.proofs.sign.sign_at.Goals as goal

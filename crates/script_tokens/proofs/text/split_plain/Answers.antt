@@ -1,5 +1,5 @@
 use Rattle.{
-  meaning.proofs.Common.{arith},
+  meaning_language.proofs.cells.Common.{arith},
   script_tokens.{specs.Quoted.{is_plain}, proofs.Runs.{prefix_len-le, run_at}},
 }
 use Rattle.script_tokens.proofs.text.split_plain.Goals as goal

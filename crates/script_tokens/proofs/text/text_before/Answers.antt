@@ -1,5 +1,5 @@
 use Rattle.{
-  meaning.proofs.Common.{arith},
+  meaning_language.proofs.cells.Common.{arith},
   script_tokens.proofs.Texts.{read_plain, read_quote, read_stops, read_escaped, IsUtf8-plain, IsUtf8-after_escape},
 }
 use Rattle.script_tokens.proofs.text.text_before.Goals as goal

@@ -1,5 +1,5 @@
 use Rattle.{
-  meaning.proofs.Common.{length, IsUtf8},
+  meaning_language.proofs.cells.Common.{length, IsUtf8},
   script_tokens.proofs.Texts.{IsReadTo},
 }
 use Rattle.script_tokens.proofs.text.text_before.Given as goal

@@ -1,5 +1,5 @@
 use Rattle.{
-  meaning.proofs.Common.{arith},
+  meaning_language.proofs.cells.Common.{arith},
   script_tokens.proofs.TokenLaws.{run_is_some, no_int},
 }
 use Rattle.script_tokens.proofs.word.int_at.Goals as goal

@@ -1,6 +1,5 @@
 use Rattle.{
-  meaning.proofs.Common.{arith},
-  language_meaning.specs.Token.{is_digit},
+  meaning_language.{proofs.cells.Common.{arith}, specs.Token.{is_digit}},
   script_tokens.proofs.Runs.{prefix_len-le, run_at},
 }
 use Rattle.script_tokens.proofs.word.split_digits.Goals as goal

@@ -1,6 +1,5 @@
 use Rattle.{
-  meaning.proofs.Common.{arith},
-  language_meaning.specs.Token.{continues_word},
+  meaning_language.{proofs.cells.Common.{arith}, specs.Token.{continues_word}},
   script_tokens.proofs.Runs.{prefix_len-le, run_at},
 }
 use Rattle.script_tokens.proofs.word.split_word.Goals as goal

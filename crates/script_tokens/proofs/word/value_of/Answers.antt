@@ -1,5 +1,5 @@
 use Rattle.{
-  meaning.proofs.Common.{arith},
+  meaning_language.proofs.cells.Common.{arith},
   std.proofs.lemmas.Fmt.{decimal_digit, first_decimal},
   script_tokens.proofs.{Runs.{IsUtf8-run}, TokenLaws.{digit_is_ascii, digits_spell, number_parses}, word.value_of.Goals.{else-digits-gt1-via-then-digits-gt1+else-digits-eq48}},
 }

@@ -1,5 +1,5 @@
 use Rattle.{
-  meaning.proofs.Common.{arith},
+  meaning_language.proofs.cells.Common.{arith},
   script_tokens.proofs.{Runs.{IsUtf8-run}, TokenLaws.{word_is_ascii}},
 }
 use Rattle.script_tokens.proofs.word.word_at.Goals as goal

@@ -1,6 +1,5 @@
 use Rattle.{
-  meaning.proofs.Common.{[], ◌∷◌, ◌++◌, ap, sym, ◌∙◌, List, Cell, tabulate},
-  column_core.specs.Columns.{CellColumn},
+  column_core.{proofs.cells.Common.{[], ◌∷◌, ◌++◌, ap, sym, ◌∙◌, List, Cell, tabulate}, specs.Columns.{CellColumn}},
   column_bench.{specs.Data.{data_kind, data_cell}, proofs.DataLaws.{tabulate_more}},
 }
 use Rattle.column_bench.proofs.data.Data.column.Goals as goal

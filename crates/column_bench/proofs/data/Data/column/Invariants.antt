@@ -1,5 +1,5 @@
 use Rattle.{
-  meaning.proofs.Common.{◌≡◌},
+  column_core.proofs.cells.Common.{◌≡◌},
   column_bench.specs.Data.{data_column},
 }
 use Rattle.column_bench.proofs.data.Data.column.Given as goal

@@ -1,5 +1,5 @@
 use Rattle.{
-  meaning.proofs.Common.{arith},
+  meaning_cells.proofs.Common.{arith},
   column_core.proofs.ColumnLaws.{length-tabulate, get-tabulate},
 }
 use Rattle.column_core.proofs.columns.ColRef.cell.Goals as goal

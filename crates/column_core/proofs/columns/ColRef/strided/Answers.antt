@@ -1,5 +1,5 @@
 use Rattle.{
-  meaning.proofs.Common.{arith},
+  meaning_cells.proofs.Common.{arith},
   column_core.proofs.{CellRows.{range-same}, MoveLaws.{get_or-tabulate}, ColumnLaws.{length-tabulate}},
 }
 use Rattle.column_core.proofs.columns.ColRef.strided.Goals as goal

@@ -1,5 +1,5 @@
 use Rattle.{
-  meaning.proofs.Common.{arith},
+  meaning_cells.proofs.Common.{arith},
   column_core.proofs.BlockLaws.{one_column},
 }
 use Rattle.column_core.proofs.columns.Column.into_block.Goals as goal

@@ -1,5 +1,5 @@
 use Rattle.{
-  meaning.proofs.Common.{rules, ◌<◌, ◌*◌, ◌^◌, length, ap, arith, FitsSigned, w64},
+  meaning_cells.proofs.Common.{rules, ◌<◌, ◌*◌, ◌^◌, length, ap, arith, FitsSigned, w64},
   std.proofs.Math.Facts.{to_z-of_z},
   column_core.{specs.Lanes.{option_at}, proofs.StrideLaws.{first_below, only_row, place_composed, fits_composed, stride_small}},
 }

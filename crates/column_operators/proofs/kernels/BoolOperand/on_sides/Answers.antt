@@ -1,6 +1,5 @@
 use Rattle.{
-  meaning.proofs.Common.{arith, refl, bool_cmp, Boolean},
-  column_core.specs.Columns.{truth_cell},
+  column_core.{proofs.cells.Common.{arith, refl, bool_cmp, Boolean}, specs.Columns.{truth_cell}},
   column_operators.{specs.Operations.{compare_row, and_row, or_row, xor_row}, proofs.TaskAnswers.{pair_answer}},
 }
 use Rattle.column_operators.proofs.kernels.BoolOperand.on_sides.Goals as goal

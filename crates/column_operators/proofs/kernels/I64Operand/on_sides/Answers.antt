@@ -1,6 +1,5 @@
 use Rattle.{
-  meaning.proofs.Common.{arith, refl, ◌+ℤ◌, ◌-ℤ◌, ◌*ℤ◌, int_cmp, Int64},
-  column_core.specs.Columns.{number_cell},
+  column_core.{proofs.cells.Common.{arith, refl, ◌+ℤ◌, ◌-ℤ◌, ◌*ℤ◌, int_cmp, Int64}, specs.Columns.{number_cell}},
   column_operators.{specs.Operations.{number_row, compare_row}, proofs.{TaskAnswers.{pair_answer}, Laws.{sum_law}}},
 }
 use Rattle.column_operators.proofs.kernels.I64Operand.on_sides.Goals as goal

@@ -1,6 +1,6 @@
 use Rattle.{
-  meaning.proofs.Common.{arith, ◌≡◌, false, rules},
-  csv_meaning.specs.CsvRead.{is_missing},
+  column_core.proofs.cells.Common.{arith, ◌≡◌, false, rules},
+  meaning_csv.specs.CsvRead.{is_missing},
   csv_frames.proofs.GrowingLaws.{missing_grown, kept_grown},
 }
 use Rattle.csv_frames.proofs.growing.Growing.push.Goals as goal

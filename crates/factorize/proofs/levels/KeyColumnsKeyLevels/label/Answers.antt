@@ -1,5 +1,5 @@
 use Rattle.{
-  meaning.proofs.Common.{arith},
+  column_core.proofs.cells.Common.{arith},
   factorize.proofs.LabelLaws.{columns_counted, column_label, no_column, no_row},
 }
 use Rattle.factorize.proofs.levels.KeyColumnsKeyLevels.label.Goals as goal

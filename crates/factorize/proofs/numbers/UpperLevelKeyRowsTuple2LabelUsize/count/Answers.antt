@@ -1,5 +1,5 @@
 use Rattle.{
-  meaning.proofs.Common.{arith, length-map},
+  column_core.proofs.cells.Common.{arith, length-map},
   row_keys.proofs.ZipLaws.{length_zip},
 }
 use Rattle.factorize.proofs.numbers.UpperLevelKeyRowsTuple2LabelUsize.count.Goals as goal

@@ -1,5 +1,5 @@
 use Rattle.{
-  meaning.proofs.Common.{arith, slice_get-get_or},
+  column_core.proofs.cells.Common.{arith, slice_get-get_or},
   row_keys.proofs.ZipLaws.{zip_right, row_of_zip, zip_get_map},
 }
 use Rattle.factorize.proofs.numbers.UpperLevelKeyRowsTuple2LabelUsize.key.Goals as goal

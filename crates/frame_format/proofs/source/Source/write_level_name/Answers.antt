@@ -1,5 +1,5 @@
 use Rattle.{
-  meaning.proofs.Common.{sym},
+  meaning_format.proofs.cells.Common.{sym},
   frame_format.proofs.ToldLaws.{level_name_seen},
 }
 use Rattle.frame_format.proofs.source.Source.write_level_name.Goals as goal

@@ -1,7 +1,7 @@
 use Rattle.{
-  form_parts.proofs.Common.{◌≡◌, true, rules, arith, holds, datum},
+  frame_parts.proofs.Common.{◌≡◌, true, rules, arith, holds, datum},
   column_operators.specs.Marks.{filled_cell},
-  method_meaning.specs.Methods.{filled},
+  frame_labels.specs.method.Methods.{filled},
   frame_methods.proofs.OpLaws.{mapped_given, marked_answer},
 }
 use Rattle.frame_methods.proofs.column_ops.FilledColumnOp.column.Goals as goal

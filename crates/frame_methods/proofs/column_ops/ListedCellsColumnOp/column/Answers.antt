@@ -1,5 +1,5 @@
 use Rattle.{
-  form_parts.proofs.Common.{truth_cell, ap},
+  frame_parts.proofs.Common.{truth_cell, ap},
   column_operators.specs.Marks.{listed_mark},
   frame_methods.proofs.{OpLaws.{marked_answer, mapped_given}, ListedLaws.{any_by_number}},
 }

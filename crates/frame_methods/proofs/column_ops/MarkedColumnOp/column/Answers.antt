@@ -1,5 +1,5 @@
 use Rattle.{
-  form_parts.proofs.Common.{arith},
+  frame_parts.proofs.Common.{arith},
   column_operators.specs.Marks.{missing_mark},
   frame_methods.{specs.Marks.{mark_of}, proofs.OpLaws.{marked_answer, mapped_given}},
 }

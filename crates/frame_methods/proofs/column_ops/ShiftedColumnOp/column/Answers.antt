@@ -1,6 +1,6 @@
 use Rattle.{
-  form_parts.proofs.Common.{◌≡◌, rules, to_z, of_z},
-  meaning.proofs.Common.{w64},
+  frame_parts.proofs.Common.{◌≡◌, rules, to_z, of_z},
+  column_core.proofs.cells.Common.{w64},
   frame_methods.proofs.OpLaws.{shifted_given, shifted_rows, shifted_answer},
 }
 use Rattle.frame_methods.proofs.column_ops.ShiftedColumnOp.column.Goals as goal

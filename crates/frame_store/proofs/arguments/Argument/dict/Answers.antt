@@ -1,5 +1,5 @@
 use Rattle.{
-  meaning.proofs.Common.{arith, sym, subst},
+  meaning_tables.proofs.cells.Common.{arith, sym, subst},
   frame_store.{specs.Arguments.{IsLiveArgument, AreLivePairs}, proofs.RowLaws.{argument_of-Table, IsLiveArgument-Table}},
 }
 use Rattle.frame_store.proofs.arguments.Argument.dict.Goals as goal

@@ -1,5 +1,5 @@
 use Rattle.{
-  meaning.proofs.Common.{arith, sym, subst},
+  meaning_tables.proofs.cells.Common.{arith, sym, subst},
   frame_store.{specs.Arguments.{IsLiveItem, AreLiveItems}, proofs.RowLaws.{item_of-Row, IsLiveItem-Row}},
 }
 use Rattle.frame_store.proofs.arguments.Item.tuple.Goals as goal

@@ -1,5 +1,5 @@
 use Rattle.{
-  meaning.proofs.Common.{map},
+  meaning_tables.proofs.cells.Common.{map},
   frame_store.{specs.Parts.{block_column}, proofs.ColumnLaws.{cut_is_whole}},
 }
 use Rattle.frame_store.proofs.store.Store.derive.Goals as goal

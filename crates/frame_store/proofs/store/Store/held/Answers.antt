@@ -1,5 +1,5 @@
 use Rattle.{
-  meaning.proofs.Common.{sum_by, ◌≤◌, ◌-◌, ◌^◌, arith},
+  meaning_tables.proofs.cells.Common.{sum_by, ◌≤◌, ◌-◌, ◌^◌, arith},
   frame_store.proofs.HeldLaws.{one_more_counted},
 }
 use Rattle.frame_store.proofs.store.Store.held.Goals as goal

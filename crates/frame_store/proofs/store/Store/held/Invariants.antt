@@ -1,5 +1,5 @@
 use Rattle.{
-  meaning.proofs.Common.{◌≡◌, ◌+◌, ◌-◌, ◌^◌, ◌≤◌, min, sum_by},
+  meaning_tables.proofs.cells.Common.{◌≡◌, ◌+◌, ◌-◌, ◌^◌, ◌≤◌, min, sum_by},
   frame_store.specs.Objects.{cells_in, held_of},
 }
 use Rattle.frame_store.proofs.store.Store.held.Given as goal

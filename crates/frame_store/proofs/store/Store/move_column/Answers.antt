@@ -1,6 +1,5 @@
 use Rattle.{
-  meaning.proofs.Common.{arith},
-  table_meaning.specs.{Table.{column_at}, Change.{with_column}},
+  meaning_tables.{proofs.cells.Common.{arith}, specs.{Table.{column_at}, Change.{with_column}}},
   frame_store.proofs.ObjectLaws.{table_taken, left_as_it_was},
 }
 use Rattle.frame_store.proofs.store.Store.move_column.Goals as goal

@@ -1,6 +1,5 @@
 use Rattle.{
-  meaning.proofs.Common.{on_ok_weaker},
-  table_meaning.specs.Change.{with_column},
+  meaning_tables.{proofs.cells.Common.{on_ok_weaker}, specs.Change.{with_column}},
   frame_store.{specs.Parts.{block_column}, proofs.ObjectLaws.{table_changed}},
 }
 use Rattle.frame_store.proofs.store.Store.put_column.Goals as goal

@@ -1,5 +1,5 @@
 use Rattle.{
-  table_meaning.specs.Change.{without_column},
+  meaning_tables.specs.Change.{without_column},
   frame_store.proofs.ObjectLaws.{table_changed},
 }
 use Rattle.frame_store.proofs.store.Store.remove_column.Goals as goal

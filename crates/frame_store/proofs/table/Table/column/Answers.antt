@@ -1,5 +1,5 @@
 use Rattle.{
-  meaning.proofs.Common.{length-map, ◌<◌, length, arith},
+  meaning_tables.proofs.cells.Common.{length-map, ◌<◌, length, arith},
   frame_store.proofs.PartLaws.{first_rows},
 }
 use Rattle.frame_store.proofs.table.Table.column.Goals as goal

@@ -1,5 +1,5 @@
 use Rattle.{
-  meaning.proofs.Common.{arith, ◌∙◌, refl, ap},
+  meaning_tables.proofs.cells.Common.{arith, ◌∙◌, refl, ap},
   frame_store.{specs.Views.{kept_table}, proofs.{PartLaws.{column_of_block, block_rows}, ColumnLaws.{has_block}}},
 }
 use Rattle.frame_store.proofs.table.Table.into_column.Goals as goal

@@ -1,5 +1,5 @@
 use Rattle.{
-  meaning.proofs.Common.{arith, refl},
+  meaning_tables.proofs.cells.Common.{arith, refl},
   frame_store.{specs.Views.{kept_table}, proofs.ColumnLaws.{remove_is_whole, remove_is_column}},
 }
 use Rattle.frame_store.proofs.table.Table.remove_column.Goals as goal

@@ -1,6 +1,5 @@
 use Rattle.{
-  meaning.proofs.Common.{arith, ◌∙◌, refl, ap},
-  table_meaning.specs.Change.{put_at, with_column},
+  meaning_tables.{proofs.cells.Common.{arith, ◌∙◌, refl, ap}, specs.Change.{put_at, with_column}},
   frame_store.{specs.{Parts.{IsSingle}, Views.{kept_table}}, proofs.ColumnLaws.{All-put_at, put_is_whole, put_is_column}},
 }
 use Rattle.frame_store.proofs.table.Table.take_column.Goals as goal

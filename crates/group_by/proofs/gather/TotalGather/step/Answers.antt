@@ -1,5 +1,5 @@
 use Rattle.{
-  meaning.proofs.Common.{arith, ◌∙◌, [], ◌∷◌, ◌++◌, ap, sym, int_cell, datum},
+  column_core.proofs.cells.Common.{arith, ◌∙◌, [], ◌∷◌, ◌++◌, ap, sym, int_cell, datum},
   group_by.{specs.Gathered.{plus, total_of}, proofs.GatherLaws.{total_more}},
 }
 use Rattle.group_by.proofs.gather.TotalGather.step.Goals as goal

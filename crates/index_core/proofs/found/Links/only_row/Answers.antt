@@ -1,5 +1,5 @@
 use Rattle.{
-  meaning.proofs.Common.{Some, arith},
+  meaning_pick.proofs.cells.Common.{Some, arith},
   index_core.proofs.LinkLaws.{label_there, only_found, none_found},
 }
 use Rattle.index_core.proofs.found.Links.only_row.Goals as goal

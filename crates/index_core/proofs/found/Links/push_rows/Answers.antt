@@ -1,6 +1,5 @@
 use Rattle.{
-  meaning.proofs.Common.{arith, ◌∙◌, ap, Some, position_from},
-  pick_meaning.specs.Rows.{are_some},
+  meaning_pick.{proofs.cells.Common.{arith, ◌∙◌, ap, Some, position_from}, specs.Rows.{are_some}},
   index_core.{specs.Labels.{same_number}, proofs.LinkLaws.{rest_from, HasLabel, rows_left, label_there, rows_from_first, read_next, fewer_left, pushed_row, are_some_from}},
 }
 use Rattle.index_core.proofs.found.Links.push_rows.Goals as goal

@@ -1,6 +1,5 @@
 use Rattle.{
-  meaning.proofs.Common.{◌≡◌, ◌++◌},
-  pick_meaning.specs.Rows.{rows_where},
+  meaning_pick.{proofs.cells.Common.{◌≡◌, ◌++◌}, specs.Rows.{rows_where}},
   index_core.{specs.Labels.{same_number}, proofs.LinkLaws.{rest_from, HasLabel, rows_left}},
 }
 use Rattle.index_core.proofs.found.Links.push_rows.Given as goal

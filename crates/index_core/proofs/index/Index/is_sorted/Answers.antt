@@ -1,5 +1,5 @@
 use Rattle.{
-  meaning.proofs.Common.{arith},
+  meaning_pick.proofs.cells.Common.{arith},
   index_core.proofs.NumberLaws.{range_in_order},
 }
 use Rattle.index_core.proofs.index.Index.is_sorted.Goals as goal

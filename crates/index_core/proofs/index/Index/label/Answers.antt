@@ -1,5 +1,5 @@
 use Rattle.{
-  meaning.proofs.Common.{arith, ◌^◌, ◌<◌, ◌∙◌, ap, sym, w64},
+  meaning_pick.proofs.cells.Common.{arith, ◌^◌, ◌<◌, ◌∙◌, ap, sym, w64},
   index_core.{proofs.RangeLaws.{length-range_labels, label_of_range}, specs.Views.{kept_labels}},
   std.proofs.lemmas.Int.{to_z_pos},
 }

@@ -1,5 +1,5 @@
 use Rattle.{
-  meaning.proofs.Common.{arith},
+  meaning_pick.proofs.cells.Common.{arith},
   index_core.proofs.RangeLaws.{length-range_labels},
 }
 use Rattle.index_core.proofs.index.Index.len.Goals as goal

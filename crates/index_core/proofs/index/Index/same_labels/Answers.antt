@@ -1,5 +1,5 @@
 use Rattle.{
-  meaning.proofs.Common.{arith},
+  meaning_pick.proofs.cells.Common.{arith},
   index_core.proofs.SameLaws.{ranges_same},
 }
 use Rattle.index_core.proofs.index.Index.same_labels.Goals as goal

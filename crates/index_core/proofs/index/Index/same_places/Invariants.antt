@@ -1,4 +1,4 @@
-use Rattle.meaning.proofs.Common.{◌≡◌, ◌<◌, ℕ, slice_get}
+use Rattle.meaning_pick.proofs.cells.Common.{◌≡◌, ◌<◌, ℕ, slice_get}
 use Rattle.index_core.proofs.index.Index.same_places.Given as goal
 
 abbrev pub invariant-loop-place : goal.invariant-loop-place

@@ -1,5 +1,5 @@
 use Rattle.{
-  meaning.proofs.Common.{arith},
+  meaning_pick.proofs.cells.Common.{arith},
   index_core.proofs.{RangeLaws.{length-range_labels}, SplitLaws.{slice_of_range}},
 }
 use Rattle.index_core.proofs.index.Index.slice_places.Goals as goal

@@ -1,5 +1,5 @@
 use Rattle.{
-  meaning.proofs.Common.{◌≡◌, take},
+  meaning_pick.proofs.cells.Common.{◌≡◌, take},
   index_core.specs.Labels.{labels_at},
 }
 use Rattle.index_core.proofs.index.Index.take.Given as goal

@@ -1,5 +1,5 @@
 use Rattle.{
-  meaning.proofs.Common.{arith},
+  index_core.proofs.cells.Common.{arith},
   multi_index.proofs.AddedLaws.{levels_with},
 }
 use Rattle.multi_index.proofs.axis.Axis.add_level.Goals as goal

@@ -1,4 +1,4 @@
-use Rattle.meaning.proofs.Common.{length-range_with_len, ap, length, arith}
+use Rattle.index_core.proofs.cells.Common.{length-range_with_len, ap, length, arith}
 use Rattle.multi_index.proofs.axis.Axis.drop_level.Goals as goal
 
 pub remove-requires : goal.remove-requires

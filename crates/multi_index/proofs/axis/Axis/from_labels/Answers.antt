@@ -1,5 +1,5 @@
 use Rattle.{
-  meaning.proofs.Common.{take-replicate, arith},
+  index_core.proofs.cells.Common.{take-replicate, arith},
   multi_index.proofs.TupleLaws.{levels_of_single},
 }
 use Rattle.multi_index.proofs.axis.Axis.from_labels.Goals as goal

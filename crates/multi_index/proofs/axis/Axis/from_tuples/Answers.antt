@@ -1,5 +1,5 @@
 use Rattle.{
-  meaning.proofs.Common.{take-replicate, ◌≡◌, arith},
+  index_core.proofs.cells.Common.{take-replicate, ◌≡◌, arith},
   multi_index.{specs.Views.{kept_tuples}, proofs.axis.Axis.from_tuples.Goals.{then-levels-eq1+in_ok-single_level}},
 }
 use Rattle.multi_index.proofs.axis.Axis.from_tuples.Goals as goal

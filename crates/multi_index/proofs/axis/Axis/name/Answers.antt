@@ -1,5 +1,5 @@
 use Rattle.{
-  meaning.proofs.Common.{slice_get-get_or, get_or-take, arith},
+  index_core.proofs.cells.Common.{slice_get-get_or, get_or-take, arith},
   multi_index.proofs.NameLaws.{count_of_names},
 }
 use Rattle.multi_index.proofs.axis.Axis.name.Goals as goal

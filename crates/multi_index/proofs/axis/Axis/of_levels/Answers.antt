@@ -1,5 +1,5 @@
 use Rattle.{
-  meaning.proofs.Common.{◌∙◌, ap, subst, length, arith},
+  index_core.proofs.cells.Common.{◌∙◌, ap, subst, length, arith},
   multi_index.{specs.{Axes.{HaveLevels}, Views.{kept_tuples}}, proofs.{LevelLaws.{levels_at, only_place}, axis.Axis.of_levels.Goals.{then-order-eq1+in_ok-labels_of, else-order-eq1+in_ok-tuples_of}}},
 }
 use Rattle.multi_index.proofs.axis.Axis.of_levels.Goals as goal

@@ -1,5 +1,5 @@
 use Rattle.{
-  meaning.proofs.Common.{arith},
+  index_core.proofs.cells.Common.{arith},
   multi_index.proofs.SameTuples.{singles_same},
 }
 use Rattle.multi_index.proofs.axis.Axis.same_labels.Goals as goal

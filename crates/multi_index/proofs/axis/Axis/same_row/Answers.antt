@@ -1,7 +1,6 @@
 use Rattle.{
-  meaning.proofs.Common.{arith},
+  index_core.proofs.{cells.Common.{arith}, SameLaws.{holds}},
   multi_index.{specs.Axes.{HaveLevels}, proofs.SameTuples.{same_at_row}},
-  index_core.proofs.SameLaws.{holds},
 }
 use Rattle.multi_index.proofs.axis.Axis.same_row.Goals as goal
 

@@ -1,5 +1,5 @@
 use Rattle.{
-  meaning.proofs.Common.{◌≡◌, ◌<◌, ℕ},
+  index_core.proofs.cells.Common.{◌≡◌, ◌<◌, ℕ},
   multi_index.specs.Axes.{label_at},
 }
 use Rattle.multi_index.proofs.axis.Axis.same_row.Given as goal

@@ -1,7 +1,4 @@
-use Rattle.{
-  meaning.proofs.Common.{arith},
-  index_core.proofs.SameLaws.{holds, all_same},
-}
+use Rattle.index_core.proofs.{cells.Common.{arith}, SameLaws.{holds, all_same}}
 use Rattle.multi_index.proofs.axis.Axis.same_rows.Goals as goal
 
 pub same_row-requires-clause-alike : goal.same_row-requires-clause-alike

@@ -1,4 +1,4 @@
-use Rattle.meaning.proofs.Common.{◌≡◌, ◌<◌, ℕ, slice_get}
+use Rattle.index_core.proofs.cells.Common.{◌≡◌, ◌<◌, ℕ, slice_get}
 use Rattle.multi_index.proofs.axis.Axis.same_rows.Given as goal
 
 abbrev pub invariant-loop-row : goal.invariant-loop-row

@@ -1,5 +1,5 @@
 use Rattle.{
-  meaning.proofs.Common.{arith},
+  index_core.proofs.cells.Common.{arith},
   multi_index.proofs.{NameLaws.{count_of_names}, ListedLaws.{on_one}},
 }
 use Rattle.multi_index.proofs.axis.Axis.slice_places.Goals as goal

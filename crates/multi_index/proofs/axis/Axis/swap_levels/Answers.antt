@@ -1,4 +1,4 @@
-use Rattle.meaning.proofs.Common.{ap, length, arith, length-range_with_len}
+use Rattle.index_core.proofs.cells.Common.{ap, length, arith, length-range_with_len}
 use Rattle.multi_index.proofs.axis.Axis.swap_levels.Goals as goal
 
 pub swap-requires-clause-i_in_bounds : goal.swap-requires-clause-i_in_bounds

@@ -1,5 +1,5 @@
 use Rattle.{
-  meaning.proofs.Common.{arith, ◌≡◌, ◌∙◌, ap, subst},
+  index_core.proofs.cells.Common.{arith, ◌≡◌, ◌∙◌, ap, subst},
   multi_index.{specs.{Axes.{HaveLevels, single_tuples, tuples_at}, Views.{kept_tuples}}, proofs.{TupleLaws.{levels_of_taken, single_taken, places_of_single}, axis.Axis.take.Goals.{in-Single+in_ok-take-in-Single, in-Listed+in_ok-taken-in-Listed}}},
 }
 use Rattle.multi_index.proofs.axis.Axis.take.Goals as goal

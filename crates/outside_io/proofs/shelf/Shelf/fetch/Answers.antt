@@ -1,5 +1,5 @@
 use Rattle.{
-  meaning.proofs.Common.{arith, ◌≡◌, ◌∙◌, None, ap, sym, refl, position, get},
+  meaning_cells.proofs.Common.{arith, ◌≡◌, ◌∙◌, None, ap, sym, refl, position, get},
   outside_io.{specs.Shelf.{is_under}, proofs.Under.{get-first, get-none}},
 }
 use Rattle.outside_io.proofs.shelf.Shelf.fetch.Goals as goal

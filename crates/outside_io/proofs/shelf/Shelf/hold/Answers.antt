@@ -1,5 +1,5 @@
 use Rattle.{
-  meaning.proofs.Common.{length-append, arith, ◌≡◌, None, rules, on_ok_weaker, position},
+  meaning_cells.proofs.Common.{length-append, arith, ◌≡◌, None, rules, on_ok_weaker, position},
   outside_io.{proofs.{Held.{reading_bytes-push}, Shelving.{replaced_kept, replaced_shelved, pushed_shelved}}, specs.Shelf.{is_under}},
 }
 use Rattle.outside_io.proofs.shelf.Shelf.hold.Goals as goal

@@ -1,5 +1,5 @@
 use Rattle.{
-  meaning.proofs.Common.{arith, rules},
+  multi_index.proofs.cells.Common.{arith, rules},
   row_keys.proofs.ZipLaws.{zip_left, zip_right, zip_get},
 }
 use Rattle.row_keys.proofs.rows.LevelKeyRowsTuple2Usize.key.Goals as goal

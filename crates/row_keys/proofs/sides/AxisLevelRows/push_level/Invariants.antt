@@ -1,5 +1,5 @@
 use Rattle.{
-  meaning.proofs.Common.{◌≡◌, ◌++◌, map, take},
+  multi_index.proofs.cells.Common.{◌≡◌, ◌++◌, map, take},
   row_keys.specs.Keys.{label_in},
 }
 use Rattle.row_keys.proofs.sides.AxisLevelRows.push_level.Given as goal

@@ -1,4 +1,4 @@
-use Rattle.script_work.{specs.Work.{world_of}, proofs.States.{live_are_named}}
+use Rattle.script_state.{specs.Work.{world_of}, proofs.States.{live_are_named}}
 use Rattle.script_session.proofs.session.Session.forget.Goals as goal
 
 pub returns-clause-live : goal.returns-clause-live

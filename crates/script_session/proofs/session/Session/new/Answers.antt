@@ -1,4 +1,4 @@
-use Rattle.meaning.proofs.Common.{subst, IsSome}
+use Rattle.script_state.proofs.cells.Common.{subst, IsSome}
 use Rattle.script_session.proofs.session.Session.new.Goals as goal
 
 pub invariant_of-result : goal.invariant_of-result

@@ -1,7 +1,6 @@
 use Rattle.{
-  meaning.proofs.Common.{arith, sym},
+  script_state.{proofs.{cells.Common.{arith, sym}, States.{state_swept, live_are_named, named_live}}, specs.Work.{tables_in, world_of, state_in}},
   script_tree.specs.View.{action_of},
-  script_work.{specs.Work.{tables_in, world_of, state_in}, proofs.States.{state_swept, live_are_named, named_live}},
   script_session.proofs.{Answering.{performs_after, refused_kept, live_refused}, Settings.{apart_after}},
 }
 use Rattle.script_session.proofs.session.Session.step.Goals as goal

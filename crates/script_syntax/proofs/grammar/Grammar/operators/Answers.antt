@@ -1,5 +1,5 @@
 use Rattle.{
-  meaning.proofs.Common.{arith},
+  script_tokens.proofs.cells.Common.{arith},
   script_syntax.{specs.Reading.{and_then, or_else, pick}, proofs.Loops.{turns}},
 }
 use Rattle.script_syntax.proofs.grammar.Grammar.operators.Goals as goal

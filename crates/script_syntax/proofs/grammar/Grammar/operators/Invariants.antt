@@ -1,8 +1,6 @@
 use Rattle.{
-  meaning.proofs.Common.{◌≡◌, ◌+◌, ◌≤◌, ◌-◌, length},
-  language_meaning.specs.Depth.{depth},
+  script_tokens.{proofs.cells.Common.{◌≡◌, ◌+◌, ◌≤◌, ◌-◌, length}, specs.{language.Depth.{depth}, View.{tokens_of}}},
   script_tree.specs.View.{expr_of},
-  script_tokens.specs.View.{tokens_of},
 }
 use Rattle.script_syntax.specs.At as at
 use Rattle.script_syntax.proofs.grammar.Grammar.operators.Given as goal

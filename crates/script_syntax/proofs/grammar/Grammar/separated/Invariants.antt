@@ -1,7 +1,5 @@
 use Rattle.{
-  meaning.proofs.Common.{◌≡◌, ◌≤◌, ◌-◌, length, false},
-  language_meaning.specs.{Tree.{parts}, Depth.{parts_depth}},
-  script_tokens.specs.View.{mark_of, tokens_of},
+  script_tokens.{proofs.cells.Common.{◌≡◌, ◌≤◌, ◌-◌, length, false}, specs.{language.{Tree.{parts}, Depth.{parts_depth}}, View.{mark_of, tokens_of}}},
   script_syntax.specs.Found.{after_parts},
 }
 use Rattle.script_syntax.specs.At as at

@@ -1,4 +1,0 @@
-pub mod Faults
-pub mod Joins
-pub mod Targets
-pub mod OuterJoin

@@ -1,3 +1,0 @@
-pub mod BoundLaws
-pub mod IndexLaws
-pub mod ShapeLaws

@@ -1,3 +1,0 @@
-pub mod Signature
-pub mod Binding
-pub mod Functions

@@ -1,5 +1,0 @@
-pub mod PartLaws
-pub mod BelowLaws
-pub mod BesideLaws
-pub mod PlaceLaws
-pub mod Hints

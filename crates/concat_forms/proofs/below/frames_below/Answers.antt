@@ -1,8 +1,0 @@
-use Rattle.{
-  form_parts.proofs.Common.{◌∙◌},
-  concat_forms.proofs.PartLaws.{frame_headings},
-}
-use Rattle.concat_forms.proofs.below.frames_below.Goals as goal
-
-pub table_below-requires-clause-headings : goal.table_below-requires-clause-headings
-table_below-requires-clause-headings c = rw (c.deref.ensures.value ∙ c.in_ok-headings.ensures) (frame_headings _ _ _ c.requires.shape c.requires.known)

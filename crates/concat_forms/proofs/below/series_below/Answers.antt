@@ -1,5 +1,0 @@
-use Rattle.form_parts.proofs.Common.{◌∷◌, []}
-use Rattle.concat_forms.proofs.below.series_below.Goals as goal
-
-pub table_below-requires-clause-given : goal.table_below-requires-clause-given
-table_below-requires-clause-given c = λ more i. c.name_of_all-name.ensures.given more i ∷ []

@@ -1,8 +1,0 @@
-use Rattle.{
-  form_parts.proofs.Common.{◌≡◌, drop},
-  concat_forms.specs.Columns.{all_kinds_meet},
-}
-use Rattle.concat_forms.proofs.columns.all_kinds_meet.Given as goal
-
-abbrev pub invariant-loop-heading : goal.invariant-loop-heading
-invariant-loop-heading l = all_kinds_meet l.parts l.shape (drop l.heading-index l.headings) ≡ all_kinds_meet l.parts l.shape l.headings

@@ -1,6 +1,0 @@
-use Rattle.form_parts.proofs.Common.{◌≡◌, take, flat_map}
-use Rattle.concat_forms.proofs.headings.gathered.Given as goal
-
--- the headings of the parts so far
-abbrev pub invariant-loop-part : goal.invariant-loop-part
-invariant-loop-part l = l.made.items ≡ flat_map (λ t. t.headings) (take l.part-index l.parts)

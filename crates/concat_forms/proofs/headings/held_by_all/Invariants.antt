@@ -1,9 +1,0 @@
-use Rattle.{
-  form_parts.proofs.Common.{◌≡◌, drop},
-  concat_forms.specs.Headings.{held_by_all},
-}
-use Rattle.concat_forms.proofs.headings.held_by_all.Given as goal
-
--- what is left says what all say
-abbrev pub invariant-loop-part : goal.invariant-loop-part
-invariant-loop-part l = held_by_all (drop l.part-index l.parts) l.heading ≡ held_by_all l.parts l.heading

@@ -1,8 +1,0 @@
-use Rattle.{
-  form_parts.proofs.Common.{◌≡◌, drop, list_all},
-  method_meaning.specs.Concat.{is_series},
-}
-use Rattle.concat_forms.proofs.names.are_series.Given as goal
-
-abbrev pub invariant-loop-part : goal.invariant-loop-part
-invariant-loop-part l = list_all (λ t. is_series t.shape) (drop l.part-index l.parts) ≡ list_all (λ t. is_series t.shape) l.parts

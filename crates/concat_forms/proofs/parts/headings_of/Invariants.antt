@@ -1,5 +1,0 @@
-use Rattle.form_parts.proofs.Common.{◌≡◌, take}
-use Rattle.concat_forms.proofs.parts.headings_of.Given as goal
-
-abbrev pub invariant-loop-place : goal.invariant-loop-place
-invariant-loop-place l = l.headings.keys ≡ take l.place l.on.headings

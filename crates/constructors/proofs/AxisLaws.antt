@@ -1,2 +1,0 @@
--- Laws of FrameLaws under the name that others know.
-pub use Rattle.constructors.proofs.FrameLaws.{free_same}

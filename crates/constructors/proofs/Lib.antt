@@ -1,4 +1,0 @@
-pub mod AxisLaws
-pub mod RowLaws
-pub mod FrameLaws
-pub mod Hints

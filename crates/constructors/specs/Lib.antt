@@ -1,4 +1,0 @@
-pub mod Scalars
-pub mod Index
-pub mod Pairs
-pub mod Made

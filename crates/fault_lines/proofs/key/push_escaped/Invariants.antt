@@ -1,5 +1,0 @@
-use Rattle.meaning.proofs.Common.{◌≡◌, ◌++◌, string_bytes, chars_rest, quoted_bytes}
-use Rattle.fault_lines.proofs.key.push_escaped.Given as goal
-
-abbrev pub invariant-loop-character : goal.invariant-loop-character
-invariant-loop-character l = string_bytes l.line ++ quoted_bytes (chars_rest l.character-iterator) ≡ string_bytes l.fn.line ++ quoted_bytes l.text

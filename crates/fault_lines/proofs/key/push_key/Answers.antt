@@ -1,8 +1,0 @@
-use Rattle.{
-  meaning.proofs.Common.{sym, ◌∙◌, label_datum},
-  fault_lines.proofs.KeyLaws.{key_text-one},
-}
-use Rattle.fault_lines.proofs.key.push_key.Goals as goal
-
-pub returns-then-len-eq1 : goal.returns-then-len-eq1
-returns-then-len-eq1 c = rw (key_text-one (label_datum c.args.texts.now) c.args.key.now c.at.result (sym c.len.ensures.count ∙ c.if-len-eq1.true) c.at.ensures) c.push_label.ensures

@@ -1,8 +1,0 @@
-use Rattle.{
-  meaning.proofs.Common.{label_datum},
-  fault_lines.proofs.KeyLaws.{labels_more},
-}
-use Rattle.fault_lines.proofs.key.push_more_labels.Goals as goal
-
-pub loop-level-preserved : goal.loop-level-preserved
-loop-level-preserved c = labels_more (label_datum c.args.texts.now) _ _ _ _ c.args.key.now c.loop-level.level c.at.result c.loop-level.invariant c.at.ensures c.in_ok-push_str.ensures.bytes c.in_ok-push_label.ensures

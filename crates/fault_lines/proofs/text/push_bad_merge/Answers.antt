@@ -1,5 +1,0 @@
-use Rattle.meaning.proofs.Common.{append_assoc}
-use Rattle.fault_lines.proofs.text.push_bad_merge.Goals as goal
-
-pub returns : goal.returns
-returns c = simp append_assoc (simp append_assoc at (rw (c.in_ok-push_words.ensures, c.side_word.ensures) at c.push_keyed.ensures))

@@ -1,5 +1,0 @@
-use Rattle.meaning.proofs.Common.{append_assoc}
-use Rattle.fault_lines.proofs.text.push_long_row.Goals as goal
-
-pub returns : goal.returns
-returns c = simp append_assoc (simp append_assoc at (rw (c.in_ok-push_counted-2.ensures, c.in_ok-push_counted.ensures) at c.push_counted-3.ensures))

@@ -1,6 +1,0 @@
-pub mod LabelLaws
-pub mod TableMade
-pub mod RowLaws
-pub mod GapLaws
-pub mod CellLaws
-pub mod Common

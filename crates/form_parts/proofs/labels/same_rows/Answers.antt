@@ -1,5 +1,0 @@
-use Rattle.form_parts.proofs.RowLaws.{rows_by_number}
-use Rattle.form_parts.proofs.labels.same_rows.Goals as goal
-
-pub returns : goal.returns
-returns c = search rows_by_number

@@ -1,0 +1,8 @@
+use Rattle.{
+  frame_parts.proofs.Common.{◌≡◌, drop, list_all},
+  frame_make.specs.method.Concat.{is_series},
+}
+use Rattle.frame_concat.proofs.names.are_series.Given as goal
+
+abbrev pub invariant-loop-part : goal.invariant-loop-part
+invariant-loop-part l = list_all (λ t. is_series t.shape) (drop l.part-index l.parts) ≡ list_all (λ t. is_series t.shape) l.parts

@@ -1,0 +1,108 @@
+// `pd.concat` of objects.
+ghost use Rattle.std.specs.Prelude.{◌≡◌, List, Some, IfOk};
+ghost use Rattle.std.specs.Option.{option_map};
+ghost use Rattle.column_core.specs.cells.Text.{Text};
+ghost use Rattle.frame_store.specs.tables.Settled.{IsSettled};
+ghost use Rattle.frame_store.specs.tables.Value.{list_in};
+ghost use Rattle.meaning_call.specs.declared.Accepted.TheVariants as accepted;
+ghost use Rattle.meaning_call.specs.Binding.{truth_in};
+ghost use Rattle.frame_parts.specs.form.Select.{labels_of};
+ghost use Rattle.frame_make.specs.method.Concat as meant;
+ghost use Rattle.frame_store.specs.Arguments.{items_of};
+ghost use Rattle.frame_store.specs.Objects.{Tables};
+ghost use Rattle.frame_store.specs.Shown.{Makes};
+ghost use Rattle.frame_store.specs.World.{world, arguments_in, IsSettledWorld, AreKnownArguments};
+ghost use Rattle.frame_signatures.specs.Bound.{stands_at, accepted_at};
+ghost use Rattle.frame_concat.specs.Parts.{parts_value, AreKnownParts};
+ghost use Rattle.frame_concat.specs.Asked.{asked_value, keys_value};
+
+use crate::asked::{Asked, check_keys};
+use crate::below::below;
+use crate::beside::beside;
+use crate::gathering::{labels_of, parts_of};
+use crate::parts::Part;
+use cell_core::{Code, Label, NoMemory, Reason, TextDict};
+use frame_signatures::{Bound, bind, function_parameters};
+use frame_store::{Item, Named, OpFault, Store, Table};
+use meaning_call::Function;
+use std::alloc::Global;
+
+// The labels of parts, if there are such.
+fn keys_in(alloc: Global, items: Option<&[Item]>) -> Result<Option<Vec<Label>>, NoMemory>
+    ensures { (live : Tables) (texts : List Text) → IfOk result (λ keys. keys_value texts keys
+        ≡ option_map (λ parts. labels_of (items_of live texts parts.now)) items.entry) }
+{
+    match items {
+        Some(items) => Ok(Some(labels_of(alloc, items)?)),
+        None => Ok(None),
+    }
+}
+
+// Whether the axis of a call is 1.
+fn is_across(bound: &Bound<'_>) -> bool
+    requires { accepted_at bound.now 1 ≡ Some accepted.Whole }
+    ensures { (live : Tables) (texts : List Text)
+        → result ≡ meant.is_across (stands_at live texts bound.now 1) }
+{
+    bound.whole(1) == 1
+}
+
+// What a call asks for besides the axis.
+fn asked_by(alloc: Global, dict: &TextDict, bound: &Bound<'_>) -> Result<Asked, NoMemory>
+    requires join { accepted_at bound.now 2 ≡ Some accepted.Text }
+    requires numbers { accepted_at bound.now 3 ≡ Some accepted.Truth }
+    ensures inner { (live : Tables)
+        → IfOk result (λ a. a.inner ≡ meant.is_inner (stands_at live dict.now bound.now 2)) }
+    ensures renumbered { (live : Tables) (texts : List Text)
+        → IfOk result (λ a. Some a.renumbered ≡ truth_in (stands_at live texts bound.now 3)) }
+    ensures keys { (live : Tables) (texts : List Text) → IfOk result (λ a. keys_value texts a.keys
+        ≡ option_map labels_of (list_in (stands_at live texts bound.now 4))) }
+{
+    Ok(Asked {
+        inner: bound.text(dict, 2) == "inner",
+        renumbered: bound.truth(3),
+        keys: keys_in(alloc, bound.list_or_none(4))?,
+    })
+}
+
+// The parts put together along an axis.
+fn concatenated(
+    alloc: Global,
+    dict: &TextDict,
+    across: bool,
+    parts: &[Part<'_>],
+    asked: &Asked,
+) -> Result<Table, OpFault>
+    requires known { AreKnownParts dict.now parts.now }
+    requires keys { IsSettled asked_value dict.now asked.now }
+    ensures { Makes dict.now result (meant.concatenated across
+        (parts_value dict.now parts.now) (asked_value dict.now asked.now)) }
+{
+    if parts.is_empty() {
+        return Err(OpFault::Refused(Code::BadValue(Reason::Argument)));
+    }
+    check_keys(parts.len(), across, asked)?;
+    if across {
+        beside(alloc, dict, parts, asked)
+    } else {
+        below(alloc, dict, parts, asked)
+    }
+}
+
+// What `pd.concat` makes of these arguments.
+pub(crate) fn concat(
+    alloc: Global,
+    store: &Store,
+    dict: &TextDict,
+    args: &[Named],
+) -> Result<Table, OpFault>
+    requires settled { IsSettledWorld (world store.now dict.now) }
+    requires known { AreKnownArguments (world store.now dict.now) args.now }
+    ensures { Makes dict.now result
+        (meant.concat_call (arguments_in (world store.now dict.now) args.now)) }
+{
+    let bound = bind(store, dict, function_parameters(Function::Concat), args)?;
+    let parts = parts_of(alloc, store, bound.objects(0))?;
+    let asked = asked_by(alloc, dict, &bound)?;
+    concatenated(alloc, dict, is_across(&bound), &parts, &asked)
+}

@@ -1,0 +1,9 @@
+use Rattle.{
+  frame_parts.proofs.Common.{arith},
+  frame_groups.proofs.FormLaws.{listed_settled},
+}
+use Rattle.frame_groups.proofs.values.listed.Goals as goal
+
+pub column_places-requires-clause-cells : goal.column_places-requires-clause-cells
+column_places-requires-clause-cells c =
+    listed_settled _ c.args.items.now _ (grind arith) c.requires.items

@@ -1,0 +1,215 @@
+// Calls behind `groupby` on objects.
+ghost use Rattle.std.specs.Prelude.{◌≡◌, true, Some, IfOk, IfSome};
+ghost use Rattle.std.specs.Option.{option_map};
+ghost use Rattle.cell_core.specs.declared.grid.Shape.TheVariants.{Frame};
+ghost use Rattle.column_core.specs.cells.Cell.{IsLonger};
+ghost use Rattle.frame_store.specs.tables.Settled.{IsSettled};
+ghost use Rattle.frame_store.specs.tables.Table.{heading_value};
+ghost use Rattle.frame_labels.specs.method.Groups as meant;
+ghost use Rattle.frame_labels.specs.method.Calls.{chain_result};
+ghost use Rattle.frame_store.specs.Arguments.{object_value, shape_at, IsLive, IsLiveObject};
+ghost use Rattle.frame_store.specs.Objects.{tables, table_at};
+ghost use Rattle.frame_store.specs.World.{world, entry_in, argument_in, arguments_in, IsSettledWorld, IsKnownArgument, AreKnownArguments, Forms};
+ghost use Rattle.frame_labels.specs.Chains.{chain_in, is_grouped, IsKnownChain};
+ghost use Rattle.frame_groups.specs.Calls.{call_of};
+ghost use Rattle.frame_groups.specs.Grouped.{grouping_seen, values_seen, HasKeys, AreValues};
+
+use crate::by_group::{reduced, sizes};
+use crate::by_row::{along_rows, counts};
+use crate::calls::{GroupCall, group_call};
+use crate::columns::ColumnCall;
+use crate::grouping::{Grouping, grouping_of};
+use crate::values::{Values, values_of};
+use cell_core::{Grid, Label, NoMemory, Shape, TextDict};
+use frame_labels::no_attribute;
+use frame_store::{Argument, Chain, Named, NamedList, ObjId, OpFault, Store, Value, placed};
+use std::alloc::Global;
+
+// The heading of sizes: none where they are a Series.
+fn size_heading(dict: &mut TextDict, as_index: bool) -> Result<Option<Label>, NoMemory>
+    ensures longer { IsLonger dict.old dict.new }
+    ensures heading { IfOk result (λ h. heading_value dict.new h ≡ meant.size_heading as_index) }
+    ensures given { IfOk result (IsSettled heading_value dict.new) }
+{
+    if as_index {
+        return Ok(None);
+    }
+    Ok(Some(Label::Text(dict.intern("size")?)))
+}
+
+// An object with the sizes of groups.
+fn sizes_placed(
+    alloc: Global,
+    store: &mut Store,
+    dict: &mut TextDict,
+    grouping: &Grouping,
+    on: ObjId,
+) -> Result<Value, OpFault>
+    requires live { IsLiveObject (tables store.old) on }
+    requires shape { shape_at (tables store.old) on ≡ Frame }
+    requires settled { IsSettledWorld (world store.old dict.old) }
+    requires keys { HasKeys (table_at (tables store.old) on.0) grouping.now }
+    ensures { let t = object_value (tables store.old) dict.old on in
+        let g = grouping_seen dict.old grouping.now in
+        (named : meant.Values) → Forms result (meant.group_answer t g named meant.size)
+        (world store.old dict.old) (world store.new dict.new) }
+{
+    let heading = size_heading(dict, grouping.as_index)?;
+    let table = sizes(alloc, dict, &store.read(on), grouping, heading);
+    placed(store, dict, table)
+}
+
+// An object with what is made of groups.
+fn answer(
+    alloc: Global,
+    store: &mut Store,
+    dict: &mut TextDict,
+    grouping: &Grouping,
+    values: &Values,
+    call: GroupCall,
+    on: ObjId,
+) -> Result<Value, OpFault>
+    requires live { IsLiveObject (tables store.old) on }
+    requires shape { shape_at (tables store.old) on ≡ Frame }
+    requires settled { IsSettledWorld (world store.old dict.old) }
+    requires keys { HasKeys (table_at (tables store.old) on.0) grouping.now }
+    requires values { AreValues (table_at (tables store.old) on.0) values.now }
+    ensures { let t = object_value (tables store.old) dict.old on in
+        let g = grouping_seen dict.old grouping.now in
+        let v = values_seen dict.old values.now in
+        Forms result (meant.group_answer t g v (call_of call))
+        (world store.old dict.old) (world store.new dict.new) }
+{
+    match call {
+        GroupCall::Reduced(op) => {
+            let table = reduced(alloc, dict, &store.read(on), grouping, values, op);
+            placed(store, dict, table)
+        }
+        GroupCall::Size => sizes_placed(alloc, store, dict, grouping, on),
+        GroupCall::Transformed(op) => {
+            let made = ColumnCall::Transformed(op);
+            let table = along_rows(alloc, dict, &store.read(on), grouping, values, made);
+            placed(store, dict, table)
+        }
+        GroupCall::Cumsum => {
+            let made = ColumnCall::Cumsum;
+            let table = along_rows(alloc, dict, &store.read(on), grouping, values, made);
+            placed(store, dict, table)
+        }
+        GroupCall::Cumcount => {
+            let table = counts(alloc, dict, &store.read(on), grouping);
+            placed(store, dict, table)
+        }
+    }
+}
+
+// What stands behind `groupby` of a frame: its arguments, its brackets, and the last call.
+#[derive(Clone, Copy)]
+struct GroupedCall<'a> {
+    by: &'a [Named],
+    brackets: Option<&'a Argument>,
+    name: &'a str,
+    args: &'a [Named],
+}
+
+// A call behind `groupby` of a frame.
+fn on_frame(
+    alloc: Global,
+    store: &mut Store,
+    dict: &mut TextDict,
+    on: ObjId,
+    call: GroupedCall<'_>,
+) -> Result<Value, OpFault>
+    requires live { IsLiveObject (tables store.old) on }
+    requires shape { shape_at (tables store.old) on ≡ Frame }
+    requires settled { IsSettledWorld (world store.old dict.old) }
+    requires by { AreKnownArguments (world store.old dict.old) call.by.now }
+    requires brackets { IfSome call.brackets
+        (λ a. IsKnownArgument (world store.old dict.old) a.now) }
+    requires arguments { AreKnownArguments (world store.old dict.old) call.args.now }
+    ensures { let w = world store.old dict.old in
+        let given = option_map (λ a. argument_in w a.now) call.entry.brackets in
+        Forms result (meant.grouped_frame (object_value (tables store.old) dict.old on)
+        (arguments_in w call.entry.by.now) given call.entry.name.now
+        (arguments_in w call.entry.args.now)) w (world store.new dict.new) }
+{
+    let grouping = grouping_of(alloc, store, dict, call.by, on)?;
+    let values = values_of(alloc, store, dict, &grouping.keys, call.brackets, on)?;
+    let last = group_call(alloc, store, dict, call.name, call.args)?;
+    answer(alloc, store, dict, &grouping, &values, last, on)
+}
+
+// A call behind `groupby` of any value: only a frame has groups.
+fn on_value(
+    alloc: Global,
+    store: &mut Store,
+    dict: &mut TextDict,
+    on: Value,
+    call: GroupedCall<'_>,
+) -> Result<Value, OpFault>
+    requires live { IsLive (tables store.old) on }
+    requires settled { IsSettledWorld (world store.old dict.old) }
+    requires by { AreKnownArguments (world store.old dict.old) call.by.now }
+    requires brackets { IfSome call.brackets
+        (λ a. IsKnownArgument (world store.old dict.old) a.now) }
+    requires arguments { AreKnownArguments (world store.old dict.old) call.args.now }
+    ensures { let w = world store.old dict.old in
+        let given = option_map (λ a. argument_in w a.now) call.entry.brackets in
+        Forms result (meant.grouped_result (entry_in w on) (arguments_in w call.entry.by.now) given
+        call.entry.name.now (arguments_in w call.entry.args.now)) w (world store.new dict.new) }
+{
+    let Value::Object(id) = on else {
+        return Err(no_attribute(alloc, "groupby"));
+    };
+    match store.read(id).shape() {
+        Shape::Series => Err(no_attribute(alloc, "groupby")),
+        Shape::Frame => on_frame(alloc, store, dict, id, call),
+    }
+}
+
+/// A method behind `groupby` of a frame: `f.groupby(by, ..)[..].name(..)`.
+///
+/// The answer is a new object whose table is that of its own rows; no other object changes. `sum`, `min`, `max`,
+/// `count`, `nunique`, `first` and `last` reduce each group, `size` counts its rows; `cumsum`, `cumcount` and
+/// `transform` keep the rows of the frame ("Group by: split-apply-combine" in the pandas user guide).
+///
+/// # Errors
+///
+/// In this order: `NoAttribute` where the value has no `groupby`, as a scalar and a Series; `WrongKind` of arguments of
+/// `groupby` that are unknown, missing, too many, given twice or of another form; `NoKey` of a label in `by` that no
+/// column has; `Limit` of more than four keys that are to be labels; `WrongKind` of brackets of another form than a
+/// label or a list of labels, and `NoKey` of a label in them that no column has; `NoAttribute` of another last name;
+/// `WrongKind` of its arguments, and `BadValue(Argument)` where `transform` is told another name than one of the
+/// reductions; `WrongKind` of a column whose kind the call doesn't take; `BadValue(Repeated)` of a label that stands
+/// again in a frame that is answered; `Limit`. `NoMemory` may come in place of any answer. After a refusal all objects
+/// are as they were.
+pub fn method(
+    alloc: Global,
+    store: &mut Store,
+    dict: &mut TextDict,
+    on: Value,
+    chain: &Chain,
+    args: &NamedList,
+) -> Result<Value, OpFault>
+    requires chain { is_grouped chain.now ≡ true }
+    requires live { IsLive (tables store.old) on }
+    requires settled { IsSettledWorld (world store.old dict.old) }
+    requires before { IsKnownChain (world store.old dict.old) chain.now }
+    requires arguments { AreKnownArguments (world store.old dict.old) args.now }
+    ensures { let w = world store.old dict.old in
+        Forms result (chain_result (entry_in w on) (chain_in w chain.now)
+        (arguments_in w args.now)) w (world store.new dict.new) }
+{
+    match chain {
+        Chain::Group(by, brackets, name) => {
+            let call = GroupedCall {
+                by: by.as_slice(),
+                brackets: brackets.as_ref(),
+                name: name.as_str(),
+                args: args.as_slice(),
+            };
+            on_value(alloc, store, dict, on, call)
+        }
+        Chain::Plain(_) | Chain::Rolling(_, _) | Chain::Expanding(_, _) => unreachable!(),
+    }
+}

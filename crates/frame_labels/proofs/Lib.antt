@@ -1,0 +1,14 @@
+pub mod KeyLaws
+pub mod Lists
+pub mod TableLaws
+pub mod AnswerLaws
+pub mod RowLaws
+pub mod ColumnLabelLaws
+pub mod NamedLaws
+pub mod LevelNameLaws
+pub mod IndexingLaws
+pub mod LevelColumnLaws
+pub mod ResetLaws
+pub mod LevelMoveLaws
+pub mod ReindexLaws
+pub mod Hints

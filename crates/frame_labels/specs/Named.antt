@@ -1,0 +1,35 @@
+-- Columns that an argument names.
+use Rattle.std.specs.Prelude.{◌≡◌, ◌<◌, ℕ, Bool, false, List, length, slice_get, slice_index_or, nat_eq, Result, IfOk}
+use Rattle.std.specs.List.{list_any}
+use Rattle.column_core.specs.cells.Text.{Text}
+use Rattle.column_core.specs.cells.Fault.{FaultValue}
+use Rattle.frame_store.specs.tables.Settled.{IsSettled}
+use Rattle.frame_store.specs.tables.Table.{NumberedTable}
+use Rattle.frame_store.specs.tables.Value.{Given}
+use Rattle.frame_signatures.specs.call.Binding.{HasNoText}
+use Rattle.frame_parts.specs.Makes.{MakesBy}
+use Rattle.frame_store.specs.declared.fault.OpFault.{OpFault}
+use Rattle.frame_store.specs.Arguments.{arguments_of}
+use Rattle.frame_store.specs.Parts.{AreColumnsOf}
+use Rattle.frame_store.specs.World.{World}
+use Rattle.frame_select.specs.Selected.{as_it_is}
+use Rattle.frame_signatures.specs.Bound.{stands_at}
+use Rattle.frame_signatures.specs.declared.bound.Bound.{Bound}
+
+-- the first argument
+abbrev pub first_in : World → Bound → Given
+first_in w b = stands_at w.tables w.texts b 0
+
+-- the texts of the arguments were given, and what stands for the first where it isn't given is no text
+pub record NamesColumns (w : World) (b : Bound) : Type 0 where
+  pub given : IsSettled (arguments_of w.tables) w.texts b.args.now
+  pub no_text : HasNoText (slice_get b.parameters.now 0)
+
+-- the places are those that are meant, which the table has, or the first fault is
+abbrev pub FindsPlaces : List Text → NumberedTable → Result (List ℕ) OpFault → Result (List ℕ) FaultValue → Type 0
+FindsPlaces texts t found meant = MakesBy as_it_is texts found meant × IfOk found (AreColumnsOf t)
+
+-- for each number below a count whether it is among the places
+pub record AreMarks (marks : List Bool) (limit : ℕ) (places : List ℕ) : Type 0 where
+  pub count : length marks ≡ limit
+  pub each : (place : ℕ) → place < limit → slice_index_or marks place false ≡ list_any (nat_eq place) places

@@ -1,0 +1,54 @@
+//! The methods of Series and frames that are about labels: levels of the rows, the rows and columns
+//! that labels name, and columns as labels.
+//!
+//! Each function here makes the table of one method, or what several of them share. `frame_methods`
+//! calls them by the names of the methods and gives the tables objects, but for `drop_columns`, which
+//! makes its object itself; what is answered is defined on whole tables (`meaning_method/specs/Levels.antt`,
+//! `Reindex.antt`, `Section.antt` and `Rows.antt`).
+//!
+//! Levels get names (`axis_names`) or are made of columns (`indexing`), go or change places
+//! (`levels`), and become columns again (`level_columns`, `resetting`). Rows and columns are picked
+//! by a list of labels (`reindexing`), rows by their label on one level (`cross_section`), and
+//! columns by what an argument names (`named_columns`). `under` makes the table under another axis,
+//! and `column_labels` an axis of the labels of columns.
+//!
+//! [`columns_at`] gives the columns whose cells are the keys of rows, by their places, for `factorize::KeyColumns`
+//! (`key_columns`). The keys that these have are the labels that the cells of the rows are, which `proofs/KeyLaws.antt`
+//! says for calls behind `groupby` and for `merge`.
+//!
+//! Calls behind `groupby` (`frame_groups`) and joins of frames (`frame_merge`) take some parts from
+//! here, and so they do the words of a chain of calls (`specs/Chains.antt`) and the fault of a name
+//! that no method has (`attributes`).
+//!
+//! ```text
+//! // `f.set_index("city")`, of a frame that is read of the store, with its arguments bound
+//! let places = named_places(alloc, &store, &dict, &bound, on)?;
+//! let table = set_index(alloc, &dict, &store.read(on), &places)?;
+//! ```
+#![tactic(auto)]
+
+mod attributes;
+mod axis_names;
+mod column_labels;
+mod cross_section;
+mod indexing;
+mod key_columns;
+mod level_columns;
+mod levels;
+mod named_columns;
+mod reindexing;
+mod resetting;
+mod under;
+
+pub use attributes::no_attribute;
+pub use axis_names::{level_names, rename_axis, renumber};
+pub use column_labels::{column_label, columns_axis};
+pub use cross_section::xs;
+pub use indexing::{row_tuple, set_index};
+pub use key_columns::columns_at;
+pub use level_columns::cell_of;
+pub use levels::{drop_level, swap_levels};
+pub use named_columns::{drop_columns, named_places, places_besides, subset_places};
+pub use reindexing::reindex;
+pub use resetting::reset_levels;
+pub use under::named_axis;

@@ -1,0 +1,2 @@
+-- Laws of FrameLaws under the name that others know.
+pub use Rattle.frame_make.proofs.FrameLaws.{free_same}

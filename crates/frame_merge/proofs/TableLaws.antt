@@ -1,0 +1,229 @@
+-- The columns of joined rows, and the frame of them.
+use Rattle.{
+  frame_parts.proofs.Common.{drop_more, length-map, map-append, take_more, length-append, map-range_with_len_more, length-map-range_with_len, All-map, All-append, All-filter, slice_get_within, get_or_from_slice_get, nat_tests, ◌≡◌, ◌∙◌, ◌+◌, ap, refl, sym, arith, ℕ, suc, false, List, [], ◌∷◌, ◌++◌, map, take, drop, length, slice_get, All, Option, Some, None, append_assoc, nat_eq, Result, filter, ◌^◌, ◌<◌, subst, true, slice_index_or, Ok, Err, get_or-map, range_with_len, position_or_len, IfSome, IsSome, on_rows_seen, default_seen, map-map as map_map, Cell, Na, Label, Limit, Frame, AreDistinct, IsLonger, Text, CellValue, na_cell, datum, LabelValue, FaultValue, fault_of, IsSettled, ColumnOf, Table, column_at, column_value, NumberedTable, table_value, heading_value, Entry, IsWhole, columns_value, headings_value, Makes, IsKnownTable, OpFault, Refused, NoMemory, HeadingList, columns_of, table_of, table_settled, settled_later, seen_later, columns_part, CellBlock, AxisValue, range_axis, within_limits, limited, unless_repeated, default_labels, common_name, heading_at},
+  frame_select.{proofs.{AnswerLaws.{column_seen}, HeadingLaws.{repeated_seen}, RefusalLaws.{repeated_settled}}, specs.Headings.{NamesRepeated, repeated_heading}},
+  meaning_join.specs.{Pairs.{Pair}, declared.{How.{How}, Validate.{Validate}}},
+  frame_labels.{specs.method.{Rows.{all_places}, Merge.{MergeKeys, is_key, right_key, right_places, key_cell, left_column, column_of_side, suffixed_heading, merged, merged_rows}}, proofs.{NamedLaws.{is_other, others_meant}, TableLaws.{limited_within}}},
+  frame_merge.specs.{Columns.{key_cell_at, key_cells, column_on, joined_or_left, left_column_on, merged_columns}, declared.keys.MergeKeys.{MergeKeys as NumberedKeys}, Keys.{keys_value, AreMergeKeys}, Rows.{MeetsBy, AreRowsMet, repeated_in, pairs_in}, Headings.{merged_headings}},
+  frame_methods.proofs.{sorting.RankLaws.{below_range}, RenameLaws.{frame_heads}},
+  merge_concat.specs.{declared.pairs.Pairs.{Pairs}, Pairs.{ArePairs}},
+}
+use Rattle.frame_labels.specs.method.Merge as meant
+
+-- one column more
+pub one_more_in_range : {X : Type 0} (f : ℕ → X) (place : ℕ) (x : X) (made made' : List X) → x ≡ f place → made' ≡ made ++ x ∷ [] → made ≡ map f (range_with_len 0 place) → made' ≡ map f (range_with_len 0 (place + 1))
+one_more_in_range = grind (arith, map-range_with_len_more)
+
+pub one_more_at : {X : Type 0} (f : ℕ → X) (places : List ℕ) (k place : ℕ) (x : X) (first made made' : List X) → slice_get places k ≡ Some place → x ≡ f place → made' ≡ made ++ x ∷ [] → made ≡ first ++ map f (take k places)
+    → made' ≡ first ++ map f (take (k + 1) places)
+one_more_at f places k place x _ _ _ at is pushed before = rw (pushed, before, is, take_more places k 0 (slice_get_within places k place at), map-append, get_or_from_slice_get places k place 0 at, append_assoc)
+
+-- the cells of a key, one more of them
+pub one_more_key : {C : Type 0} (na : C) (left right : List C) (ls rs : List (Option ℕ)) (row : ℕ) (l r : Option ℕ) (c : C) (made made' whole : List C) → length rs ≡ length ls → slice_get ls row ≡ Some l → slice_get rs row ≡ Some r
+    → c ≡ key_cell_at na left right l r → made' ≡ made ++ c ∷ [] → made ++ key_cells na left right (drop row ls) (drop row rs) ≡ whole → made' ++ key_cells na left right (drop (row + 1) ls) (drop (row + 1) rs) ≡ whole
+one_more_key na left right ls rs row l r _ _ _ _ same here there is pushed before =
+    let lt = slice_get_within ls row l here in
+    rw (pushed, is, append_assoc) (rw (drop_more ls row None lt, drop_more rs row None (omega (arith, lt, same)), get_or_from_slice_get ls row l None here, get_or_from_slice_get rs row r None there) at before)
+
+-- how many there are
+key_count : {C : Type 0} (na : C) (left right : List C) (ls rs : List (Option ℕ)) → length rs ≡ length ls → length (key_cells na left right ls rs) ≡ length ls
+key_count _ _ _ [] _ _ = refl
+key_count _ _ _ (l ∷ ls) [] same = search
+key_count na _ _ (l ∷ ls) (r ∷ rs) same = ap suc (key_count na _ _ ls rs (omega (arith, same)))
+
+module _ {C : Type 0} (na : C) (l r : List (ColumnOf C)) (keys : MergeKeys) (lefts rights : List (Option ℕ)) (same : length rights ≡ length lefts) where
+  abbrev IsLong : ColumnOf C → Type 0
+  IsLong c = length c.cells ≡ length lefts
+
+  left_counted : (place : ℕ) → length (left_column_on na l r keys lefts rights place).cells ≡ length lefts
+  left_counted = grind (arith, key_count, length-map)
+
+  columns_counted : (places : List ℕ) → All IsLong (merged_columns na l r keys places lefts rights)
+  columns_counted places =
+      All-append IsLong _ _
+      (All-map IsLong (left_column_on na l r keys lefts rights) (range_with_len 0 (length l)) (λ k d lt. left_counted _))
+      (All-map IsLong (column_on na r rights) places (λ k d lt. search length-map))
+
+-- a column that is no key has none that stands for it
+pub no_right : (lefts rights : List ℕ) (place : ℕ) → length rights ≡ length lefts → is_key lefts place ≡ false → slice_get rights (position_or_len (nat_eq place) lefts) ≡ None
+no_right (l ∷ lefts) (r ∷ rights) place same other = grind (arith, nat_eq, slice_get, no_right lefts rights place (omega (arith, same)))
+no_right [] [] _ _ _ = refl
+no_right lefts rights _ same other = search
+
+-- as they are seen
+module _ (texts : List Text) where
+  key_seen : (left right : List Cell) (l r : Option ℕ) → datum texts (key_cell_at Na left right l r) ≡ key_cell_at na_cell (map (datum texts) left) (map (datum texts) right) l r
+  key_seen left right l r = grind (arith, get_or-map (datum texts) left, get_or-map (datum texts) right)
+
+  keys_seen : (left right : List Cell) (ls rs : List (Option ℕ)) → map (datum texts) (key_cells Na left right ls rs) ≡ key_cells na_cell (map (datum texts) left) (map (datum texts) right) ls rs
+  keys_seen _ _ [] _ = refl
+  keys_seen _ _ (l ∷ ls) [] = refl
+  keys_seen left right (l ∷ ls) (r ∷ rs) = search (key_seen, keys_seen left right ls rs)
+
+  on_seen : (cs : List (ColumnOf Cell)) (rows : List (Option ℕ)) (place : ℕ) → column_value texts (column_on Na cs rows place) ≡ column_on na_cell (columns_value texts cs) rows place
+  on_seen cs rows place = cc (on_rows_seen texts rows (column_at cs place ∷ []), column_seen texts cs place)
+
+  module _ (l r : List (ColumnOf Cell)) (keys : MergeKeys) (lefts rights : List (Option ℕ)) where
+    left_seen : (place : ℕ) → column_value texts (left_column_on Na l r keys lefts rights place) ≡ left_column_on na_cell (columns_value texts l) (columns_value texts r) keys lefts rights place
+    left_seen place = by (right_key keys place)
+      where
+        by : (o : Option ℕ) → column_value texts (joined_or_left Na l r lefts rights place o) ≡ joined_or_left na_cell (columns_value texts l) (columns_value texts r) lefts rights place o
+        by (Some other) = grind (arith, column_seen, keys_seen)
+        by None = on_seen l _ _
+
+    columns_seen : (places : List ℕ) → columns_value texts (merged_columns Na l r keys places lefts rights) ≡ merged_columns na_cell (columns_value texts l) (columns_value texts r) keys places lefts rights
+    columns_seen places = rw (map-append, map_map, map_map, length-map) (λ i. map (λ place. left_seen place i) (range_with_len 0 (length l)) ++ map (λ place. on_seen r rights place i) places)
+
+columns_settled : (texts : List Text) (l r : List (ColumnOf Cell)) (keys : MergeKeys) (lefts rights : List (Option ℕ)) (places : List ℕ) → IsSettled columns_value texts l → IsSettled columns_value texts r
+    → IsSettled columns_value texts (merged_columns Na l r keys places lefts rights)
+columns_settled = grind (arith, columns_seen)
+
+-- as they are meant
+cells_meant : (left right : List CellValue) (ps : List Pair) → key_cells na_cell left right (map (λ p. p.left) ps) (map (λ p. p.right) ps) ≡ map (key_cell left right) ps
+cells_meant _ _ [] = refl
+cells_meant left right (p ∷ ps) = cc (cells_meant left right ps)
+
+left_meant : (l r : Table) (ps : List Pair) (place : ℕ) (o : Option ℕ) → joined_or_left na_cell l.columns r.columns (map (λ p. p.left) ps) (map (λ p. p.right) ps) place o ≡ meant.joined_or_left l r ps place o
+left_meant = grind (arith, cells_meant)
+
+columns_meant : (l r : Table) (keys : MergeKeys) (ps : List Pair) → merged_columns na_cell l.columns r.columns keys (right_places r keys) (map (λ p. p.left) ps) (map (λ p. p.right) ps)
+    ≡ map (left_column l r keys ps) (all_places l) ++ map (column_of_side r (map (λ p. p.right) ps)) (right_places r keys)
+columns_meant l r keys ps = λ i. map (λ place. left_meant l r ps place (right_key keys place) i) (all_places l) ++ map (column_of_side r (map (λ p. p.right) ps)) (right_places r keys)
+
+-- as many numbered rows
+rows_numbered : (count : ℕ) → length (range_axis count).tuples ≡ count
+rows_numbered = grind (arith, length-map, length-map-range_with_len)
+
+-- the columns of the right side are its own
+rights_below : (r : Table) (keys : MergeKeys) → All (λ place. place < length r.columns) (right_places r keys)
+rights_below r keys = All-filter _ (λ place. place < length r.columns) _ (below_range (length r.columns))
+
+pub rights_inside : (texts : List Text) (r : NumberedTable) (keys : MergeKeys) (rights : List ℕ) → rights ≡ right_places (table_value texts r) keys → All (λ place. place < length r.columns) rights
+rights_inside texts r keys _ is = rw is (subst (λ n. All (λ place. place < n) (right_places (table_value texts r) keys)) (length-map r.columns _) (rights_below (table_value texts r) keys))
+
+-- each column has a label
+some_suffixed : (suffix : Text) (others : List (Option LabelValue)) (h : Option LabelValue) → IsSome h → IsSome (suffixed_heading suffix others h)
+some_suffixed = grind arith
+
+module _ (l r : Table) (keys : MergeKeys) (of_left : All IsSome l.headings) (of_right : All IsSome r.headings) (left_counted : length l.headings ≡ length l.columns) (right_counted : length r.headings ≡ length r.columns) where
+  some_at : (t : Table) → All IsSome t.headings → length t.headings ≡ length t.columns → (place : ℕ) → place < length t.columns → IsSome (heading_at t place)
+  some_at = grind arith
+
+  all_labelled : All IsSome (merged_headings l r keys)
+  all_labelled =
+      All-append IsSome _ _
+      (All-map IsSome _ _ (λ k d lt.
+      let place = slice_index_or (all_places l) k d in
+      let some = some_at l of_left left_counted _ (below_range (length l.columns) k d lt) in
+      grind (arith, some_suffixed)))
+      (All-map IsSome _ _ (λ k d lt. some_suffixed _ _ _ (some_at r of_right right_counted _ (rights_below r keys k d lt))))
+
+-- the same by numbers
+module _ (texts : List Text) where
+  headings_some : (hs : List (Option Label)) → All IsSome hs → All IsSome (headings_value texts hs)
+  headings_some _ all = All-map IsSome _ _ (λ k d lt. grind (arith, all k d lt))
+
+  some_headings : (hs : List (Option Label)) → All IsSome (headings_value texts hs) → All IsSome hs
+  some_headings hs all = λ k d lt. grind (arith, subst IsSome (get_or-map (heading_value texts) hs k d) (all k _ (omega (arith, length-map hs (heading_value texts), lt))))
+
+-- the frame that is frame_meant, of rows that are met and labels that are made
+module _ (old new : List Text) (l r : NumberedTable) (numbers : NumberedKeys) (known : record { left : IsKnownTable old l; right : IsKnownTable old r; frames : (l.shape ≡ Frame) × (r.shape ≡ Frame); keys : AreMergeKeys l r numbers }) (how : How) (once : Validate) (met : Option Pairs)
+    (found : record { rows : MeetsBy old (Ok met) (repeated_in once (table_value old l) (table_value old r) (keys_value numbers)) (pairs_in how (table_value old l) (table_value old r) (keys_value numbers)); inside : IfSome met (AreRowsMet l r) }) (distinct : AreDistinct new) (labels slice : List (Option Label))
+    (labelled : record { longer : IsLonger old new; given : IsSettled headings_value new labels; labels : headings_value new labels ≡ merged_headings (table_value old l) (table_value old r) (keys_value numbers) }) (sliced : slice ≡ labels) where
+  abbrev L : Table
+  L = table_value old l
+
+  abbrev R : Table
+  R = table_value old r
+
+  abbrev keys : MergeKeys
+  keys = keys_value numbers
+
+  abbrev ps : List Pair
+  ps = pairs_in how L R keys
+
+  abbrev frame_meant : Table
+  frame_meant = merged L R keys ps
+
+  abbrev answer : Result Entry FaultValue
+  answer = merged_rows L R how once keys
+
+  rows_meant : length frame_meant.labels ≡ length ps
+  rows_meant = search length-map-range_with_len
+
+  headed : length frame_meant.columns ≡ length labels
+  headed = grind (arith, length-append, length-map)
+
+  finished_by : (found : Option Label) → repeated_heading slice ≡ found → answer ≡ unless_repeated (heading_value new found) (limited frame_meant)
+  finished_by = grind (arith, repeated_seen new labels distinct labelled.given, found.rows.0, sliced)
+
+  pub repeated_so : (why : OpFault) → NamesRepeated why (repeated_heading slice) → Makes new (Err why) answer
+  repeated_so (Refused code) named =
+      let given : IsSettled headings_value new slice = rw sliced labelled.given in
+      (finished_by _ named.1 ∙ ap (λ c. Err (fault_of new c)) (sym named.2), search repeated_settled)
+  repeated_so NoMemory _ = tt
+
+  module _ (none : repeated_heading slice ≡ None) where
+    pub many_so : met ≡ None → Makes new (Err (Refused Limit)) answer
+    many_so is = let many : 2 ^ 26 < length ps = rw is at found.rows.1 in grind (arith, finished_by _ none, nat_tests, rows_meant)
+
+    module _ (made : Pairs) (some : met ≡ Some made) (count : ℕ) (counted : count ≡ length made.left) where
+      are : ArePairs made ps
+      are = grind (arith, found.rows.1)
+
+      rows_are : count ≡ length ps
+      rows_are = counted ∙ ap length are.left ∙ length-map ps _
+
+      pub beyond_so : within_limits count (length labels) ≡ false → Makes new (Err (Refused Limit)) answer
+      beyond_so = grind (arith, finished_by _ none, headed, rows_meant, rows_are)
+
+      -- its columns and rows
+      module _ (rights : List ℕ) (counted_right : ℕ) (kept : rights ≡ filter (is_other keys.right) (range_with_len 0 counted_right)) (columns : counted_right ≡ length r.columns) (a b called : Option Label) (a_is : a ≡ l.columns_name) (b_is : b ≡ r.columns_name) (named : record { name : heading_value old called ≡ common_name (heading_value old a) (heading_value old b); settled : IsSettled heading_value old called })
+          (axis : AxisValue) (axis_is : axis ≡ range_axis count) (headings : HeadingList) (headings_are : headings ≡ record { columns_name = called; labels = slice }) (blocks : List CellBlock) (blocks_are : columns_of blocks ≡ merged_columns Na l.columns r.columns keys rights made.left made.right) where
+        abbrev whole : NumberedTable
+        whole = record {
+          shape = Frame;
+          columns_name = called;
+          level_names = (range_axis count).names;
+          labels = (range_axis count).tuples;
+          headings = labels;
+          columns = merged_columns Na l.columns r.columns keys rights made.left made.right;
+        }
+
+        rights_are : rights ≡ right_places R keys
+        rights_are = others_meant old r _ _ _ kept columns
+
+        columns_are : columns_value new (merged_columns Na l.columns r.columns keys rights made.left made.right) ≡ frame_meant.columns
+        columns_are = grind (arith, are, rights_are, columns_seen, seen_later, columns_part, columns_meant)
+
+        whole_seen : table_value new whole ≡ frame_meant
+        whole_seen = λ i. record {
+          shape = Frame;
+          columns_name = (seen_later heading_value old new _ labelled.longer named.settled ∙ named.name ∙ (λ j. common_name (heading_value old (a_is j)) (heading_value old (b_is j)))) i;
+          level_names = None ∷ [];
+          labels = (default_seen new _ ∙ ap default_labels rows_are) i;
+          headings = labelled.labels i;
+          columns = columns_are i;
+        }
+
+        whole_settled : IsSettled table_value new whole
+        whole_settled =
+            table_settled _ whole (settled_later heading_value old new called labelled.longer named.settled) (λ more. refl) (λ more. search default_seen) labelled.given
+            (search (columns_settled, settled_later, columns_part))
+
+        -- the frame that is made is the one that is frame_meant
+        pub made_is : within_limits count (length labels) ≡ true → (made' : NumberedTable) → made' ≡ table_of Frame axis headings blocks → Makes new (Ok made') answer
+        made_is = grind (arith, finished_by _ none, limited_within, headed, rows_meant, rows_are, whole_seen, whole_settled)
+
+        labels_some : All IsSome labels
+        labels_some =
+            some_headings _ _ (subst (All IsSome) (sym labelled.labels)
+            (all_labelled L R _ (headings_some _ _ (known.left.whole.headings.labelled known.frames.0)) (headings_some _ _ (known.right.whole.headings.labelled known.frames.1))
+            (search (length-map, known.left.whole.headed))
+            (search (length-map, known.right.whole.headed))))
+
+        -- its parts fit
+        pub parts_fit : IsWhole (table_of Frame axis headings blocks)
+        parts_fit =
+            let same = (rw some at found.inside).same in
+            grind (arith, labels_some, length-map, length-append, whole_seen, rows_numbered, columns_counted, frame_heads)

@@ -1,0 +1,19 @@
+use Rattle.{
+  frame_parts.proofs.Common.{◌∙◌, sym, tables, world, arguments_in},
+  frame_labels.{proofs.AnswerLaws.{forms_so}, specs.method.Calls.{merge_call}},
+  frame_merge.proofs.KeyLaws.{frame_called, merge_called, other_called},
+}
+use Rattle.frame_merge.proofs.calling.method.Goals as goal
+
+pub merge_call-requires-clause-shape : goal.merge_call-requires-clause-shape
+merge_call-requires-clause-shape c = (frame_called (tables c.args.store.now) c.args.on c.args.chain.now c.in-Some.id (sym c.merge_of.ensures ∙ c.in-Some.is)).1
+
+pub returns-in-Some : goal.returns-in-Some
+returns-in-Some c =
+    let w = world c.args.store.now c.args.dict.now in
+    forms_so _ _ _ w _
+    (cc (c.as_slice.ensures, merge_called w c.args.on c.args.chain.now (arguments_in w c.args.args.now) _ (sym c.merge_of.ensures ∙ c.in-Some.is))) c.merge_call.ensures
+
+pub returns-in-None : goal.returns-in-None
+returns-in-None c =
+    forms_so _ _ _ _ _ (other_called (world c.args.store.now c.args.dict.now) _ _ _ c.requires.chain (sym c.merge_of.ensures ∙ c.in-None.is)) c.method.ensures

@@ -1,0 +1,29 @@
+//! What `merge` of a frame answers: the rows of two frames that have equal keys, as a frame.
+//!
+//! [`method`] calls a method of a value by its name. `merge` of a frame is answered here, by its definition on whole
+//! tables (`meaning_method/specs/Merge.antt`); any other method is handed to `frame_methods`.
+//!
+//! The arguments are bound and read (`arguments`), and the key columns of both frames are found and tested (`keys`).
+//! The rows are joined by `merge_concat`, by the cells of the key columns (`rows`). A label that columns of both frames
+//! have, neither of them a key, gets a suffix (`suffixes`, `headings`). All labels are tested and the limits before a
+//! cell is taken; then the columns are made one by one (`columns`), and the table of them (`merging`).
+//!
+//! ```text
+//! // `left.merge(right, on="city")`
+//! args.push(Named { name: None, value: Argument::One(Value::Object(right)) })?;
+//! args.push(Named { name: Some(on), value: Argument::One(Value::Scalar(Cell::Text(city))) })?;
+//! let joined = method(alloc, &mut store, &mut dict, left, &Chain::Plain(merge), &args)?;
+//! ```
+#![tactic(auto)]
+
+mod arguments;
+mod calling;
+mod columns;
+mod headings;
+mod keys;
+mod merging;
+mod places;
+mod rows;
+mod suffixes;
+
+pub use calling::method;

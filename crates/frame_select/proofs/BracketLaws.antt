@@ -1,0 +1,2 @@
+-- Laws of HeadingLaws under the name that others know.
+pub use Rattle.frame_select.proofs.HeadingLaws.{column_planned}

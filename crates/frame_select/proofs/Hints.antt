@@ -1,0 +1,23 @@
+-- Laws that the goals of functions want, by the name of the first that does.
+use Rattle.{
+  frame_parts.proofs.Common.{length-map, length-range_with_len, get_or-tabulate},
+  frame_store.proofs.RowLaws.{item_of-Row},
+  frame_select.proofs.{HeadingLaws.{place_met, place_passed, absent_is, no_place}, CutLaws.{places_inside, places_count, read_is, whole_axis, frame_taken, gathered_with, gathered, one_more_chosen, one_more_single, chosen_whole}},
+  indexers.proofs.SpanLaws.{place_pushed},
+}
+
+pub ruleset whole_item = (item_of-Row)
+
+pub ruleset place_of_label = (place_met, place_passed, absent_is, no_place)
+
+pub ruleset headed_by = (places_inside, places_count)
+
+pub ruleset count = (length-map, length-range_with_len)
+
+pub ruleset sliced_axis = (whole_axis, place_pushed, length-map, length-range_with_len, get_or-tabulate)
+
+pub ruleset take_frame = (read_is, frame_taken, gathered_with, gathered)
+
+pub ruleset chosen_blocks = (one_more_chosen, one_more_single)
+
+pub ruleset table_under = (chosen_whole, length-map)

@@ -1,0 +1,2 @@
+-- Laws of HeadingLaws under the name that others know.
+pub use Rattle.frame_select.proofs.HeadingLaws.{count_items, label_seen}

@@ -1,0 +1,344 @@
+// Plans of selections: what they take from a table that is read.
+ghost use Rattle.std.specs.Prelude.{◌≡◌, ◌<◌, ◌∷◌, [], List, length, IfOk};
+ghost use Rattle.cell_core.specs.declared.grid.Shape.TheVariants.{Frame};
+ghost use Rattle.column_core.specs.cells.Text.{Text as OneText};
+ghost use Rattle.frame_store.specs.tables.Settled.{IsSettled};
+ghost use Rattle.frame_store.specs.tables.Table.{NumberedTable, table_value};
+ghost use Rattle.frame_store.specs.tables.Value.{one, key_given};
+ghost use Rattle.meaning_select.specs.Keys.{reach_by};
+ghost use Rattle.meaning_select.specs.Select as meant;
+ghost use Rattle.frame_store.specs.Objects.{Tables, tables};
+ghost use Rattle.frame_store.specs.Arguments.{object_value, items_of, subscript_of, IsLiveObject};
+ghost use Rattle.frame_store.specs.World.{world, entry_in, subscript_in, IsKnownValue, IsKnownSubscript, IsKnownTable, IsSettledWorld};
+ghost use Rattle.frame_select.specs.Plans.{rows_in, TakesPicked, TakesAll, has_single_row, has_single_column, reach_of_plan, IsPlanFor, PlansBy};
+ghost use Rattle.frame_select.specs.Reaches.{accessor_of, reach_value, PicksBelow, ReachesWithin, CanSelect};
+ghost use Rattle.frame_select.specs.Selected.{IsKnownSecond, second_in, each_truth, way_of};
+
+use crate::labels::{column_place, column_places};
+use crate::reaching::{Reach, all_columns, mask_rows, reach_by};
+use crate::subscripts::scalars_alone;
+use cell_core::{Cell, Grid, Label, Places, Rows, Shape, TextDict};
+use frame_parts::wrong_kind;
+use frame_store::{Argument, Item, ObjId, ObjRef, OpFault, Selector, Store, Subscript, Value};
+use indexers::Picked;
+use std::alloc::Global;
+
+/// The rows of a plan.
+#[derive(Drop)]
+pub(crate) enum Taken {
+    /// Rows at equal distances.
+    Slice(Rows),
+    /// Any rows.
+    Listed(Places),
+    /// The rows under leading labels, and of how many levels these are, which the answer loses.
+    Under(Places, usize),
+}
+
+/// How far a selection reaches.
+#[derive(Clone, Copy)]
+pub(crate) enum Extent {
+    /// The one cell.
+    Cell,
+    /// The rows of one column, as a Series.
+    Column,
+    /// The cells of one row, as a Series over the labels of the columns.
+    Row,
+    /// A frame.
+    Frame,
+}
+
+/// What a selection takes from a table.
+#[derive(Drop)]
+pub(crate) struct Plan {
+    /// The rows.
+    pub rows: Taken,
+    /// The places of the columns.
+    pub columns: Places,
+    /// How they are answered.
+    pub extent: Extent,
+}
+
+impl Taken {
+    /// How many rows there are.
+    #[tactic(auto, using(crate::proofs::Hints::count))]
+    pub(crate) fn count(&self) -> usize
+        ensures { result ≡ length (rows_in self.now) }
+    {
+        match self {
+            Taken::Slice(rows) => rows.count,
+            Taken::Listed(places) => places.len(),
+            Taken::Under(places, _) => places.len(),
+        }
+    }
+
+    /// The one row.
+    pub(crate) fn first(&self) -> usize
+        requires { length (rows_in self.now) ≡ 1 }
+        ensures { rows_in self.now ≡ result ∷ [] }
+    {
+        match self {
+            Taken::Slice(rows) => rows.start,
+            Taken::Listed(places) => *places.at(0),
+            Taken::Under(places, _) => *places.at(0),
+        }
+    }
+}
+
+fn extent_of(single_row: bool, single_column: bool) -> Extent
+    ensures row { has_single_row result ≡ single_row }
+    ensures column { has_single_column result ≡ single_column }
+{
+    match (single_row, single_column) {
+        (true, true) => Extent::Cell,
+        (false, true) => Extent::Column,
+        (true, false) => Extent::Row,
+        (false, false) => Extent::Frame,
+    }
+}
+
+// The rows that were picked. A slice needs no list.
+fn rows_taken(rows: Picked) -> Taken
+    ensures { (t : NumberedTable) → PicksBelow (length t.labels) rows
+        → rows.dropped < length t.level_names → TakesPicked t rows result }
+{
+    match rows.span {
+        Some(span) => Taken::Slice(span),
+        None if rows.dropped > 0 => Taken::Under(rows.places, rows.dropped),
+        None => Taken::Listed(rows.places),
+    }
+}
+
+// What is taken where keys reach this.
+fn plan_of(reach: Reach) -> Plan
+    ensures plan { (texts : List OneText) (t : NumberedTable) → ReachesWithin t reach
+        → meant.picked_result (table_value texts t) (reach_of_plan result)
+        ≡ meant.picked_result (table_value texts t) (reach_value texts reach) }
+    ensures whole { (t : NumberedTable) → ReachesWithin t reach → IsPlanFor t result }
+{
+    let extent = extent_of(reach.rows.single, reach.columns.single);
+    Plan {
+        rows: rows_taken(reach.rows),
+        columns: reach.columns.places,
+        extent,
+    }
+}
+
+/// All rows of a table.
+pub(crate) fn all_rows(on: &ObjRef<'_>) -> Taken
+    ensures { TakesAll on.now result }
+{
+    Taken::Slice(Rows {
+        start: 0,
+        step: 1,
+        count: on.rows(),
+    })
+}
+
+/// All rows of these columns.
+pub(crate) fn whole_columns(on: &ObjRef<'_>, columns: Places, extent: Extent) -> Plan
+    ensures rows { TakesAll on.now result.rows }
+    ensures columns { result.columns ≡ columns }
+    ensures extent { result.extent ≡ extent }
+{
+    Plan {
+        rows: all_rows(on),
+        columns,
+        extent,
+    }
+}
+
+// The columns that a list names.
+fn list_plan(
+    alloc: Global,
+    dict: &TextDict,
+    on: &ObjRef<'_>,
+    items: &[Item],
+) -> Result<Plan, OpFault>
+    requires known { IsKnownTable dict.now on.now }
+    requires shape { on.now.shape ≡ Frame }
+    requires items { (live : Tables) × IsSettled (items_of live) dict.now items.now }
+    ensures plan { (live : Tables) → PlansBy dict.now on.now result
+        (meant.list_reach (table_value dict.now on.now) (items_of live dict.now items.now)) }
+    ensures whole { IfOk result (IsPlanFor on.now) }
+{
+    match scalars_alone(alloc, items)? {
+        Some(cells) => {
+            let places = column_places(alloc, dict, on, &cells)?;
+            Ok(whole_columns(on, places, Extent::Frame))
+        }
+        None => Err(wrong_kind()),
+    }
+}
+
+// The rows that a mask keeps of all columns.
+fn mask_plan(
+    alloc: Global,
+    store: &Store,
+    dict: &TextDict,
+    on: &ObjRef<'_>,
+    mask: ObjId,
+) -> Result<Plan, OpFault>
+    requires table { CanSelect dict.now on.now }
+    requires settled { IsSettledWorld (world store.now dict.now) }
+    requires shape { on.now.shape ≡ Frame }
+    requires mask { IsLiveObject (tables store.now) mask }
+    ensures plan { PlansBy dict.now on.now result (meant.mask_reach (table_value dict.now on.now)
+        (object_value (tables store.now) dict.now mask)) }
+    ensures whole { IfOk result (IsPlanFor on.now) }
+{
+    let rows = mask_rows(alloc, store, dict, on, mask)?;
+    let columns = all_columns(alloc, on)?;
+    Ok(plan_of(Reach { rows, columns }))
+}
+
+// What a value in brackets takes from a frame: the column of a label, or the rows of a mask.
+#[tactic(auto, using(crate::proofs::BracketLaws::column_planned))]
+fn value_plan(
+    alloc: Global,
+    store: &Store,
+    dict: &TextDict,
+    on: &ObjRef<'_>,
+    value: Value,
+) -> Result<Plan, OpFault>
+    requires table { CanSelect dict.now on.now }
+    requires settled { IsSettledWorld (world store.now dict.now) }
+    requires shape { on.now.shape ≡ Frame }
+    requires value { IsKnownValue (world store.now dict.now) value }
+    ensures plan { PlansBy dict.now on.now result (meant.frame_reach (table_value dict.now on.now)
+        (key_given (one (entry_in (world store.now dict.now) value)))) }
+    ensures whole { IfOk result (IsPlanFor on.now) }
+{
+    match value {
+        Value::Scalar(cell) => {
+            let place = column_place(alloc, dict, on, Label::from(cell))?;
+            let mut columns = Places::new(alloc);
+            columns.push(place)?;
+            Ok(whole_columns(on, columns, Extent::Column))
+        }
+        Value::Object(mask) => mask_plan(alloc, store, dict, on, mask),
+    }
+}
+
+// What brackets take from a frame: a column, a list of columns, or the rows of a mask.
+fn frame_plan(
+    alloc: Global,
+    store: &Store,
+    dict: &TextDict,
+    on: &ObjRef<'_>,
+    key: &Subscript,
+) -> Result<Plan, OpFault>
+    requires table { CanSelect dict.now on.now }
+    requires settled { IsSettledWorld (world store.now dict.now) }
+    requires shape { on.now.shape ≡ Frame }
+    requires key { IsKnownSubscript (world store.now dict.now) key.now }
+    ensures plan { PlansBy dict.now on.now result (meant.frame_reach (table_value dict.now on.now)
+        (subscript_in (world store.now dict.now) key.now)) }
+    ensures whole { IfOk result (IsPlanFor on.now) }
+{
+    match key {
+        Subscript::Key(Argument::One(value)) => value_plan(alloc, store, dict, on, *value),
+        Subscript::Key(Argument::Many(items)) => list_plan(alloc, dict, on, items.as_slice()),
+        _ => Err(wrong_kind()),
+    }
+}
+
+// Whether each part is a truth value.
+fn are_truths(items: &[Item]) -> bool
+    ensures { (live : Tables) (texts : List OneText)
+        → result ≡ each_truth (items_of live texts items.now) }
+{
+    for item in items {
+        if !matches!(item.scalar(), Some(Cell::Bool(_))) {
+            return false;
+        }
+    }
+    true
+}
+
+// Whether the key is a list of truth values alone, and not empty.
+#[tactic(auto, using(crate::proofs::TruthLaws::truth_list_is))]
+fn is_truth_list(key: &Subscript) -> bool
+    ensures { (live : Tables) (texts : List OneText)
+        → result ≡ meant.is_truth_list (subscript_of live texts key.now) }
+{
+    match key {
+        Subscript::Key(Argument::Many(items)) => items.len() > 0 && are_truths(items.as_slice()),
+        _ => false,
+    }
+}
+
+// What an accessor takes.
+fn access_plan(
+    alloc: Global,
+    store: &Store,
+    dict: &TextDict,
+    on: &ObjRef<'_>,
+    by: Selector,
+    first: &Subscript,
+    second: Option<&Subscript>,
+) -> Result<Plan, OpFault>
+    requires table { CanSelect dict.now on.now }
+    requires settled { IsSettledWorld (world store.now dict.now) }
+    requires first { IsKnownSubscript (world store.now dict.now) first.now }
+    requires second { IsKnownSecond (world store.now dict.now) second }
+    ensures plan { PlansBy dict.now on.now result (reach_by on.now.shape (accessor_of by)
+        (table_value dict.now on.now) (subscript_in (world store.now dict.now) first.now)
+        (second_in (world store.now dict.now) second.entry)) }
+    ensures whole { IfOk result (IsPlanFor on.now) }
+{
+    let reach = reach_by(alloc, store, dict, on, by, first, second)?;
+    Ok(plan_of(reach))
+}
+
+// What brackets take. Those of a Series are `loc`, but for lists of truth values.
+fn plain_plan(
+    alloc: Global,
+    store: &Store,
+    dict: &TextDict,
+    on: &ObjRef<'_>,
+    first: &Subscript,
+    second: Option<&Subscript>,
+) -> Result<Plan, OpFault>
+    requires table { CanSelect dict.now on.now }
+    requires settled { IsSettledWorld (world store.now dict.now) }
+    requires first { IsKnownSubscript (world store.now dict.now) first.now }
+    requires second { IsKnownSecond (world store.now dict.now) second }
+    ensures plan { PlansBy dict.now on.now result (meant.way_reach meant.plain
+        (table_value dict.now on.now) (subscript_in (world store.now dict.now) first.now)
+        (second_in (world store.now dict.now) second.entry)) }
+    ensures whole { IfOk result (IsPlanFor on.now) }
+{
+    if is_truth_list(first) {
+        return Err(wrong_kind());
+    }
+    match (on.shape(), second) {
+        (Shape::Series, _) => access_plan(alloc, store, dict, on, Selector::Loc, first, second),
+        (Shape::Frame, None) => frame_plan(alloc, store, dict, on, first),
+        (Shape::Frame, Some(_)) => Err(wrong_kind()),
+    }
+}
+
+/// What a selection takes from a table, or its first refusal.
+pub(crate) fn plan_for(
+    alloc: Global,
+    store: &Store,
+    dict: &TextDict,
+    on: &ObjRef<'_>,
+    by: Selector,
+    first: &Subscript,
+    second: Option<&Subscript>,
+) -> Result<Plan, OpFault>
+    requires table { CanSelect dict.now on.now }
+    requires settled { IsSettledWorld (world store.now dict.now) }
+    requires first { IsKnownSubscript (world store.now dict.now) first.now }
+    requires second { IsKnownSecond (world store.now dict.now) second }
+    ensures plan { PlansBy dict.now on.now result (meant.way_reach (way_of by)
+        (table_value dict.now on.now) (subscript_in (world store.now dict.now) first.now)
+        (second_in (world store.now dict.now) second.entry)) }
+    ensures whole { IfOk result (IsPlanFor on.now) }
+{
+    match by {
+        Selector::Plain => plain_plan(alloc, store, dict, on, first, second),
+        _ => access_plan(alloc, store, dict, on, by, first, second),
+    }
+}

@@ -1,0 +1,93 @@
+-- What settings make of tables.
+use Rattle.std.specs.Prelude.{◌≡◌, ◌≢◌, ℕ, ◌<◌, ◌≤◌, ◌*◌, List, length, Option, Some, Result, Ok, Err, All}
+use Rattle.cell_core.specs.declared.cell.Cell.{Cell}
+use Rattle.cell_core.specs.declared.cell.Label.{Label}
+use Rattle.cell_core.specs.declared.grid.Shape.TheVariants.{Series}
+use Rattle.column_core.specs.Blocks.{CellBlock}
+use Rattle.column_core.specs.cells.Text.{Text}
+use Rattle.column_core.specs.cells.Fault.{FaultValue}
+use Rattle.frame_store.specs.tables.Settled.{IsSettled}
+use Rattle.frame_store.specs.tables.Table.{NumberedTable, Table, table_value, column_at}
+use Rattle.frame_store.specs.tables.Change.{with_column, with_values, put_at}
+use Rattle.frame_store.specs.tables.Valid.{AreHeadings}
+use Rattle.frame_store.specs.Objects.{Tables, table_at}
+use Rattle.frame_store.specs.Arguments.{shape_at, IsLiveObject}
+use Rattle.frame_store.specs.Parts.{block_column, IsSingle, AreHeld}
+use Rattle.frame_store.specs.Shown.{Refuses, spent}
+use Rattle.frame_store.specs.declared.object.ObjId.{ObjId}
+use Rattle.frame_store.specs.declared.fault.OpFault.{OpFault}
+use Rattle.frame_store.specs.declared.fault.OpFault.TheVariants.{Refused, NoMemory}
+use Rattle.frame_set.specs.declared.changes.Change.{Change}
+use Rattle.frame_set.specs.declared.changes.Change.TheVariants as change
+use Rattle.frame_set.specs.declared.changes.Setting.{Setting}
+use Rattle.frame_set.specs.declared.changes.Setting.TheVariants as setting
+
+-- the table after a change
+abbrev pub changed : NumberedTable → Change → NumberedTable
+changed t (change.Cells rows columns values) = with_values t rows columns values
+changed t (change.Column place label block) = with_column t place (Some label) (block_column block)
+changed t (change.Table made) = made
+
+-- and after a setting, which may move the column of a live Series
+abbrev pub table_after : Tables → NumberedTable → Setting → NumberedTable
+table_after live t (setting.Change change) = changed t change
+table_after live t (setting.Move place label series) = with_column t place (Some label) (column_at (table_at live series.0).columns 0)
+
+-- the headings with the label at a place are those of a table
+abbrev pub MayHead : NumberedTable → Label → ℕ → Type 0
+MayHead t label place = AreHeadings t.shape t.columns_name (put_at t.headings place (Some label))
+
+-- cells for places of the table that its columns hold, and a column that fits it
+pub record FitsCells (t : NumberedTable) (rows columns : List ℕ) (values : List Cell) : Type 0 where
+  pub rows_below : All (λ row. row < length t.labels) rows
+  pub columns_below : All (λ place. place < length t.columns) columns
+  pub count : length values ≡ length rows * length columns
+  pub held : AreHeld t.columns columns values
+
+pub record FitsColumn (t : NumberedTable) (place : ℕ) (label : Label) (block : CellBlock) : Type 0 where
+  pub inside : place ≤ length t.columns
+  pub single : IsSingle block
+  pub rows : length (block_column block).cells ≡ length t.labels
+  pub headings : MayHead t label place
+
+abbrev pub IsChangeOf : NumberedTable → Change → Type 0
+IsChangeOf t (change.Cells rows columns values) = FitsCells t rows columns values
+IsChangeOf t (change.Column place label block) = FitsColumn t place label block
+IsChangeOf t (change.Table made) = Unit {0}
+
+-- the column of a live Series, which is the object that ends, fits the table
+pub record FitsMove (live : Tables) (ends : Option ObjId) (t : NumberedTable) (place : ℕ) (label : Label) (series : ObjId) : Type 0 where
+  pub is : ends ≡ Some series
+  pub shape : shape_at live series ≡ Series
+  pub rows : length (table_at live series.0).labels ≡ length t.labels
+  pub inside : place ≤ length t.columns
+  pub headings : MayHead t label place
+
+abbrev pub IsSettingOf : Tables → Option ObjId → NumberedTable → Setting → Type 0
+IsSettingOf live ends t (setting.Change change) = IsChangeOf t change
+IsSettingOf live ends t (setting.Move place label series) = FitsMove live ends t place label series
+
+-- an object that ends beside the one that is set: it is live, and another one
+abbrev pub MayEnd : Tables → ObjId → ObjId → Type 0
+MayEnd live on id = IsLiveObject live id × (on.0 ≢ id.0)
+
+-- the tables without an object, if there is one, that ends
+abbrev pub ended : Option ObjId → Tables → Tables
+ended ends tables = spent (Ok tt) ends tables
+
+-- The first fault is answered; want of memory may come in place of any answer.
+abbrev pub RefusesBy : List Text → OpFault → Result Table FaultValue → Type 0
+RefusesBy texts (Refused code) meant = Refuses texts code meant
+RefusesBy texts NoMemory meant = Unit {0}
+
+-- What is answered makes the table that is meant, of texts that were given, or the first fault is answered.
+abbrev pub GivesBy : {X : Type 0} → (X → NumberedTable) → List Text → Result X OpFault → Result Table FaultValue → Type 0
+GivesBy table texts (Ok x) meant = (meant ≡ Ok (table_value texts (table x))) × IsSettled table_value texts (table x)
+GivesBy table texts (Err fault) meant = RefusesBy texts fault meant
+
+-- a change does, and a setting
+abbrev pub ChangesBy : List Text → NumberedTable → Result Change OpFault → Result Table FaultValue → Type 0
+ChangesBy texts t result meant = GivesBy (changed t) texts result meant
+
+abbrev pub SetsBy : Tables → List Text → NumberedTable → Result Setting OpFault → Result Table FaultValue → Type 0
+SetsBy live texts t result meant = GivesBy (table_after live t) texts result meant

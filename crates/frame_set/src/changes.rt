@@ -1,0 +1,107 @@
+// Changes of one object, which are tested whole before they are carried out.
+ghost use Rattle.std.specs.Prelude.{◌≡◌, Some, IsSome, IfSome, OnOk, OnErr};
+ghost use Rattle.frame_store.specs.Objects.{tables, table_at, with_object};
+ghost use Rattle.frame_set.specs.Changes.{changed, table_after, ended, IsChangeOf, IsSettingOf, MayEnd};
+
+use cell_core::{Cells, Label, NoMemory, Places};
+use column_core::Block;
+use frame_store::{ObjId, Store, Table};
+
+/// What a setting changes. Each was tested, and all memory for it but the store's own was taken.
+#[derive(Drop)]
+pub(crate) enum Change {
+    /// Cells: a value for each of these rows and columns, row by row.
+    Cells {
+        rows: Places,
+        columns: Places,
+        values: Cells,
+    },
+    /// A whole column under a label, in place of another one or last.
+    Column {
+        place: usize,
+        label: Label,
+        block: Block,
+    },
+    /// The whole table.
+    Table(Table),
+}
+
+/// What a setting does.
+#[derive(Drop)]
+pub(crate) enum Setting {
+    /// A change by cells of its own.
+    Change(Change),
+    /// The column of a Series, which ends, moves under a label, in place of another one or last.
+    Move {
+        place: usize,
+        label: Label,
+        series: ObjId,
+    },
+}
+
+// Carries a change out. `NoMemory` leaves all objects as they were.
+fn carry_change(store: &mut Store, on: ObjId, change: Change) -> Result<(), NoMemory>
+    requires live { IsSome (tables store.old on.0) }
+    requires change { IsChangeOf (table_at (tables store.old) on.0) change }
+    ensures ok { OnOk result (tables store.new ≡ with_object (tables store.old) on.0
+        (Some (changed (table_at (tables store.old) on.0) change))) }
+    ensures err { OnErr result (tables store.new ≡ tables store.old) }
+{
+    match change {
+        Change::Cells {
+            rows,
+            columns,
+            values,
+        } => store.set_cells(on, &rows, &columns, &values),
+        Change::Column {
+            place,
+            label,
+            block,
+        } => store.put_column(on, place, Some(label), block),
+        Change::Table(table) => {
+            let grown = store.insert(table)?;
+            store.replace(on, grown);
+            Ok(())
+        }
+    }
+}
+
+// Ends an object, if there is one to end.
+fn end(store: &mut Store, ends: Option<ObjId>)
+    requires { IfSome ends (λ id. IsSome (tables store.old id.0)) }
+    ensures { tables store.new ≡ ended ends (tables store.old) }
+{
+    if let Some(id) = ends {
+        store.drop_object(id);
+    }
+}
+
+/// Carries a setting out, with which an object ends, if there is one. `NoMemory` leaves all
+/// objects as they were.
+pub(crate) fn carry_out(
+    store: &mut Store,
+    on: ObjId,
+    setting: Setting,
+    ends: Option<ObjId>,
+) -> Result<(), NoMemory>
+    requires live { IsSome (tables store.old on.0) }
+    requires setting { IsSettingOf (tables store.old) ends
+        (table_at (tables store.old) on.0) setting }
+    requires ends { IfSome ends (MayEnd (tables store.old) on) }
+    ensures ok { OnOk result (tables store.new ≡ with_object (ended ends (tables store.old)) on.0
+        (Some (table_after (tables store.old) (table_at (tables store.old) on.0) setting))) }
+    ensures err { OnErr result (tables store.new ≡ tables store.old) }
+{
+    match setting {
+        Setting::Change(change) => {
+            carry_change(store, on, change)?;
+            end(store, ends);
+            Ok(())
+        }
+        Setting::Move {
+            place,
+            label,
+            series,
+        } => store.move_column(on, place, Some(label), series),
+    }
+}

@@ -1,0 +1,8 @@
+use Rattle.frame_signatures.proofs.SureLaws.{frame_sure, sure_told, told_there}
+use Rattle.frame_signatures.proofs.bound.Bound.frame.Goals as goal
+
+pub unwrap-requires : goal.unwrap-requires
+unwrap-requires c = sure_told _ frame_sure c.args.self.now _ _ c.requires (λ live texts. told_there _ _ _ (c.object_or_none.ensures.table live texts))
+
+pub returns-clause-live : goal.returns-clause-live
+returns-clause-live c = λ live h. rw c.unwrap.ensures at (c.object_or_none.ensures.live live h)

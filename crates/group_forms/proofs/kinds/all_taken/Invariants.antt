@@ -1,9 +1,0 @@
-use Rattle.{
-  form_parts.proofs.Common.{◌≡◌, drop, list_all},
-  group_forms.specs.Columns.{takes_at},
-}
-use Rattle.group_forms.proofs.kinds.all_taken.Given as goal
-
--- the columns from here on decide it
-abbrev pub invariant-loop-k : goal.invariant-loop-k
-invariant-loop-k l = list_all (takes_at l.call l.on) (drop l.k l.places) ≡ list_all (takes_at l.call l.on) l.places

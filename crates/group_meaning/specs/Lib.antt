@@ -1,4 +1,0 @@
-pub mod Keys
-pub mod Rows
-pub mod Reductions
-pub mod Grouping

@@ -1,9 +1,0 @@
-use Rattle.{
-  form_parts.proofs.Common.{get_or_default, filter-append, nat_eq, arith},
-  selections.proofs.PickedLaws.{one_more_place},
-  label_methods.proofs.{NamedLaws.{other_same}, named_columns.places_besides.Goals.{then-not-index+in_ok-push}},
-}
-use Rattle.label_methods.proofs.named_columns.places_besides.Goals as goal
-
-pub loop-place-preserved : goal.loop-place-preserved
-loop-place-preserved = grind (arith, nat_eq, get_or_default, then-not-index+in_ok-push, one_more_place, filter-append, other_same)

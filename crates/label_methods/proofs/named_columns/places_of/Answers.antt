@@ -1,6 +1,0 @@
-use Rattle.form_parts.proofs.Common.{◌∙◌, sym, ◌++◌}
-use Rattle.label_methods.proofs.named_columns.places_of.Goals as goal
-
-pub column_places-requires-clause-cells : goal.column_places-requires-clause-cells
-column_places-requires-clause-cells c = λ more.
-    c.in_ok-cells.ensures (c.args.dict.now ++ more) ∙ c.requires.items more ∙ sym (c.in_ok-cells.ensures _)

@@ -1,9 +1,0 @@
-use Rattle.{
-  form_parts.proofs.Common.{◌≡◌, map, take},
-  label_methods.specs.Reindexed.{heading_of},
-}
-use Rattle.label_methods.proofs.reindexing.labels_as_headings.Given as goal
-
--- the headings so far
-abbrev pub invariant-loop-row : goal.invariant-loop-row
-invariant-loop-row l = l.headings.items ≡ map heading_of (take l.row l.axis.tuples)

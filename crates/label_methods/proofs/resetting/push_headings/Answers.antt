@@ -1,9 +1,0 @@
-use Rattle.{
-  form_parts.proofs.Common.{arith},
-  label_methods.proofs.ResetLaws.{one_more_heading},
-}
-use Rattle.label_methods.proofs.resetting.push_headings.Goals as goal
-
-pub loop-place-preserved : goal.loop-place-preserved
-loop-place-preserved c =
-    one_more_heading c.args.on.now _ _ _ _ _ _ (omega arith) c.heading.ensures.value c.column_label.ensures c.in_ok-push.ensures.items c.loop-place.invariant

@@ -1,0 +1,8 @@
+pub mod Keys
+pub mod Rows
+pub mod Reductions
+pub mod Grouping
+-- definitions of crates below, passed on to the crates above
+pub use Rattle.meaning_align.specs as align
+pub use Rattle.meaning_align.specs.pick as pick
+pub use Rattle.meaning_align.specs.sorting as sorting

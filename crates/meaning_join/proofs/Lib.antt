@@ -1,0 +1,4 @@
+-- laws of crates below, passed on to the crates above
+pub use Rattle.meaning_align.proofs as align
+pub use Rattle.meaning_align.proofs.pick as pick
+pub use Rattle.meaning_tables.proofs as tables

@@ -1,0 +1,248 @@
+-- `pd.concat` makes a valid table of valid ones.
+use Rattle.{
+  meaning_script.{proofs.{cells.Common.{◌≡◌, ◌≢◌, ◌∙◌, refl, sym, ap, ℕ, suc, ◌+◌, ◌<◌, List, [], ◌∷◌, length, map, filter, length-append, arith, eqb-true, false≢true, nat_tests, length-map, length-map-range_with_len, All-nil, All-cons, All-head, All-tail, All-filter, All-append, filter_passes, AllPairs-cons, AllPairs-filter, Bool, true, false, not, nat_lt, fold, slice_index_or, unwrap_or, Option, Some, None, IsSome, IfSome, Result, IfOk, All, Decides, list_all, flat_map, as_long, Kind, Shape, Series, Frame, ColumnValue, FaultValue, distinct}, align.OrderLaws.{all_flat, all_distinct}, tables.KindLaws.{kind_is}}, specs.{join.Concat.{same_kind, united, labels_under}, tables.{Table.{Table, column_at}, Valid.{IsValid, AreHeadings}, Value.{Entry, Given, NamedGiven, list_in}}, form.{Finish.{finished, same_heading, value_of_column}, Infix.{same_tuple, common_name}}, method.Concat.{Concatenation, tables_of, kept_names, level_names_of_all, columns_name_of_all, have_same_levels, labels_of_tables, RowAxis, rows_below, columns_below, column_under, column_or_missing, frame_column_below, is_series, table_below, finished_below, series_below, frames_below, are_series, are_frames, numbered_from, headings_beside, rows_met, columns_beside, table_beside, beside, with_keys, along, concatenated, concat_result, concat_call}}},
+  meaning_laws.{specs.Validity.{IsValidArgument, AreValidArguments}, proofs.{Words.{Has, AllOf, Keeps, Column, Name, Tuple, Cells, Apart, Levelled, IsFrame}, ListLaws.{both_true, all_pass, all_made, all_mapped, then_keeps, try_keeps, on_keeps, on_some_keeps, of_length_keeps}, ColumnLaws.{IsColumn, spread_column, Held, na_held}, TableLaws.{IsShaped, shaped, column_of_table, series_heading, frame_headings, one_column, label_decides}, InfixLaws.{columns_on}, GroupLaws.{AreLabels, frame_keeps}, SetLaws.{length_default, default_levels}, ArgumentLaws.{argument_valid}}},
+}
+
+abbrev AreShaped : List Table → Type 0
+AreShaped ts = All IsShaped ts
+
+-- the labels of all rows
+abbrev all_labels : List Table → List Tuple
+all_labels ts = flat_map (λ labels. labels) (labels_of_tables ts)
+
+-- columns one below the other
+
+abbrev AreColumns : (Table → Column) → List Table → Type 0
+AreColumns f ts = All (λ t. IsColumn (length t.labels) (f t)) ts
+
+module _ (f : Table → Column) where
+  abbrev Fits : Table → Type 0
+  Fits t = IsColumn (length t.labels) (f t)
+
+  abbrev parts : List Table → List ColumnValue
+  parts ts = map value_of_column (map f ts)
+
+  abbrev cells : List Table → Cells
+  cells ts = flat_map (λ part. part.cells) (parts ts)
+
+  cells_count : (ts : List Table) → AreColumns f ts → length (cells ts) ≡ length (all_labels ts)
+  cells_count [] h = refl
+  cells_count (t ∷ ts) h = grind (arith, length-append, h 0 t, cells_count ts (All-tail Fits t ts h))
+
+  cells_held : (kind : Kind) (ts : List Table) → AreColumns f ts → list_all (λ (other : ColumnValue). same_kind kind other.kind) (parts ts) ≡ true → All (Held kind) (cells ts)
+  cells_held kind [] h alike = All-nil (Held kind)
+  cells_held kind (t ∷ ts) h alike =
+      let both = both_true _ _ alike in
+      All-append (Held kind) (f t).cells (cells ts)
+      (rw (kind_is kind (f t).kind both.0) (All-head Fits t ts h).held) (cells_held _ ts (All-tail Fits t ts h) both.1)
+
+  below_held : (ts : List Table) → AreColumns f ts → IfOk (columns_below (map f ts)) (IsColumn (length (all_labels ts)))
+  below_held [] h = grind arith
+  below_held (t ∷ ts) h =
+      let count = cells_count (t ∷ ts) h in
+      let all = λ (e : list_all (λ other. same_kind (f t).kind other.kind) (parts ts) ≡ true). All-append (Held (f t).kind) (f t).cells (cells ts) (All-head Fits t ts h).held (cells_held _ ts (All-tail Fits t ts h) e) in
+      grind arith
+
+below_is : (a b : ℕ) → nat_lt a b ≡ true → a < b
+below_is a b e = grind (arith, nat_tests)
+
+or_else : {X : Type 0} (P : X → Type 0) (o : Option X) (x : X) → IfSome o P → P x → P (unwrap_or o x)
+or_else P = grind arith
+
+column_held : (h : Name) (kind : Kind) (t : Table) → IsShaped t → IsColumn (length t.labels) (column_or_missing h kind t)
+column_held h kind t s = or_else (IsColumn (length t.labels)) (column_under h t) _ (grind (arith, below_is, column_of_table)) (spread_column _ _ _ (na_held kind))
+
+frame_column_held : (ts : List Table) (h : Name) → AreShaped ts → IfOk (frame_column_below ts h) (IsColumn (length (all_labels ts)))
+frame_column_held = search (below_held, column_held)
+
+-- the names of levels
+
+kept_count : (as' bs : List Name) → length (kept_names as' bs) ≡ length as'
+kept_count [] bs = refl
+kept_count (a ∷ as') bs = grind (arith, kept_count as')
+
+fold_count : (names : List Name) (more : List (List Name)) → length (fold kept_names names more) ≡ length names
+fold_count names [] = refl
+fold_count names (m ∷ more) = fold_count (kept_names names m) more ∙ kept_count _ m
+
+names_count : (t : Table) (ts : List Table) → length (level_names_of_all (t ∷ ts)) ≡ length t.level_names
+names_count = search fold_count
+
+-- Series have no name of columns
+no_common : (names : List Name) → fold common_name None names ≡ None
+no_common [] = refl
+no_common (name ∷ names) = grind (arith, no_common names)
+
+-- tables of so many levels
+abbrev HaveLevels : ℕ → List Table → Type 0
+HaveLevels n ts = All (λ t. Levelled n t.labels) ts
+
+module _ (n : ℕ) (ts : List Table) (h : HaveLevels n ts) where
+  labels_have : All (All (Has n)) (labels_of_tables ts)
+  labels_have = all_made (λ t. Levelled n t.labels) (All (Has n)) (λ t. t.labels) (λ t k. k) ts h
+
+  all_have : Levelled n (all_labels ts)
+  all_have = all_flat (Has n) _ (λ labels. labels) (λ labels k. k) (labels_of_tables ts) (labels_have)
+
+-- the labels of the parts
+
+under_count : (keys : Tuple) (ts : List Table) → length keys ≡ length ts → length (labels_under keys (labels_of_tables ts)) ≡ length (all_labels ts)
+under_count [] [] e = refl
+under_count (key ∷ keys) (t ∷ ts) e = search (length-map, length-append, under_count keys ts (omega (arith, e)))
+under_count _ _ e = search
+
+under_have : (n : ℕ) (keys : Tuple) (ts : List Table) → HaveLevels n ts → Levelled (suc n) (labels_under keys (labels_of_tables ts))
+under_have n (key ∷ keys) (t ∷ ts) h =
+    let first = all_made _ (Has (suc n)) (λ tuple. key ∷ tuple) (λ tuple k. ap suc k) t.labels (All-head (λ t. Levelled n t.labels) t ts h) in
+    let rest = under_have n keys ts (All-tail (λ t. Levelled n t.labels) t ts h) in
+    search All-append
+under_have n _ _ h = grind arith
+
+-- a label for each part
+abbrev AreKeys : ℕ → Bool → Option Tuple → Type 0
+AreKeys count renumbered keys = renumbered ≡ false → IfSome keys (λ ks. length ks ≡ count)
+
+record IsAxis (rows : ℕ) (a : RowAxis) : Type 0 where
+  count : length a.labels ≡ rows
+  levels : All (Has (length a.names)) a.labels
+
+axis_is : (t : Table) (ts : List Table) (renumbered : Bool) (keys : Option Tuple) → HaveLevels (length t.level_names) (t ∷ ts) → AreKeys (length (t ∷ ts)) renumbered keys
+    → IsAxis (length (all_labels (t ∷ ts))) (rows_below renumbered keys (t ∷ ts))
+axis_is t ts true keys = search (length_default, default_levels)
+axis_is t ts false None = search (names_count, all_have)
+axis_is t ts false (Some keys) = search (under_count, names_count, under_have)
+
+-- one below the other
+
+frame_is : (s : Shape) → not (is_series s) ≡ true → s ≡ Frame
+frame_is = grind arith
+
+abbrev AreOf : Shape → List Table → Type 0
+AreOf shape ts = All (λ t. t.shape ≡ shape) ts
+
+all_series : (ts : List Table) → are_series ts ≡ true → AreOf Series ts
+all_series = grind (arith, all_pass)
+
+all_frames : (ts : List Table) → are_frames ts ≡ true → AreOf Frame ts
+all_frames = grind (arith, all_pass)
+
+-- labels of columns that differ
+
+heading_decides : (a b : Name) → Decides (same_heading a b) (a ≡ b)
+heading_decides = grind (arith, label_decides)
+
+module _ {K : Type 0} (same : K → K → Bool) where
+  distinct_apart : ((a b : K) → Decides (same a b) (a ≡ b)) → (xs : List K) → Apart (distinct same xs)
+  distinct_apart decides [] = grind arith
+  distinct_apart decides (x ∷ xs) =
+      let others = filter (λ q. not (same q x)) (distinct same xs) in
+      AllPairs-cons (λ a b. a ≢ b) x _
+      (grind (arith, false≢true, filter_passes))
+      (AllPairs-filter (λ a b. a ≢ b) (λ q. not (same q x)) _ (distinct_apart decides xs))
+
+  united_all : (P : K → Type 0) (inner : Bool) (first : List K) (others : List (List K)) → All (All P) (first ∷ others) → All P (united same inner (first ∷ others))
+  united_all P true first others h = All-filter _ P _ (All-head (All P) first others h)
+  united_all P false first others h = search (all_distinct, all_flat)
+
+  united_apart : ((a b : K) → Decides (same a b) (a ≡ b)) → (inner : Bool) (first : List K) (others : List (List K)) → Apart first → Apart (united same inner (first ∷ others))
+  united_apart decides true first others h = AllPairs-filter (λ a b. a ≢ b) _ _ h
+  united_apart decides false first others h = search distinct_apart
+
+module _ (t : Table) (ts : List Table) (s : AreShaped (t ∷ ts)) (c : Concatenation) where
+  abbrev all : List Table
+  all = t ∷ ts
+
+  abbrev rows : ℕ
+  rows = length (all_labels all)
+
+  first : IsShaped t
+  first = grind arith
+
+  module _ (levels : HaveLevels (length t.level_names) all) (keys : AreKeys (length all) c.renumbered c.keys) where
+    below_keeps : (shape : Shape) (headings : List Name) (columns : List Column) → AreHeadings shape (columns_name_of_all all) headings → length headings ≡ length columns → All (IsColumn rows) columns
+        → Keeps (finished_below (table_below shape all c headings columns))
+    below_keeps = grind (arith, axis_is, nat_tests)
+
+    series_keep : AreOf Series all → Keeps (series_below all c)
+    series_keep are =
+        let nameless : columns_name_of_all all ≡ None = grind (arith, no_common) in
+        then_keeps _ _ _ _
+        (below_held (λ u. column_at u.columns 0) all (λ k d lt. let u = slice_index_or all k d in column_of_table u (s k d lt) 0 (omega (arith, one_column u (s k d lt) (are k d lt)))))
+        (λ column held. below_keeps _ _ (column ∷ []) (series_heading _ _ _ refl nameless) refl (All-cons (IsColumn rows) column [] held (All-nil (IsColumn rows))))
+
+    frames_keep : AreOf Frame all → Keeps (frames_below all c (united same_heading c.inner (map (λ u. u.headings) all)))
+    frames_keep are =
+        let hs = united same_heading c.inner (map (λ u. u.headings) all) in
+        let labelled = all_made (λ u. IsShaped u × (IsFrame u)) _ (λ u. u.headings) (λ u both. both.0.headings.labelled both.1) all (λ k d lt. (s k d lt, are k d lt)) in
+        let some : All IsSome hs = search united_all in
+        let apart = united_apart _ heading_decides c.inner _ _ (grind arith) in
+        then_keeps (AllOf (IsColumn rows) (length hs)) _ _ _
+        (try_keeps (λ h. Unit {0}) _ _ (λ h _. frame_column_held all h s) hs _)
+        (λ columns made. below_keeps _ hs _ (frame_headings _ _ hs refl some apart) (sym made.0) made.1)
+
+-- side by side
+
+numbered_count : (n : ℕ) (hs : List Name) → length (numbered_from n hs) ≡ length hs
+numbered_count n [] = refl
+numbered_count n (h ∷ hs) = grind (arith, numbered_count (n + 1) hs, numbered_count n hs)
+
+numbered_some : (n : ℕ) (hs : List Name) → AreLabels (numbered_from n hs)
+numbered_some n [] = All-nil IsSome
+numbered_some n (h ∷ hs) = grind (arith, numbered_some (n + 1) hs, numbered_some n hs)
+
+headings_count : (renumbered : Bool) (hs : List Name) → length (headings_beside renumbered hs) ≡ length hs
+headings_count = grind (arith, length-map-range_with_len, numbered_count)
+
+headings_some : (renumbered : Bool) (hs : List Name) → AreLabels (headings_beside renumbered hs)
+headings_some true hs = search all_mapped
+headings_some false hs = numbered_some 0 hs
+
+met_count : (own labels : List Tuple) → length (rows_met own labels) ≡ length labels
+met_count own labels = grind (arith, length-map-range_with_len, as_long, length-map)
+
+module _ (labels : List Tuple) where
+  beside_held : (t : Table) → IsShaped t → All (IsColumn (length labels)) (columns_beside labels t)
+  beside_held t s = search (columns_on, met_count)
+
+  beside_count : (ts : List Table) → AreShaped ts → length (flat_map (λ t. t.headings) ts) ≡ length (flat_map (columns_beside labels) ts)
+  beside_count [] s = refl
+  beside_count (t ∷ ts) s = grind (arith, length-append, length-map, (All-head IsShaped t ts s).headed, beside_count ts (All-tail IsShaped t ts s))
+
+module _ (t : Table) (ts : List Table) where
+  module _ (s : AreShaped (t ∷ ts)) (renumbered : Bool) where
+    beside_keeps : (labels : List Tuple) → Levelled (length t.level_names) labels → Keeps (finished (table_beside (t ∷ ts) renumbered labels))
+    beside_keeps labels has =
+        let own : IsShaped t = grind arith in
+        search (names_count, frame_keeps, headings_count, beside_count, all_flat, beside_held, headings_some)
+
+  beside_all_keeps : (c : Concatenation) → AreShaped (t ∷ ts) → Keeps (beside (t ∷ ts) c)
+  beside_all_keeps c s =
+      let n = length t.level_names in
+      let has : have_same_levels (t ∷ ts) ≡ true → All (Levelled n) (labels_of_tables (t ∷ ts)) = λ e. labels_have n (t ∷ ts) (grind (arith, all_pass, eqb-true)) in
+      let all : have_same_levels (t ∷ ts) ≡ true → Levelled n (united same_tuple c.inner (labels_of_tables (t ∷ ts))) = λ e. united_all same_tuple (Has n) c.inner _ _ (has e) in
+      let own = (All-head IsShaped t ts s).levels in
+      grind (arith, beside_keeps)
+
+-- along either axis
+
+along_keeps : (across : Bool) (t : Table) (ts : List Table) (c : Concatenation) → AreShaped (t ∷ ts) → AreKeys (length (t ∷ ts)) c.renumbered c.keys → Keeps (along across (t ∷ ts) c)
+along_keeps true t ts c s keys = beside_all_keeps t ts c s
+along_keeps false t ts c s keys = grind (arith, series_keep, all_pass, eqb-true, all_series, frames_keep, all_frames)
+
+with_keys_keep : (count : ℕ) (across renumbered : Bool) (keys : Option Tuple) (rest : Result Entry FaultValue) → (AreKeys count renumbered keys → Keeps rest) → Keeps (with_keys count across renumbered keys rest)
+with_keys_keep = grind (arith, of_length_keeps)
+
+concatenated_keeps : (across : Bool) (ts : List Table) (c : Concatenation) → AreShaped ts → Keeps (concatenated across ts c)
+concatenated_keeps across [] c s = tt
+concatenated_keeps across (t ∷ ts) c s = search (with_keys_keep, along_keeps)
+
+list_valid : (a : Given) → IsValidArgument a → IfSome (list_in a) (λ parts. All IsValid (tables_of parts))
+list_valid = grind arith
+
+pub concat_result_keeps : (objects axis join renumbered keys : Given) → IsValidArgument objects → Keeps (concat_result (objects ∷ axis ∷ join ∷ renumbered ∷ keys ∷ []))
+concat_result_keeps objects axis join renumbered keys h = search (on_some_keeps, list_valid, on_keeps, concatenated_keeps, shaped)
+
+-- a call of `pd.concat`
+pub concat_call_keeps : (gs : List NamedGiven) → AreValidArguments gs → Keeps (concat_call gs)
+concat_call_keeps gs h = grind (arith, concat_result_keeps, argument_valid)

@@ -1,0 +1,157 @@
+-- A statement leaves a valid state of a valid one.
+use Rattle.{
+  meaning_script.{proofs.cells.Common.{arith, ℕ, List, All-nil, All-cons, Bool, if◌then◌else◌, codes, is_some, Option, Some, None, IfSome, Result, Ok, Err, IfOk, All, Text, Contents, FaultValue}, specs.{language.Tree.{Expr, Step, Arg, Parts, bare, named, Action}, tables.{Table.{Table}, Valid.{IsValid}, Value.{Entry, NamedGiven}}, call.Signature.{function_named}, method.{Calls.{has_method}, Concat.{tables_of}, Readers.{read_result}}, State.{State, without_name}, Reading.{Files, Reading, Reads, then_read, of_bytes, of_path}, Expression.{target_of, value_of_name, where_named, made, value_of, stepped, brackets_of, given_of, part_of, parts_of, named_of}, Statement.{Answer, then_answer, with_value, set_answer, statement_result}}},
+  meaning_laws.{specs.Validity.{IsValidObject, IsValidEntry, IsValidGiven, IsValidArgument, AreValidArguments, IsValidState, LeavesValid, HasHeldLiterals, IsHeldArgument, IsHeldAction}, proofs.{Words.{Keeps}, InfixLaws.{infix_result_keeps, sign_result_keeps}, ReachLaws.{select_result_keeps, length_result_keeps}, SetLaws.{assign_result_keeps, removal_result_keeps}, MethodLaws.{chain_result_keeps}, CsvLaws.{read_result_keeps}, ArgumentLaws.{more_valid}, CallLaws.{call_result_keeps, function_result_keeps}}},
+}
+use Rattle.meaning_script.specs.language.Tree as tree
+use Rattle.meaning_script.specs.method.Calls as calls
+
+abbrev Any : {A : Type 0} → A → Type 0
+Any a = Unit {0}
+
+object : (v : Entry) → IsValidEntry v → IsValidObject v
+object = grind arith
+
+-- a value goes on, and a fault stops
+read_keeps : {A B : Type 0} (P : A → Type 0) (Q : B → Type 0) (r : Reads A) (go : A → Reads B) → IfOk r.answer P → ((a : A) → P a → IfOk (go a).answer Q) → IfOk (then_read r go).answer Q
+read_keeps P Q = grind arith
+
+after_any : {A B : Type 0} (Q : B → Type 0) (r : Reads A) (go : A → Reads B) → ((a : A) → IfOk (go a).answer Q) → IfOk (then_read r go).answer Q
+after_any = grind arith
+
+named_keeps : (known : Bool) (n : Text) (rest : Reads Entry) → Keeps rest.answer → IfOk (where_named known n rest).answer IsValidEntry
+named_keeps = grind arith
+
+-- calls of the functions of `pd`
+
+bytes_keep : (name : Text) (bytes : Option (List ℕ)) (gs : List NamedGiven) → Keeps (of_bytes name bytes (λ bytes. read_result bytes gs))
+bytes_keep name None gs = tt
+bytes_keep name (Some bytes) gs = read_result_keeps bytes gs
+
+path_keeps : (held : Contents) (name : Text) (path : Option Text) (gs : List NamedGiven) → IfOk (of_path held name path (λ bytes. read_result bytes gs)).answer IsValidEntry
+path_keeps = grind (arith, bytes_keep)
+
+made_keeps : (files : Files) (f : Text) (gs : List NamedGiven) → AreValidArguments gs → IfOk (made files f gs).answer IsValidEntry
+made_keeps files f gs h =
+    let called = function_result_keeps None f gs h in
+    grind (arith, path_keeps)
+
+-- expressions
+
+name_keeps : (n : Text) (o : Option Entry) → IfSome o IsValidEntry → Keeps (value_of_name n o)
+name_keeps = grind arith
+
+-- the value of an expression: a table is valid, and a column can hold a scalar where it can hold the literals
+record IsValueOf (x : Expr) (v : Entry) : Type 0 where
+  valid : IsValidObject v
+  held : HasHeldLiterals x → IsValidEntry v
+
+abbrev Gives : Expr → Reads Entry → Type 0
+Gives x r = IfOk r.answer (IsValueOf x)
+
+gives_valid : (x : Expr) (r : Reads Entry) → Keeps r.answer → Gives x r
+gives_valid = grind arith
+
+module _ (files : Files) (s : State) (valid : IsValidState s) where
+  mutual
+    value_valid : (x : Expr) → Gives x (value_of files s x)
+    value_valid (tree.name n) = grind (arith, name_keeps, gives_valid, valid n)
+    value_valid (tree.literal v) = record { valid = tt; held = λ h. h }
+    value_valid (tree.unary o x) = grind (arith, value_valid x, sign_result_keeps)
+    value_valid (tree.binary o x y) =
+        gives_valid (tree.binary o x y) (value_of files s (tree.binary o x y))
+        (read_keeps (IsValueOf x) IsValidEntry (value_of files s x) _ (value_valid x)
+        (λ v k. read_keeps (IsValueOf y) IsValidEntry (value_of files s y) _ (value_valid y) (λ w l. infix_result_keeps o v w k.valid l.valid)))
+    value_valid (tree.after x step) = grind (arith, value_valid x, λ (v : Entry) (h : IsValidObject v). step_keeps v step h)
+    value_valid (tree.len x) = grind (arith, length_result_keeps)
+    value_valid (tree.make f args) =
+        gives_valid (tree.make f args) (value_of files s (tree.make f args))
+        (named_keeps (is_some (function_named f)) f _ (read_keeps AreValidArguments IsValidEntry (named_of files s args) _ (arguments_valid args) (λ gs k. made_keeps files f gs k)))
+    value_valid (tree.paren x) = parens (value_of files s x).answer (value_valid x)
+      where
+        parens : (o : Result Entry FaultValue) → IfOk o (IsValueOf x) → IfOk o (IsValueOf (tree.paren x))
+        parens (Ok v) h = record { valid = h.valid; held = h.held }
+        parens (Err fault) h = tt
+
+    step_keeps : (v : Entry) (step : Step) → IsValidObject v → IfOk (stepped files s v step).answer IsValidEntry
+    step_keeps v (tree.item a) h = grind (arith, select_result_keeps)
+    step_keeps v (tree.access by first second) h = grind (arith, select_result_keeps)
+    step_keeps v (tree.method n args) h =
+        named_keeps (has_method v n) n _ (read_keeps AreValidArguments IsValidEntry (named_of files s args) _ (arguments_valid args) (λ gs k. call_result_keeps v (calls.plain n) gs h k))
+    step_keeps v (tree.group args by n more) h =
+        named_keeps (has_method v (codes "groupby")) (codes "groupby") _
+        (after_any IsValidEntry (named_of files s args) _ (λ g. after_any IsValidEntry (brackets_of files s by) _ (λ k. after_any IsValidEntry (named_of files s more) _ (λ gs. chain_result_keeps v (calls.grouped g k n) gs h))))
+    step_keeps v (tree.rolling args n more) h = grind (arith, chain_result_keeps)
+    step_keeps v (tree.expanding args n more) h = grind (arith, chain_result_keeps)
+
+    argument_valid : (a : Arg) → IfOk (given_of files s a).answer IsValidArgument
+    argument_valid (tree.expr x) = grind (arith, value_valid x)
+    argument_valid (tree.many parts) = grind (arith, parts_valid parts)
+    argument_valid (tree.row parts) = grind arith
+    argument_valid (tree.table pairs) = grind arith
+    argument_valid tree.nothing = tt
+
+    part_valid : (a : Arg) → IfOk (part_of files s a).answer IsValidArgument
+    part_valid (tree.expr x) = grind (arith, value_valid x)
+    part_valid (tree.row parts) = grind arith
+    part_valid (tree.many parts) = tt
+    part_valid (tree.table pairs) = tt
+    part_valid tree.nothing = tt
+
+    parts_valid : (parts : Parts bare) → IfOk (parts_of files s parts).answer (λ gs. All IsValid (tables_of gs))
+    parts_valid tree.no_parts = All-nil IsValid
+    parts_valid (tree.more_parts tag a rest) =
+        read_keeps IsValidArgument (λ gs. All IsValid (tables_of gs)) (part_of files s a) _ (part_valid a)
+        (λ g h. read_keeps (λ gs. All IsValid (tables_of gs)) (λ gs. All IsValid (tables_of gs)) (parts_of files s rest) _ (parts_valid rest) (λ gs k. more_valid g gs h k))
+
+    arguments_valid : (args : Parts named) → IfOk (named_of files s args).answer AreValidArguments
+    arguments_valid tree.no_parts = All-nil (λ (g : NamedGiven). IsValidArgument g.value)
+    arguments_valid (tree.more_parts n a rest) =
+        read_keeps IsValidArgument AreValidArguments (given_of files s a) _ (argument_valid a)
+        (λ g h. read_keeps AreValidArguments AreValidArguments (named_of files s rest) _ (arguments_valid rest)
+        (λ gs k. All-cons (λ (g : NamedGiven). IsValidArgument g.value) record { name = n; value = g } gs h k))
+
+-- what an expression gives in a valid state
+pub value_of_keeps : (files : Files) (s : State) → IsValidState s → (x : Expr) → HasHeldLiterals x → IfOk (value_of files s x).answer IsValidEntry
+value_of_keeps files s valid x h =
+    let gives = value_valid files s valid x in
+    grind arith
+
+given_keeps : (files : Files) (s : State) → IsValidState s → (a : Arg) → IsHeldArgument a → IfOk (given_of files s a).answer IsValidGiven
+given_keeps files s valid (tree.expr x) h =
+    let value = value_of_keeps files s valid x h in
+    grind arith
+given_keeps files s valid tree.nothing h = tt
+given_keeps files s valid _ h = search after_any
+
+-- states
+
+chosen : (b : Bool) (o p : Option Entry) → IfSome o IsValidEntry → IfSome p IsValidEntry → IfSome (if b then o else p) IsValidEntry
+chosen = grind arith
+
+bound_valid : (s : State) (x : Text) (o : Option Text) (v : Entry) → IsValidState s → IsValidEntry v → IsValidState (with_value s x o v)
+bound_valid = grind arith
+
+set_valid : (s : State) (o : Option Text) (r : Result Table FaultValue) → IsValidState s → IfOk r IsValid → LeavesValid (set_answer s o r)
+set_valid = grind (arith, chosen)
+
+pub without_valid : (s : State) (x : Text) → IsValidState s → IsValidState (without_name s x)
+without_valid = search chosen
+
+-- statements
+
+answer_keeps : {A : Type 0} (P : A → Type 0) (r : Reads A) (go : A → Reading Answer) → IfOk r.answer P → ((a : A) → P a → LeavesValid (go a).answer) → LeavesValid (then_answer r go).answer
+answer_keeps P = grind arith
+
+-- The names stand for valid tables after a statement if they do before it.
+pub statement_keeps : (files : Files) (s : State) (f : Action) → IsValidState s → IsHeldAction f → LeavesValid (statement_result files s f).answer
+statement_keeps files s tree.import_pandas valid h = valid
+statement_keeps files s (tree.bind x e) valid h = answer_keeps _ (value_of files s e) _ (value_of_keeps files s valid e h) (λ v k. bound_valid s x _ v valid k)
+statement_keeps files s (tree.put x step a) valid h =
+    answer_keeps _ (given_of files s a) _ (given_keeps files s valid a h.1)
+    (λ g k. answer_keeps IsValidEntry (value_of files s x) _ (value_of_keeps files s valid x h.0)
+    (λ v l. answer_keeps Any (target_of files s step) _ (grind arith)
+    (λ target _. set_valid s _ _ valid (search (assign_result_keeps, object)))))
+statement_keeps files s (tree.drop_name n) valid h = grind (arith, answer_keeps, without_valid)
+statement_keeps files s (tree.drop_column n x) valid h = grind (arith, answer_keeps, name_keeps, set_valid, removal_result_keeps, object)
+statement_keeps files s (tree.print x end) valid h = grind (arith, answer_keeps)

@@ -1,0 +1,223 @@
+-- What one statement of a run, its lines and its failures make of the run.
+use Rattle.{
+  script_session.{proofs.cells.Common.{err_from_is_err_and, lt-ltb, le-ltb, append-nil, nil_from_length, flat_map-append, rules, ◌≡◌, ◌≢◌, ℕ, zero, suc, ◌+◌, ◌<◌, ◌≤◌, length, List, [], ◌∷◌, ◌++◌, drop, Option, Some, refl, sym, ◌∙◌, ap, append_assoc, length-append, add-zero, arith, inl, inr, ◌⊎◌, codes, slice_get, Bool, IfSome, IfErr, IsErrAnd, Result, ⊤, Text, Contents, FaultValue, fault_text}, specs.{language.Tree.{Statement}, script.{Reading.{Files, Reading, at_once}, State.{State}, Statement.{Answer, done, refused, statement_result}, Run.{RunStep, RunResult, Ending, fault, errors_of, before_fetch, after_step, after_answer, after_reading, statements_result, warning_line, line_about, with_line}}, script_state.Reads.{Goes, Stuck, count_after}}},
+  std.proofs.Math.ListN.{drop_of_length-le},
+  outside_io.{specs.{Count.{HasRisen}, Files.{FilesValue}, Sink.{appended, AppendsFront, AppendsPart}}, proofs.Appended.{appended-appended, appended-nil}},
+  script_run.{specs.{Ends.{Outside, Ends, EndsAs, EndsEarly, EndsUnwritten, EndsUnread, EndsWithLine, Is, status_of}, Steps.{Does, ComesTo, GoesOn, Stops, after_steps}, declared.status.Status.{Status, TheVariants.{Done, Fault, Input, Output, Memory}}}, proofs.{Options.{some-told}, StepLaws.{Written, fetches_of-append, before_fetch-append, before_byte-append, count_after-add, does_one, does_more, text_more}}},
+}
+
+-- nothing was written yet
+pub nothing_yet : (old new : Written) (whole : Text) → new ≡ old → AppendsFront old new whole
+nothing_yet = grind (arith, appended-nil)
+
+-- a front of a front
+front_of : (old new : Written) (whole rest : Text) → AppendsFront old new whole → AppendsFront old new (whole ++ rest)
+front_of _ _ _ rest f = (f.0, f.1 ++ rest, f.2, grind (arith, append_assoc))
+
+-- a front of what comes after a text that was written
+front_after : (text whole both : Text) (old mid new : Written) → both ≡ text ++ whole → mid ≡ appended old text → AppendsFront mid new whole → AppendsFront old new both
+front_after = grind (arith, appended-appended, append_assoc)
+
+-- a part of a text that more follows
+part_of : (old new : Written) (whole rest : Text) → AppendsPart old new whole → AppendsPart old new (whole ++ rest)
+part_of _ _ _ rest f = (f.0, f.1 ++ rest, more _ f.2, f.3, grind (arith, append_assoc))
+  where
+    more : (some : Text) → some ≢ [] → some ++ rest ≢ []
+    more [] none _ = none refl
+    more (b ∷ bs) some is = cc
+
+-- the result of one step, and then of others
+abbrev pub first_then : RunStep → List RunStep → Ending → RunResult
+first_then step others ending = record { steps = step ∷ others; ending = ending }
+
+module _ (old new : Outside) where
+  -- nothing was written
+  pub early_none : (means : RunResult → Type 0) (r : RunResult) → means r → new.out ≡ old.out → new.err ≡ old.err → EndsEarly means old new
+  early_none = search nothing_yet
+
+  module _ (step : RunStep) (others : List RunStep) (ending : Ending) where
+    -- the errors of the first step could not be written
+    unwritten_first : new.out ≡ old.out → AppendsPart old.err new.err step.errors → EndsUnwritten (Is (first_then step others ending)) old new
+    unfolding part_of
+    unwritten_first out part =
+        let all : AppendsPart old.err new.err (errors_of (step ∷ others)) = search part_of in
+        grind (arith, lt-ltb, length-append, nil_from_length, nothing_yet, appended-nil)
+
+    -- they were written, but not what it prints
+    unwritten_output : AppendsFront old.out new.out step.output → new.err ≡ appended old.err step.errors → HasRisen old.out_faults new.out_faults → EndsUnwritten (Is (first_then step others ending)) old new
+    unwritten_output front err risen = (_, refl, front_of _ _ _ _ front, (step.errors, errors_of others, refl, err, grind arith))
+
+    -- they were written in part, for want of memory
+    early_errors : new.out ≡ old.out → AppendsFront old.err new.err step.errors → EndsEarly (Is (first_then step others ending)) old new
+    early_errors out front = (_, refl, nothing_yet _ _ _ out, front_of _ _ _ _ front)
+
+    -- they could not be written, for one of both
+    stops_first : (status : Status) → (status ≡ Output) ⊎ (status ≡ Memory) → new.out ≡ old.out → AppendsPart old.err new.err step.errors → Ends (Is (first_then step others ending)) status old new
+    stops_first _ (inl output) out part = rw output (unwritten_first out part)
+    stops_first _ (inr memory) out part = rw memory (search early_errors)
+
+  -- a read failed in the first step
+  pub unread_first : (means : RunResult → Type 0) (r : RunResult) → means r → (step : RunStep) (others : List RunStep) → r.steps ≡ step ∷ others → (m : ℕ) → m ≤ step.fetches → 0 < m → new.files.fetches ≡ count_after old.files.fetches m → new.out ≡ old.out
+      → AppendsFront old.err new.err (codes "input failed\n") → (¬ (HasRisen old.err_faults new.err_faults) → new.err ≡ appended old.err (codes "input failed\n")) → EndsUnread means old new
+  unread_first = grind (arith, le-ltb, nothing_yet, appended-nil)
+
+  ends_as : (ending : Ending) (means : RunResult → Type 0) → EndsAs means (status_of ending) old new → Ends means (status_of ending) old new
+  ends_as = grind arith
+
+  -- a run of one step whose errors end with a line, where what stands before the line was written
+  pub ends_with_lines : (ending : Ending) (fetches : ℕ) (before line : Text) (result : Status) (mid : Written) → new.out ≡ old.out → mid ≡ appended old.err before → new.files.fetches ≡ count_after old.files.fetches fetches
+      → EndsWithLine line (status_of ending) result mid new.err → Ends (Is (first_then (record { output = []; errors = before ++ line; fetches = fetches }) [] ending)) result old new
+  ends_with_lines _ _ _ _ _ _ out wrote count (inl last) = rw last.0 (ends_as _ _ (grind (arith, appended-nil, append-nil, appended-appended)))
+  ends_with_lines _ _ _ _ _ _ out wrote count (inr (inl last)) =
+      let f = front_after _ _ _ _ _ _ refl wrote last.1 in
+      rw last.0 (_, refl, nothing_yet _ _ _ out, (f.0, f.1, grind (arith, append-nil), f.2, grind (arith, appended-nil)))
+  ends_with_lines _ _ _ _ _ _ out wrote count (inr (inr last)) = search (rules, early_errors)
+
+  -- a run that ends with one line
+  pub ends_with_line : (ending : Ending) (line : Text) (result : Status) → new.out ≡ old.out → new.files.fetches ≡ old.files.fetches → EndsWithLine line (status_of ending) result old.err new.err → Ends (Is (with_line line ending)) result old new
+  ends_with_line = search (rules, ends_with_lines, appended-nil)
+
+-- a meaning after some steps
+abbrev pub After : List RunStep → (RunResult → Type 0) → RunResult → Type 0
+After steps means result = (rest : RunResult) × means rest × (result ≡ after_steps steps rest)
+
+-- a count that hasn't risen has not risen later
+not_later : (old mid new : ℕ) → old ≤ mid → ¬ (HasRisen old new) → ¬ (HasRisen mid new)
+not_later = grind arith
+
+module _ (means : RunResult → Type 0) (steps : List RunStep) (old mid new : Outside) (does : Does steps old mid) where
+  as_after : (status : Status) → EndsAs means status mid new → EndsAs (After steps means) status old new
+  as_after _ t = (
+    after_steps steps t.0,
+    (t.0, t.1, refl),
+    t.2,
+    search text_more,
+    search text_more,
+    grind (arith, count_after-add, fetches_of-append),
+  )
+
+  early_after : EndsEarly means mid new → EndsEarly (After steps means) old new
+  early_after t = (after_steps steps t.0, (t.0, t.1, refl), search (front_after, flat_map-append), search (front_after, flat_map-append))
+
+  unwritten_after : EndsUnwritten means mid new → EndsUnwritten (After steps means) old new
+  unwritten_after t =
+      let rest = t.0 in
+      let last = t.3 in
+      let place = rw (← length-append) at (before_byte-append steps rest.steps (length last.0)) in
+      let no_out = not_later _ _ new.out_faults does.out_faults in (
+        after_steps steps rest,
+        (rest, t.1, refl),
+        search (front_after, flat_map-append),
+        grind (arith, flat_map-append, append_assoc, appended-appended, text_more),
+      )
+
+  unread_after : EndsUnread means mid new → EndsUnread (After steps means) old new
+  unread_after t =
+      let rest = t.0 in
+      let read = t.4 in
+      let place = before_fetch-append steps rest.steps read.0 read.1 in
+      let no_out = not_later _ _ new.out_faults does.out_faults in
+      let no_err = not_later _ _ new.err_faults does.err_faults in
+      let split = flat_map-append (λ step. step.errors) steps (before_fetch read.0 rest.steps) in (
+        after_steps steps rest,
+        (rest, t.1, refl),
+        search (front_after, flat_map-append),
+        grind (arith, flat_map-append, append_assoc, appended-appended),
+        grind (arith, fetches_of-append, count_after-add, text_more, appended-appended, append_assoc),
+      )
+
+  -- a run that ends after these steps were done
+  pub ends_after : (status : Status) → Ends means status mid new → Ends (After steps means) status old new
+  ends_after = grind (arith, as_after, unread_after, unwritten_after, early_after)
+
+-- what has one meaning ends as what has that meaning for another reason
+pub ends_other : (means other : RunResult → Type 0) (status : Status) (old new : Outside) → ((r : RunResult) → means r → other r) → Ends means status old new → Ends other status old new
+ends_other = grind arith
+
+-- a run that has come to the rest, and ends as the rest does
+pub ends_come : (whole rest : RunResult) (status : Status) (old mid new : Outside) → ComesTo whole rest old mid → Ends (Is rest) status mid new → Ends (Is whole) status old new
+ends_come _ _ status _ _ _ come t =
+    ends_other _ _ _ _ _ (λ r (x, is, same). same ∙ ap (after_steps come.0) is ∙ sym come.1)
+    (ends_after _ _ _ _ _ come.2 status t)
+
+-- a run that did all its statements
+pub ends_done : (whole : RunResult) (files : Files) (ss : List Statement) (i : ℕ) (s : State) (old new : Outside) → length ss ≤ i
+    → ComesTo whole (statements_result files s (drop i ss)) old new → Ends (Is whole) Done old new
+ends_done = search (rules, ends_come, drop_of_length-le, appended-nil)
+
+-- nothing was done yet
+pub comes_none : (whole rest : RunResult) (old : Outside) → whole ≡ rest → ComesTo whole rest old old
+comes_none _ _ _ is = ([], is, grind (arith, appended-nil))
+
+-- one step more was done
+pub comes_more : (whole rest next : RunResult) (step : RunStep) (old mid new : Outside) → ComesTo whole rest old mid → rest ≡ after_step step next → Does (step ∷ []) mid new → ComesTo whole next old new
+comes_more _ _ _ step _ _ _ come is does = (
+  come.0 ++ step ∷ [],
+  grind (arith, append_assoc),
+  search does_more,
+)
+
+-- the next statement, and then the others
+pub next-result : (files : Files) (ss : List Statement) (i : ℕ) (st : Statement) (s : State) → slice_get ss i ≡ Some st
+    → statements_result files s (drop i ss) ≡ after_reading (statement_result files s st.action) st.line (λ s'. statements_result files s' (drop (i + 1) ss))
+next-result _ [] i _ s is = cc
+next-result _ (x ∷ ss) zero _ s is = grind arith
+next-result files (x ∷ ss) (suc i) st s is = grind (arith, next-result files ss i st s is)
+
+-- whether an answer comes with a warning
+abbrev pub marked : Answer → Bool
+marked (done state printed mark) = mark
+marked (refused f mark) = mark
+
+-- the first step of what an answer makes, with the warning
+first_step : (n : ℕ) (a : Answer) (line : ℕ) (go : State → RunResult) → (step : RunStep) × (others : List RunStep) × (ending : Ending) × (after_answer n a line go ≡ first_then step others ending) × (step.fetches ≡ n)
+    × ((old new : Written) → AppendsPart old new (warning_line line (marked a)) → AppendsPart old new step.errors)
+first_step _ (done state printed mark) _ go = (_, (go state).steps, (go state).ending, refl, refl, λ _ _ part. part)
+first_step _ (refused f mark) _ _ = (_, [], fault, refl, refl, λ _ _ part. part_of _ _ _ _ part)
+
+-- there was no memory for the statement
+pub stops_memory : (contents : Option Contents) (answer : Contents → Reading Answer) (line : ℕ) (o : Outside) → IfSome contents (λ held. Stops (answer held) line Memory o o)
+stops_memory = search (rules, some-told, early_none)
+
+module _ {files files' : FilesValue} {answer : Contents → Reading Answer} where
+  -- What holds of an answer after the fetches that were made holds of the one for the contents that are told.
+  module _ {a : Answer} (goes : (held : Contents) → Goes held files files' (answer held) (at_once a)) where
+    told : (P : Reading Answer → Type 0) → ((n : ℕ) → files'.fetches ≡ count_after files.fetches n → P (record { fetches = n; answer = a })) → IfSome files.contents (λ held. P (answer held))
+    told P = grind (arith, some-told, add-zero)
+
+    -- the warning of a statement could not be written
+    pub stops_warning : (r : Result ⊤ Status) (line : ℕ) (status : Status) (old new : Outside) → IsErrAnd r (λ e. e ≡ status) → (status ≡ Output) ⊎ (status ≡ Memory) → new.out ≡ old.out → AppendsPart old.err new.err (warning_line line (marked a))
+        → IfErr r (λ status. IfSome files.contents (λ held. Stops (answer held) line status old new))
+    stops_warning r line status old new is why out part =
+        let p = err_from_is_err_and r is in
+        rw (p.1, p.2) (told (λ r. Stops r line status old new) (λ n count go.
+        let f = first_step n a line go in
+        rw f.3 (stops_first old new f.0 f.1 f.2 status why out (f.5 _ _ part))))
+
+  module _ {state : State} {printed : Text} {mark : Bool} (goes : (held : Contents) → Goes held files files' (answer held) (at_once (done state printed mark)))
+      (line : ℕ) (old new : Outside) (err : new.err ≡ appended old.err (warning_line line mark)) where
+    -- the statement was done, and its warning and its text were written
+    pub goes_on : old.files.fetches ≡ files.fetches → new.files.fetches ≡ files'.fetches → new.out ≡ appended old.out printed → old.out_faults ≤ new.out_faults → old.err_faults ≤ new.err_faults
+        → IfSome files.contents (λ held. GoesOn (answer held) line state old new)
+    goes_on before after out out_faults err_faults =
+        told goes (λ r. GoesOn r line state old new) (λ n count. (record { output = printed; errors = warning_line line mark; fetches = n }, does_one _ _ _ out err (cc count) out_faults err_faults, λ go. refl))
+
+    -- the text of the statement could not be written
+    pub stops_showing : (status : Status) → status ≡ Output → AppendsFront old.out new.out printed → HasRisen old.out_faults new.out_faults → IfSome files.contents (λ held. Stops (answer held) line status old new)
+    stops_showing status is front risen = told goes (λ r. Stops r line status old new) (λ n count go. rw is (unwritten_output old new _ _ _ front err risen))
+
+  -- a refused statement, whose warning was written
+  pub stops_refused : {f : FaultValue} {mark : Bool} → ((held : Contents) → Goes held files files' (answer held) (at_once (refused f mark))) → (line : ℕ) (status : Status) (old new : Outside)
+      (mid : Written) → old.files.fetches ≡ files.fetches → new.files.fetches ≡ files'.fetches → new.out ≡ old.out → mid ≡ appended old.err (warning_line line mark) → EndsWithLine (line_about line (fault_text f)) Fault status mid new.err
+      → IfSome files.contents (λ held. Stops (answer held) line status old new)
+  stops_refused goes line status old new mid before after out wrote ends =
+      told goes (λ r. Stops r line status old new) (λ n count go. ends_with_lines old new _ n _ _ status mid out wrote (cc count) ends)
+
+  -- a file could not be read: where the contents are told, the last fetch is one of the statement
+  pub stops_input : (line : ℕ) (old new : Outside) → ((held : Contents) → Stuck held files files' (answer held))
+      → old.files.fetches ≡ files.fetches → new.files.fetches ≡ files'.fetches → new.out ≡ old.out → AppendsFront old.err new.err (codes "input failed\n")
+      → (¬ (HasRisen old.err_faults new.err_faults) → new.err ≡ appended old.err (codes "input failed\n")) → IfSome files.contents (λ held. Stops (answer held) line Input old new)
+  stops_input line old new stuck before after out front whole = some-told files.contents (λ held. Stops (answer held) line Input old new) (λ held told go.
+      let s = stuck held in
+      let f = first_step (answer held).fetches (answer held).answer line go in
+      unread_first old new _ _ refl f.0 f.1 (ap (λ r. r.steps) f.3) s.fetched (grind arith) s.some (cc s.counted) out front whole)

@@ -1,0 +1,62 @@
+-- Lists whose parts are evaluated one after the other.
+use Rattle.{
+  script_state.{proofs.{cells.Common.{arith, ◌≡◌, ℕ, zero, suc, ◌+◌, ◌≤◌, List, [], ◌∷◌, Some, drop, length, slice_get, ◌∙◌, Result, Ok, Err, IsErrAnd, Contents}, Rides.{serves_both, goes_by, goes_to, ahead, joined, loop_next, loop_fault, loop_end}, States.{state_kept}, Worlds.{keeps_both}}, specs.{script.{Reading.{Files, Reads, gives}, State.{State}}, Evaluates.{Moment, Evaluates}, Reads.{Goes, files_in}, Work.{names_in, world_of, state_in}, declared.{file_names.FileName.{FileName}, fault.EvalFault.{EvalFault}, work.Work.{Work}}}},
+  std.proofs.Common.{drop_of_length-le},
+  outside_io.specs.Files.{Serves},
+  frame_store.specs.World.{World, Keeps},
+}
+
+-- how the parts of a list are read, one after the other
+pub record ReadsParts {X G L : Type 0} (read : Files → State → List X → Reads L) (part : Files → State → X → Reads G) (cons : X → G → L → L) (end : L) : Type 0 where
+  pub none : (files : Files) (s : State) → read files s [] ≡ gives end
+  pub more : (files : Files) (s : State) (x : X) (xs : List X) → read files s (x ∷ xs) ≡ ahead (cons x) (part files s x) (read files s xs)
+
+-- the parts so far are joined to what the rest gives
+pub record Gathers {X L : Type 0} (paths : List FileName) (join : L → L → L) (read : Files → State → List X → Reads L) (xs : List X) (i : ℕ) (so_far : L) (old new : Moment) : Type 0 where
+  pub names : names_in new.work ≡ names_in old.work
+  pub kept : Keeps (world_of old.work) (world_of new.work)
+  pub serves : Serves old.files new.files
+  pub seen : (held : Contents) → Goes held old.files new.files (read (files_in paths held) (state_in old.work) xs) (joined join so_far (read (files_in paths held) (state_in old.work) (drop i xs)))
+
+-- a list from a place on is the item there and the rest
+drop_item : {X : Type 0} (xs : List X) (i : ℕ) (x : X) → slice_get xs i ≡ Some x → drop i xs ≡ x ∷ drop (i + 1) xs
+drop_item [] i x e = Prim.cc
+drop_item (y ∷ xs) zero x e = search
+drop_item (y ∷ xs) (suc i) x e = grind (arith, drop_item xs)
+
+module _ {X G L : Type 0} {read : Files → State → List X → Reads L} {part : Files → State → X → Reads G} {cons : X → G → L → L} {end : L} (reads : ReadsParts read part cons end) {paths : List FileName} {join : L → L → L} {xs : List X} {i : ℕ} where
+  -- all parts are there
+  pub gathered : {V : Type 0} {known : Work → V → Type 0} {view : World → V → L} {old new : Moment} {v : V} → Gathers paths join read xs i (view (world_of new.work) v) old new → length xs ≤ i → join (view (world_of new.work) v) end ≡ view (world_of new.work) v → known new.work v
+      → Evaluates paths known view (λ files s. read files s xs) old new (Ok v)
+  gathered {known = known} {view} {old} {new} {v} = grind (arith, loop_end, reads.none, drop_of_length-le)
+
+  module _ {so_far : L} {old mid : Moment} (inv : Gathers paths join read xs i so_far old mid) {x : X} (at : slice_get xs i ≡ Some x) where
+    before : (files : Files) → part files (state_in old.work) x ≡ part files (state_in mid.work) x
+    before = grind (arith, state_kept)
+
+    seen_as : (held : Contents) → let files = files_in paths held in let s = state_in old.work in Goes held old.files mid.files (read files s xs) (joined join so_far (ahead (cons x) (part files s x) (read files s (drop (i + 1) xs))))
+    seen_as = grind (arith, goes_to, joined, reads.more, drop_item)
+
+    module _ {V : Type 0} {known : Work → V → Type 0} {view : World → V → G} {new : Moment} where
+      -- one part more
+      pub gathers_next : (so_far' : L) {v : V} → Evaluates paths known view (λ files s. part files s x) mid new (Ok v) → ((l : L) → join so_far (cons x (view (world_of new.work) v) l) ≡ join so_far' l) → Gathers paths join read xs (i + 1) so_far' old new
+      gathers_next _ {v} y law =
+          record {
+            names = y.names ∙ inv.names;
+            kept = search keeps_both;
+            serves = serves_both inv.serves y.serves;
+            seen = λ held. loop_next (cons x) join inv.serves _ _ _ (seen_as held) (view (world_of new.work) v) _ (goes_by (before _) (y.reads held)) law;
+          }
+
+      -- a part halts
+      pub gathers_none : {V' : Type 0} {known' : Work → V' → Type 0} {view' : World → V' → L} {f : EvalFault} {r : Result V' EvalFault} → Evaluates paths known view (λ files s. part files s x) mid new (Err f) → IsErrAnd r (λ e. e ≡ f)
+          → Evaluates paths known' view' (λ files s. read files s xs) old new r
+      gathers_none {r = Ok v} y same = absurd same
+      gathers_none {f} {r = Err e} y same =
+          record {
+            names = y.names ∙ inv.names;
+            kept = search keeps_both;
+            serves = serves_both inv.serves y.serves;
+            reads = λ held. rw same (loop_fault _ _ _ (cons x) join inv.serves _ _ so_far (seen_as held) f (rw (before (files_in paths held)) (y.reads held)));
+            found = tt;
+          }

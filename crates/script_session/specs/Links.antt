@@ -1,0 +1,48 @@
+-- Calls behind `groupby`, `rolling` and `expanding`.
+use Rattle.std.specs.Prelude.{List, Option, codes}
+use Rattle.script_state.specs.cells.Text.{Text}
+use Rattle.script_state.specs.tables.Value.{Entry, Given, NamedGiven}
+use Rattle.script_state.specs.language.Tree.{parts}
+use Rattle.script_state.specs.method.Calls.{has_method, ChainValue, grouped, through, call_result}
+use Rattle.script_state.specs.script.Reading.{Files, Reads, at_once, then_read}
+use Rattle.script_state.specs.script.State.{State}
+use Rattle.script_state.specs.script.Expression.{where_named, named_of, brackets_of}
+use Rattle.script_tree.specs.View.{named_parts_of, optional_arg}
+use Rattle.cell_core.specs.declared.words.Words.{Words}
+use Rattle.frame_store.specs.declared.arguments.Argument.{Argument}
+use Rattle.frame_store.specs.declared.arguments.Chain.{Chain}
+use Rattle.frame_store.specs.declared.arguments.Named.{Named}
+use Rattle.frame_store.specs.declared.arguments.Chain.TheVariants as chain
+use Rattle.script_session.specs.declared.link.Link.{Link}
+use Rattle.script_session.specs.declared.link.Link.TheVariants.{Groupby, Rolling, Expanding}
+use Rattle.script_session.specs.declared.link.Linked.{Linked}
+
+abbrev pub link_name : Link → Text
+link_name Groupby = codes "groupby"
+link_name Rolling = codes "rolling"
+link_name Expanding = codes "expanding"
+
+-- the chain of a link with its arguments, what stands in brackets, and the name behind it
+abbrev pub chain_behind : Link → List Named → Option Argument → Words → Chain
+chain_behind Groupby args by name = chain.Group args by name
+chain_behind Rolling args by name = chain.Rolling args name
+chain_behind Expanding args by name = chain.Expanding args name
+
+-- the same with plain values; windows have no brackets, and aren't built
+abbrev pub chain_meant : Link → List NamedGiven → Option Given → Text → ChainValue
+chain_meant Groupby args by name = grouped args by name
+chain_meant Rolling args by name = through (codes "rolling")
+chain_meant Expanding args by name = through (codes "expanding")
+
+-- what follows the arguments of the link, and what follows the brackets
+abbrev pub after_brackets : Files → State → Entry → Linked → List NamedGiven → Option Given → Reads Entry
+after_brackets files s v call g h = then_read (named_of files s (parts (named_parts_of call.more.now))) (λ gs. at_once (call_result v (chain_meant call.link g h call.name.now) gs))
+
+abbrev pub after_link : Files → State → Entry → Linked → List NamedGiven → Reads Entry
+after_link files s v call g = then_read (brackets_of files s (optional_arg call.by.now)) (after_brackets files s v call g)
+
+-- The name is tested first. Then all arguments and the brackets are read, from left to right, and the method is called.
+abbrev pub linked : Files → State → Entry → Linked → Reads Entry
+linked files s v call =
+    where_named (has_method v (link_name call.link)) (link_name call.link)
+    (then_read (named_of files s (parts (named_parts_of call.args.now))) (after_link files s v call))

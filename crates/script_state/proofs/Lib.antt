@@ -1,0 +1,13 @@
+pub mod Bindings
+pub mod Worlds
+pub mod States
+pub mod UseLaws
+pub mod Rides
+pub mod Fetching
+pub mod Printed
+pub mod Validity
+pub mod Hints
+pub mod Evaluations
+-- laws of crates below, passed on to the crates above
+pub use Rattle.meaning_laws.proofs.cells as cells
+pub use Rattle.meaning_laws.proofs as laws

@@ -1,0 +1,172 @@
+-- Readings one after the other, and how far they have come.
+use Rattle.{
+  frame_concat.proofs.frame_parts.Common.{◌≡◌, ◌≤◌, ◌+◌, ℕ, Bool, List, Option, None, ◌∙◌, arith, Result, Ok, Err, IfOk, IfErr, Code, Text, Contents, FaultValue, fault_of, Entry, Value, OpFault, World, entry_in, Forms},
+  meaning_laws.{proofs.cells.Common.{option_map}, specs.{script.{Reading.{Files, Reading, Reads, at_once, gives, after, then_or, then_read}, Expression.{where_named, value_of_name}}, FormFault.{HasFormFault}}},
+  outside_io.specs.Files.{FilesValue, Serves},
+  script_state.{specs.{Bindings.{Bindings, value_at}, declared.fault.EvalFault.{EvalFault, TheVariants.{Refused, Input, NoMemory}}, Faults.{IsNoAttribute, IsNoName, evaluated}, Reads.{both_of, Holds, Goes, Stuck, Spends, Halts, Reaches, ReachesBytes, IsCaused, absent_name, count_after}}, proofs.Worlds.{entry_seen}},
+}
+
+-- readings after fetches
+pub after_both : {X : Type 0} (m n : ℕ) (r : Reading X) → after m (after n r) ≡ after (m + n) r
+after_both = grind arith
+
+abbrev found_after : {X : Type 0} → X → ℕ → Reading X
+found_after x n = record { fetches = n; answer = x }
+
+module _ {A X : Type 0} (stop : FaultValue → X) where
+  pub then_gives : (a : A) (go : A → Reading X) → then_or stop (gives a) go ≡ go a
+  then_gives = grind arith
+
+  pub then_after : (n : ℕ) (r : Reads A) (go : A → Reading X) → then_or stop (after n r) go ≡ after n (then_or stop r go)
+  then_after = search after_both
+
+-- two parts that are read together
+module _ {X : Type 0} (stop : FaultValue → X) where
+  module _ {A B : Type 0} where
+    pub both_then : (x : Reads A) (y : Reads B) (go : A → B → Reading X) → then_or stop x (λ a. then_or stop y (go a)) ≡ then_or stop (both_of x y) (λ p. go p.0 p.1)
+    both_then = grind (arith, then_after, then_gives)
+
+pub serves_self : (s : FilesValue) → Serves s s
+serves_self = grind arith
+
+pub serves_both : {first second third : FilesValue} → Serves first second → Serves second third → Serves first third
+serves_both = grind arith
+
+-- the cause of a file that isn't there
+pub caused_later : {first second : FilesValue} (third : FilesValue) → Serves first second → (paths : List (Text × Text)) (name : Option Text) → IsCaused paths second third name → IsCaused paths first third name
+caused_later = grind arith
+
+-- a fault that isn't that of a file
+pub uncaused : (paths : List (Text × Text)) (old new : FilesValue) (name : Option Text) → name ≡ None → IsCaused paths old new name
+uncaused _ _ _ _ is = rw is tt
+
+-- the fault of a form, in what is meant
+pub fault_uncaused : {A : Type 0} (texts : List Text) (paths : List (Text × Text)) (old new : FilesValue) (code : Code) (meant : Result A FaultValue) → HasFormFault meant → meant ≡ Err (fault_of texts code) → IsCaused paths old new (absent_name code)
+fault_uncaused = grind arith
+
+module _ {X : Type 0} {held : Contents} where
+  -- nothing was fetched
+  pub goes_same : {s : FilesValue} {whole rest : Reading X} → whole ≡ rest → Goes held s s whole rest
+  goes_same = grind (arith)
+
+  pub goes_by : {old new : FilesValue} {whole other rest : Reading X} → whole ≡ other → Goes held old new other rest → Goes held old new whole rest
+  goes_by {old} {new} {whole} {other} {rest} is g = rw is g
+
+  pub goes_to : {old new : FilesValue} {whole rest other : Reading X} → Goes held old new whole rest → rest ≡ other → Goes held old new whole other
+  goes_to {old} {new} {whole} g is = rw is at g
+
+  module _ {first second : FilesValue} {a b : Reading X} (serves : Serves first second) (p : Goes held first second a b) where
+    -- what holds for the whole holds for both parts of it
+    halves : (n : ℕ) → Holds first.contents (p.fetched + n) a.fetches held → (a ≡ after p.fetched b) × Holds second.contents n b.fetches held
+    halves = grind (arith)
+
+    counted_both : (third : FilesValue) (n : ℕ) → third.fetches ≡ count_after second.fetches n → third.fetches ≡ count_after first.fetches (p.fetched + n)
+    counted_both = grind (arith)
+
+    within_both : (n : ℕ) → (Holds second.contents n b.fetches held → n ≤ b.fetches) → Holds first.contents (p.fetched + n) a.fetches held → p.fetched + n ≤ a.fetches
+    within_both = grind (arith, halves)
+
+    pub goes_both : {third : FilesValue} {c : Reading X} → Goes held second third b c → Goes held first third a c
+    goes_both = grind (arith, counted_both, halves, after_both)
+
+    -- a read failed later
+    pub stuck_both : {third : FilesValue} → Stuck held second third b → Stuck held first third a
+    stuck_both = grind (arith, counted_both, within_both)
+
+    -- memory was refused later
+    pub spends_both : {third : FilesValue} → Spends held second third b → Spends held first third a
+    spends_both {third} q = search (counted_both, within_both)
+
+  pub goes_spends : {old new : FilesValue} {whole rest : Reading X} → Goes held old new whole rest → Spends held old new whole
+  goes_spends = grind arith
+
+  pub spends_none : {s : FilesValue} {whole : Reading X} → Spends held s s whole
+  spends_none = grind arith
+
+module _ {X : Type 0} (stop : FaultValue → X) (texts : List Text) where
+  pub halts_by : (files : Files) (old new : FilesValue) {whole other : Reading X} (f : EvalFault) → whole ≡ other → Halts stop texts files old new other f → Halts stop texts files old new whole f
+  halts_by = grind (arith, goes_by)
+
+  pub halts_both : (files : Files) (third : FilesValue) {first second : FilesValue} {a b : Reading X} (f : EvalFault) → Serves first second → Goes files.held first second a b → Halts stop texts files second third b f → Halts stop texts files first third a f
+  halts_both _ _ (Refused code) serves p h = search (goes_both, caused_later)
+  halts_both _ _ Input serves p h = stuck_both serves p h
+  halts_both _ _ NoMemory serves p h = spends_both serves p h
+
+within_then : {A X : Type 0} (stop : FaultValue → X) (go : A → Reading X) (held : Contents) (contents : Option Contents) (whole : Reads A) (n : ℕ)
+    → (Holds contents n whole.fetches held → n ≤ whole.fetches) → Holds contents n (then_or stop whole go).fetches held → n ≤ (then_or stop whole go).fetches
+within_then = grind (arith)
+
+module _ {A X : Type 0} {held : Contents} (stop : FaultValue → X) (go : A → Reading X) where
+  -- what follows a reading
+  pub goes_then : {old new : FilesValue} {whole rest : Reads A} → Goes held old new whole rest → Goes held old new (then_or stop whole go) (then_or stop rest go)
+  goes_then = grind (arith, then_after)
+
+  -- the value goes on
+  pub goes_value : {old new : FilesValue} {whole : Reads A} (a : A) (rest : Reading X) → Goes held old new whole (gives a) → go a ≡ rest → Goes held old new (then_or stop whole go) rest
+  goes_value a _ g is = goes_to (goes_then g) (then_gives stop a go ∙ is)
+
+  pub spends_then : {old new : FilesValue} {whole : Reads A} → Spends held old new whole → Spends held old new (then_or stop whole go)
+  spends_then = grind (arith, within_then)
+
+-- the fault of the first stops the whole
+pub halts_first : {A X : Type 0} (texts : List Text) (files : Files) (old new : FilesValue) (whole : Reads A) (stop : FaultValue → X) (go : A → Reading X) (f : EvalFault)
+    → Halts Err texts files old new whole f → Halts stop texts files old new (then_or stop whole go) f
+halts_first = grind (arith, goes_to, goes_then, within_then, spends_then)
+
+-- what an evaluation reaches
+module _ {V A : Type 0} (view : V → A) (texts : List Text) (files : Files) where
+  pub reaches_both : (third : FilesValue) {first second : FilesValue} {whole rest : Reads A} (r : Result V EvalFault) → Serves first second → Goes files.held first second whole rest
+      → Reaches view texts files second third rest r → Reaches view texts files first third whole r
+  reaches_both _ (Ok v) serves g h = goes_both serves g h
+  reaches_both _ (Err f) serves g h = search halts_both
+
+  pub reaches_by : (old new : FilesValue) {whole rest : Reads A} (r : Result V EvalFault) → whole ≡ rest → Reaches view texts files old new rest r → Reaches view texts files old new whole r
+  reaches_by = grind (arith, goes_by, halts_by)
+
+pub bytes_by : {A : Type 0} (texts : List Text) (files : Files) (old new : FilesValue) {whole other : Reads A} (go : List ℕ → Result A FaultValue) (r : Result (List ℕ) EvalFault) → whole ≡ other
+    → ReachesBytes go texts files old new other r → ReachesBytes go texts files old new whole r
+bytes_by = grind (arith, goes_by, halts_by)
+
+-- what a form answers, as the whole does
+module _ (w w' : World) (files : Files) {old new : FilesValue} {whole : Reads Entry} (meant : Result Entry FaultValue) (form : HasFormFault meant) (g : Goes files.held old new whole (at_once meant)) where
+  form_at : (r : Result Value OpFault) → Forms r meant w w' → Reaches (entry_in w') w'.texts files old new whole (evaluated r)
+  form_at = grind (arith, goes_to, entry_seen, fault_uncaused, goes_spends)
+
+  pub form_reads : (r : Result Value OpFault) (r' : Result Value EvalFault) → r' ≡ evaluated r → Forms r meant w w' → Reaches (entry_in w') w'.texts files old new whole r'
+  form_reads = grind (arith, form_at)
+
+pub evaluated_if : (P : Value → Type 0) (r : Result Value OpFault) (r' : Result Value EvalFault) → r' ≡ evaluated r → IfOk r P → IfOk r' P
+evaluated_if P = grind arith
+
+-- a name that isn't there is the fault, or memory was refused
+pub unknown_fault : (texts : List Text) (files : Files) (s : FilesValue) (f : EvalFault) (known : Bool) (n : Text) (rest : Reads Entry) → IsNoAttribute f n known → Halts Err texts files s s (where_named known n rest) f
+unknown_fault = grind (arith, goes_same, uncaused, spends_none)
+
+-- a name that stands for nothing
+pub unnamed_fault : (texts : List Text) (files : Files) (s : FilesValue) (bs : Bindings) (w : World) (n : Text) (f : EvalFault) → IsNoName f n (value_at bs n) → Halts Err texts files s s (at_once (value_of_name n (option_map (entry_in w) (value_at bs n)))) f
+unnamed_fault = grind (arith, goes_same, uncaused, spends_none)
+
+-- what is made without a fetch, unless memory is refused
+pub made_reads : (files : Files) (s : FilesValue) (w : World) (e : Entry) (r : Result Value EvalFault) → IfOk r (λ v. entry_in w v ≡ e) → IfErr r (λ f. f ≡ NoMemory) → Reaches (entry_in w) w.texts files s s (gives e) r
+made_reads = grind (arith, goes_same, spends_none)
+
+-- The parts of a list one after the other: the parts so far are joined to what the rest gives.
+abbrev pub ahead : {G L : Type 0} → (G → L → L) → Reads G → Reads L → Reads L
+ahead cons first rest = then_read first (λ g. then_read rest (λ l. gives (cons g l)))
+
+abbrev pub joined : {L : Type 0} → (L → L → L) → L → Reads L → Reads L
+joined join so_far rest = then_read rest (λ l. gives (join so_far l))
+
+module _ {G L : Type 0} (cons : G → L → L) (join : L → L → L) where
+  module _ {held : Contents} {whole : Reads L} {old mid new : FilesValue} (serves : Serves old mid) (first : Reads G) (rest : Reads L) (so_far : L) (seen : Goes held old mid whole (joined join so_far (ahead cons first rest))) where
+    pub loop_next : (g : G) (so_far' : L) → Goes held mid new first (gives g) → ((l : L) → join so_far (cons g l) ≡ join so_far' l) → Goes held old new whole (joined join so_far' rest)
+    loop_next g _ is law =
+        goes_both serves seen
+        (grind (arith, goes_to, goes_then, goes_value, then_after, then_gives))
+
+  pub loop_end : {held : Contents} {whole : Reads L} {old new : FilesValue} (rest : Reads L) (end so_far : L) → Goes held old new whole (joined join so_far rest) → rest ≡ gives end → join so_far end ≡ so_far → Goes held old new whole (gives so_far)
+  loop_end _ _ _ seen is law = goes_to seen search
+
+pub loop_fault : {G L : Type 0} (texts : List Text) (files : Files) (new : FilesValue) (cons : G → L → L) (join : L → L → L) {whole : Reads L} {old mid : FilesValue} (serves : Serves old mid) (first : Reads G) (rest : Reads L) (so_far : L)
+    → Goes files.held old mid whole (joined join so_far (ahead cons first rest)) → (f : EvalFault) → Halts Err texts files mid new first f → Halts Err texts files old new whole f
+loop_fault _ _ _ _ _ {whole} {old} {mid} = search (halts_both, halts_first)

@@ -1,0 +1,19 @@
+use Rattle.{
+  frame_concat.proofs.frame_parts.Common.{sym, ◌∙◌, subst, tables},
+  script_state.{specs.Bindings.{bindings_of, AreNoted}, proofs.Bindings.{noted_named, noted_ended, kept_ended}},
+}
+use Rattle.script_state.proofs.sweeping.sweep.Goals as goal
+
+pub loop-id-preserved-then-not-has : goal.loop-id-preserved-then-not-has
+loop-id-preserved-then-not-has c =
+    let bs = bindings_of c.args.names.now.values.entries in
+    let unnamed = sym c.has.ensures ∙ c.if-not-has.true in
+    let before = subst (λ ts. AreNoted bs ts (tables c.loop-id.store)) c.in-Some.ensures.items c.loop-id.invariant.noted in
+    search (noted_ended, kept_ended)
+
+pub loop-id-preserved : goal.loop-id-preserved
+loop-id-preserved c =
+    let bs = bindings_of c.args.names.now.values.entries in
+    let named = sym c.has.ensures ∙ c.if-not-has.false in
+    let before = subst (λ ts. AreNoted bs ts (tables c.loop-id.store)) c.in-Some.ensures.items c.loop-id.invariant.noted in
+    search noted_named

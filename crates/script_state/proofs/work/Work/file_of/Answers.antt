@@ -1,0 +1,19 @@
+use Rattle.{
+  frame_concat.proofs.frame_parts.Common.{ap, sym, ◌∙◌, Err, arguments_of},
+  meaning_laws.specs.{method.Readers.{read_result}, script.Reading.{at_once, then_read, of_file}},
+  script_state.{specs.{Reads.{files_in}, Work.{world_of}}, proofs.{Fetching.{refuses_long}, Rides.{bytes_by, then_gives}}},
+}
+use Rattle.script_state.proofs.work.Work.file_of.Goals as goal
+
+pub returns-in-Ok-clause-reads : goal.returns-in-Ok-clause-reads
+returns-in-Ok-clause-reads g c =
+    let w = world_of c.args.self.now in
+    let given = arguments_of w.tables w.texts c.args.args.now in
+    let is = c.in-Ok.ensures.0 in
+    λ held.
+    let fs = files_in c.args.names.now held in
+    bytes_by _ _ _ _ (λ bytes. read_result bytes given) _
+    (ap (λ r. then_read (at_once r) (λ name. of_file fs name (λ bytes. read_result bytes given))) is
+    ∙ then_gives Err _ (λ name. of_file fs name (λ bytes. read_result bytes given))
+    ∙ ap (λ n. of_file fs n (λ bytes. read_result bytes given)) (sym c.text.ensures))
+    (c.file_named.ensures.reads w.texts held (λ bytes. read_result bytes given) (refuses_long given _ is))

@@ -1,0 +1,410 @@
+// Forms on values. What they make is noted.
+ghost use Rattle.std.specs.Prelude.{◌≡◌, ◌<◌, List, Some, IfOk, IfErr, OnOk, IfSome, true, is_some, option_map, vec_len, vec_capacity};
+ghost use Rattle.meaning_laws.specs.cells.Text.{Text as OneText};
+ghost use Rattle.meaning_laws.specs.cells.Cell.{datum, label_datum};
+ghost use Rattle.meaning_laws.specs.cells.Operator.{cell_label};
+ghost use Rattle.meaning_laws.specs.tables.Value.{cell};
+ghost use Rattle.meaning_laws.specs.tables.Settled.{IsSettled};
+ghost use Rattle.meaning_laws.specs.call.Signature.{function_named};
+ghost use Rattle.meaning_laws.specs.form.Infix.{infix_result, sign_result};
+ghost use Rattle.meaning_laws.specs.form.Select.{length_result};
+ghost use Rattle.meaning_laws.specs.select.Select.{select_result};
+ghost use Rattle.meaning_laws.specs.select.Set.{assign_result, removal_result};
+ghost use Rattle.meaning_laws.specs.method.Calls.{call_result, has_method};
+ghost use Rattle.meaning_laws.specs.method.Functions.{function_result};
+ghost use Rattle.meaning_laws.specs.Validity.{IsHeldCell};
+ghost use Rattle.frame_store.specs.Objects.{tables};
+ghost use Rattle.frame_store.specs.Arguments.{entry_of, argument_of, IsLive};
+ghost use Rattle.frame_merge.specs.frame_labels.Chains.{chain_in, IsKnownChain};
+ghost use Rattle.frame_select.specs.Selected.{way_of};
+ghost use Rattle.frame_set.specs.Assigned.{new_value, moved_object, IsLiveNew, IsOther};
+ghost use Rattle.column_operators.specs.Tasks.{operator_of};
+ghost use Rattle.script_tokens.specs.View.{binary_of};
+ghost use Rattle.script_tree.specs.View.{literal_of, unary_of};
+ghost use Rattle.meaning_laws.specs.script.Expression.{cell_of, is_minus};
+ghost use Rattle.frame_store.specs.World.{world, IsSettledWorld, entry_in, argument_in, arguments_in, subscript_in, Keeps, IsKnownValue, IsKnownArgument, AreKnownArguments, IsKnownSubscript, Forms, Sets};
+ghost use Rattle.script_state.specs.Bindings.{value_at, noted, is_spare};
+ghost use Rattle.script_state.specs.Faults.{IsNoName, IsNoAttribute};
+
+use crate::fault::EvalFault;
+use crate::literal::cell_of;
+use crate::names::find;
+use crate::work::Work;
+use cell_core::{Cell, Code, Grid, Label, TextDict, Words};
+use column_operators::Operator;
+use frame_concat::function_exists;
+use frame_methods::exists;
+use frame_set::NewValue;
+use frame_store::{Argument, Chain, NamedList, ObjId, OpFault, Selector, Store, Subscript, Value};
+use script_tokens::Binary;
+use script_tree::{Literal, Unary};
+use std::alloc::Global;
+
+impl Work {
+    ghost use Rattle.script_state.specs.Evaluates.{IsValue};
+    ghost use Rattle.script_state.specs.Work.{names_in, tables_in, world_of, IsUnnamedValue, FormsIn, SetsFrom};
+
+    /// The value of a name. A name without a value is a `NameError` that gives it; to say which may take
+    /// memory, and want of it is the other refusal.
+    pub fn named(&self, name: &Words) -> Result<Value, EvalFault>
+        ensures found { IfOk result (IsValue (Some name.now) self.now) }
+        ensures fault { IfErr result
+            (λ f. IsNoName f name.now (value_at (names_in self.now) name.now)) }
+    {
+        match find(&self.names.values, name.as_str()) {
+            Some(value) => Ok(value),
+            None => {
+                let name = Words::from_text(self.alloc, name.as_str())?;
+                Err(EvalFault::Refused(Code::NoName(name)))
+            }
+        }
+    }
+
+    /// A value that is written out; a text gets its number. The one refusal is want of memory.
+    pub fn literal(&mut self, literal: &Literal) -> Result<Value, EvalFault>
+        ensures names { names_in self.new ≡ names_in self.old }
+        ensures kept { Keeps (world_of self.old) (world_of self.new) }
+        ensures value { IfOk result (λ v. entry_in (world_of self.new) v
+            ≡ cell (cell_of (literal_of literal.now))) }
+        ensures found { IfOk result (IsValue None self.new) }
+        ensures memory { IfErr result (λ f. f ≡ EvalFault.NoMemory) }
+    {
+        let cell = cell_of(&mut self.dict, literal)?;
+        Ok(Value::Scalar(cell))
+    }
+
+    /// A key of a dict that is written out, as a label. The one refusal is want of memory.
+    pub fn key(&mut self, literal: &Literal) -> Result<Label, EvalFault>
+        ensures names { names_in self.new ≡ names_in self.old }
+        ensures kept { Keeps (world_of self.old) (world_of self.new) }
+        ensures label { IfOk result (λ l. label_datum (world_of self.new).texts l
+            ≡ cell_label (cell_of (literal_of literal.now))) }
+        ensures given { IfOk result (λ l. IsSettled label_datum (world_of self.new).texts l) }
+        ensures memory { IfErr result (λ f. f ≡ EvalFault.NoMemory) }
+    {
+        let cell = cell_of(&mut self.dict, literal)?;
+        Ok(Label::from(cell))
+    }
+
+    /// An operator between two values: a new object, or a scalar. The refusals are those of
+    /// [`frame_ops::infix`], in its order.
+    pub fn infix(&mut self, op: Binary, a: Value, b: Value) -> Result<Value, OpFault>
+        requires left { IsKnownValue (world_of self.old) a }
+        requires right { IsKnownValue (world_of self.old) b }
+        ensures { FormsIn result
+            (infix_result (binary_of op)
+            (entry_in (world_of self.old) a) (entry_in (world_of self.old) b))
+            self.old self.new }
+    {
+        self.temps.reserve(1)?;
+        let operator = operator_of(op);
+        let made = frame_ops::infix(self.alloc, &mut self.store, &mut self.dict, operator, a, b)?;
+        note(&mut self.temps, made);
+        Ok(made)
+    }
+
+    /// A sign before a value: a new object, or a scalar. The refusals are those of
+    /// [`frame_ops::invert_or_negate`], in its order.
+    pub fn sign(&mut self, op: Unary, a: Value) -> Result<Value, OpFault>
+        requires { IsKnownValue (world_of self.old) a }
+        ensures { FormsIn result
+            (sign_result (is_minus (unary_of op)) (entry_in (world_of self.old) a))
+            self.old self.new }
+    {
+        self.temps.reserve(1)?;
+        let negate = is_minus(op);
+        let made = frame_ops::invert_or_negate(
+            self.alloc,
+            &mut self.store,
+            &mut self.dict,
+            negate,
+            a,
+        )?;
+        note(&mut self.temps, made);
+        Ok(made)
+    }
+
+    // What a function of `pd` gives, with the bytes of the file that it reads.
+    pub(crate) fn make(
+        &mut self,
+        function: &Words,
+        args: &NamedList,
+        file: Option<&[u8]>,
+    ) -> Result<Value, OpFault>
+        requires { AreKnownArguments (world_of self.old) args.now }
+        ensures { FormsIn result (function_result (option_map (λ bytes. bytes.now) file.entry)
+            function.now (arguments_in (world_of self.old) args.now))
+            self.old self.new }
+    {
+        self.temps.reserve(1)?;
+        let name = function.as_str();
+        let made = frame_concat::make(
+            self.alloc,
+            &mut self.store,
+            &mut self.dict,
+            name,
+            args,
+            file,
+        )?;
+        note(&mut self.temps, made);
+        Ok(made)
+    }
+
+    /// Nothing where the value has a method of this name, and else an `AttributeError` that gives it, or
+    /// want of memory.
+    pub fn expect_method(&self, on: Value, name: &str) -> Result<(), EvalFault>
+        requires { IsLive (tables_in self.now) on }
+        ensures known { (texts : List OneText) →
+            OnOk result (has_method (entry_of (tables_in self.now) texts on) name.now ≡ true) }
+        ensures fault { (texts : List OneText) →
+            IfErr result (λ f. IsNoAttribute f name.now
+            (has_method (entry_of (tables_in self.now) texts on) name.now)) }
+    {
+        expect_known(self.alloc, exists(&self.store, on, name), name)
+    }
+
+    /// What a method gives, alone or behind `groupby`, `rolling` or `expanding`: a new object, or a scalar.
+    /// The refusals are those of the method, in its order; a chain that isn't built is a `NotBuiltError`.
+    pub fn method(&mut self, on: Value, chain: &Chain, args: &NamedList) -> Result<Value, OpFault>
+        requires on { IsKnownValue (world_of self.old) on }
+        requires before { IsKnownChain (world_of self.old) chain.now }
+        requires arguments { AreKnownArguments (world_of self.old) args.now }
+        ensures { FormsIn result (call_result (entry_in (world_of self.old) on)
+            (chain_in (world_of self.old) chain.now)
+            (arguments_in (world_of self.old) args.now))
+            self.old self.new }
+    {
+        self.temps.reserve(1)?;
+        let made = chain_call(self.alloc, &mut self.store, &mut self.dict, on, chain, args)?;
+        note(&mut self.temps, made);
+        Ok(made)
+    }
+
+    /// What brackets or an accessor give: a new object, or a scalar. The refusals are those of
+    /// [`frame_select::select`], in its order.
+    pub fn select(
+        &mut self,
+        on: Value,
+        by: Selector,
+        first: &Subscript,
+        second: &Option<Subscript>,
+    ) -> Result<Value, OpFault>
+        requires on { IsKnownValue (world_of self.old) on }
+        requires first { IsKnownSubscript (world_of self.old) first.now }
+        requires second { IfSome second.now (IsKnownSubscript (world_of self.old)) }
+        ensures { FormsIn result (select_result (entry_in (world_of self.old) on) (way_of by)
+            (subscript_in (world_of self.old) first.now)
+            (option_map (subscript_in (world_of self.old)) second.now))
+            self.old self.new }
+    {
+        self.temps.reserve(1)?;
+        let second = second.as_ref();
+        let made = frame_select::select(
+            self.alloc,
+            &mut self.store,
+            &mut self.dict,
+            on,
+            by,
+            first,
+            second,
+        )?;
+        note(&mut self.temps, made);
+        Ok(made)
+    }
+
+    /// What brackets or an accessor name is set: of named objects the one that is set changes, and no
+    /// other. Where no name stands for the value's object, it may end. The refusals are those of
+    /// [`frame_set::assign`], in its order; each leaves all objects as they were.
+    pub fn assign(
+        &mut self,
+        on: Value,
+        by: Selector,
+        first: &Subscript,
+        second: &Option<Subscript>,
+        value: &Argument,
+    ) -> Result<(), OpFault>
+        requires on { IsKnownValue (world_of self.old) on }
+        requires first { IsKnownSubscript (world_of self.old) first.now }
+        requires second { IfSome second.now (IsKnownSubscript (world_of self.old)) }
+        requires value { IsKnownArgument (world_of self.old) value.now }
+        ensures { SetsFrom value.now result on
+            (assign_result (entry_in (world_of self.old) on) (way_of by)
+            (subscript_in (world_of self.old) first.now)
+            (option_map (subscript_in (world_of self.old)) second.now)
+            (argument_in (world_of self.old) value.now))
+            self.old self.new }
+    {
+        let scalar = value.scalar();
+        prove!(is_held(scalar));
+        let second = second.as_ref();
+        let value = self.new_value(on, value);
+        frame_set::assign(
+            self.alloc,
+            &mut self.store,
+            &mut self.dict,
+            on,
+            by,
+            first,
+            second,
+            value,
+        )
+    }
+
+    // What a place is set to. An object that no name stands for isn't needed after the setting, if
+    // the one that is set has a name and so is another.
+    fn new_value<'a>(&self, on: Value, value: &'a Argument) -> NewValue<'a>
+        requires { IsKnownArgument (world_of self.now) value.now }
+        ensures meant { (texts : List OneText) → new_value (tables_in self.now) texts result
+            ≡ argument_of (tables_in self.now) texts value.now }
+        ensures live { IsLiveNew (tables_in self.now) result }
+        ensures other { IfSome (moved_object result) (IsOther on) }
+        ensures spare { IfSome (moved_object result)
+            (IsUnnamedValue (names_in self.now) value.now) }
+    {
+        if let Some(id) = value.object() {
+            if self.is_spare(on, id) {
+                return NewValue::Moved(id);
+            }
+        }
+        NewValue::Copied(value)
+    }
+
+    // Whether a name stands for the value, and none for the object.
+    fn is_spare(&self, on: Value, id: ObjId) -> bool
+        ensures { result ≡ is_spare (names_in self.now) on id }
+    {
+        match on {
+            Value::Object(on) => self.names.has(on) && !self.names.has(id),
+            Value::Scalar(_) => false,
+        }
+    }
+
+    /// A column is taken out of a frame. A label that no column has is a `KeyError`, and what is no frame a
+    /// `TypeError`; each leaves all objects as they were.
+    pub fn remove(&mut self, on: Value, label: Value) -> Result<(), OpFault>
+        requires on { IsKnownValue (world_of self.old) on }
+        requires label { IsKnownValue (world_of self.old) label }
+        ensures names { names_in self.new ≡ names_in self.old }
+        ensures sets { Sets result on (removal_result
+            (entry_in (world_of self.old) on) (entry_in (world_of self.old) label))
+            (world_of self.old) (world_of self.new) }
+    {
+        frame_set::remove(self.alloc, &mut self.store, &self.dict, on, label)
+    }
+
+    /// The number of rows. A scalar, which has none, is a `TypeError`.
+    pub fn length(&self, on: Value) -> Result<Value, OpFault>
+        requires { IsKnownValue (world_of self.now) on }
+        ensures { FormsIn result (length_result (entry_in (world_of self.now) on)) self.now self.now }
+    {
+        match on {
+            Value::Object(id) => {
+                let rows = self.store.read(id).rows() as u64;
+                Ok(Value::Scalar(Cell::Int(rows.cast_signed())))
+            }
+            Value::Scalar(_) => Err(OpFault::Refused(Code::WrongKind)),
+        }
+    }
+}
+
+// What a method gives, alone or behind `groupby` or a window.
+fn chain_call(
+    alloc: Global,
+    store: &mut Store,
+    dict: &mut TextDict,
+    on: Value,
+    chain: &Chain,
+    args: &NamedList,
+) -> Result<Value, OpFault>
+    requires live { IsLive (tables store.old) on }
+    requires settled { IsSettledWorld (world store.old dict.old) }
+    requires before { IsKnownChain (world store.old dict.old) chain.now }
+    requires arguments { AreKnownArguments (world store.old dict.old) args.now }
+    ensures { let w = world store.old dict.old in
+        Forms result (call_result (entry_in w on) (chain_in w chain.now)
+        (arguments_in w args.now)) w (world store.new dict.new) }
+{
+    match chain {
+        Chain::Plain(_) => frame_merge::method(alloc, store, dict, on, chain, args),
+        Chain::Group(_, _, _) => frame_groups::method(alloc, store, dict, on, chain, args),
+        Chain::Rolling(_, _) | Chain::Expanding(_, _) => {
+            frame_methods::method(alloc, store, dict, on, chain, args)
+        }
+    }
+}
+
+// An object that was made is noted.
+fn note(temps: &mut Vec<ObjId>, made: Value)
+    requires { vec_len temps.old < vec_capacity temps.old }
+    ensures { temps.new.items ≡ noted temps.old.items made }
+{
+    if let Value::Object(id) = made {
+        temps.push_reserved(id);
+    }
+}
+
+// Whether a column can hold the scalar, if there is one. It can: whole numbers of the code have 64 bits.
+fn is_held(scalar: Option<Cell>) -> bool
+    ensures so { result ≡ true }
+    ensures held { (texts : List OneText) → IfSome (option_map (datum texts) scalar) IsHeldCell }
+{
+    match scalar {
+        Some(Cell::Int(_)) => true,
+        Some(Cell::Bool(_)) => true,
+        Some(Cell::Text(_)) => true,
+        Some(Cell::Na) => true,
+        None => true,
+    }
+}
+
+// The operator of a column's kernel.
+fn operator_of(op: Binary) -> Operator
+    ensures { operator_of result ≡ binary_of op }
+{
+    match op {
+        Binary::Add => Operator::Add,
+        Binary::Sub => Operator::Sub,
+        Binary::Mul => Operator::Mul,
+        Binary::FloorDiv => Operator::FloorDiv,
+        Binary::Mod => Operator::Mod,
+        Binary::Eq => Operator::Eq,
+        Binary::Ne => Operator::Ne,
+        Binary::Lt => Operator::Lt,
+        Binary::Le => Operator::Le,
+        Binary::Gt => Operator::Gt,
+        Binary::Ge => Operator::Ge,
+        Binary::And => Operator::And,
+        Binary::Or => Operator::Or,
+        Binary::Xor => Operator::Xor,
+    }
+}
+
+fn is_minus(op: Unary) -> bool
+    ensures { result ≡ is_minus (unary_of op) }
+{
+    match op {
+        Unary::Minus => true,
+        Unary::Invert => false,
+    }
+}
+
+/// Nothing where `pd` has a function of this name, and else an `AttributeError` that gives it, or want of
+/// memory.
+pub fn expect_function(alloc: Global, name: &str) -> Result<(), EvalFault>
+    ensures known { OnOk result (is_some (function_named name.now) ≡ true) }
+    ensures fault { IfErr result
+        (λ f. IsNoAttribute f name.now (is_some (function_named name.now))) }
+{
+    expect_known(alloc, function_exists(name), name)
+}
+
+fn expect_known(alloc: Global, known: bool, name: &str) -> Result<(), EvalFault>
+    ensures known { OnOk result (known ≡ true) }
+    ensures fault { IfErr result (λ f. IsNoAttribute f name.now known) }
+{
+    if known {
+        return Ok(());
+    }
+    let name = Words::from_text(alloc, name)?;
+    Err(EvalFault::Refused(Code::NoAttribute(name)))
+}

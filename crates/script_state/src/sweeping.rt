@@ -1,0 +1,42 @@
+// The end of objects without names.
+ghost use Rattle.std.specs.Prelude.{◌≡◌};
+ghost use Rattle.frame_store.specs.Objects.{tables, with_object};
+ghost use Rattle.script_state.specs.Bindings.{bindings_of, released, AreNoted, AreNamed, KeepNamed};
+
+use crate::names::Names;
+use frame_store::{ObjId, Store, Value};
+
+// Ends each noted object that no name stands for.
+pub(crate) fn sweep(names: &Names, temps: &mut Vec<ObjId>, store: &mut Store)
+    requires { AreNoted (bindings_of names.now.values.entries) temps.old.items (tables store.old) }
+    ensures named { AreNamed (bindings_of names.now.values.entries) (tables store.new) }
+    ensures kept { KeepNamed (bindings_of names.now.values.entries)
+        (tables store.old) (tables store.new) }
+{
+    while let Some(id) = temps.pop() {
+        if !names.has(id) {
+            end(store, id);
+        }
+    }
+}
+
+// The object that a name has left ends if no other name stands for it.
+pub(crate) fn release(names: &Names, store: &mut Store, left: Option<Value>)
+    ensures { tables store.new
+        ≡ released (bindings_of names.now.values.entries) (tables store.old) left }
+{
+    if let Some(Value::Object(id)) = left {
+        if !names.has(id) {
+            end(store, id);
+        }
+    }
+}
+
+// An object ends, if it is live.
+fn end(store: &mut Store, id: ObjId)
+    ensures { tables store.new ≡ with_object (tables store.old) id.0 None }
+{
+    if store.contains(id) {
+        store.drop_object(id);
+    }
+}

@@ -1,5 +1,0 @@
-pub mod Options
-pub mod StepLaws
-pub mod RunLaws
-pub mod ErrorLaws
-pub mod Hints

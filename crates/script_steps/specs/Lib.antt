@@ -1,4 +1,0 @@
-pub mod Ends
-pub mod Errors
-pub mod Exit
-pub mod Steps

@@ -1,4 +1,0 @@
--- Laws that the goals of functions want, by the name of the first that does.
-use Rattle.script_work.proofs.Bindings.{value_at-bindings_of}
-
-pub ruleset find = (value_at-bindings_of)

@@ -1,5 +1,0 @@
-use Rattle.script_work.proofs.{Bindings.{swept_live, swept_noted, swept_settled}, Validity.{swept_valid}}
-use Rattle.script_work.proofs.work.Work.sweep.Goals as goal
-
-pub invariant_of-self : goal.invariant_of-self
-invariant_of-self c = search (swept_settled, swept_valid, swept_live, swept_noted)

@@ -1,2 +1,0 @@
--- Laws of CutLaws under the name that others know.
-pub use Rattle.selections.proofs.CutLaws.{only_place}

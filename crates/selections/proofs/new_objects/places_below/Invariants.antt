@@ -1,5 +1,0 @@
-use Rattle.form_parts.proofs.Common.{◌≡◌, range_with_len}
-use Rattle.selections.proofs.new_objects.places_below.Given as goal
-
-abbrev pub invariant-loop-place : goal.invariant-loop-place
-invariant-loop-place l = l.places ≡ range_with_len 0 l.place

@@ -1,9 +1,0 @@
-use Rattle.{
-  form_parts.proofs.Common.{◌≡◌, drop, List, Text, Tables, items_of},
-  selections.specs.Selected.{each_truth},
-}
-use Rattle.selections.proofs.planning.are_truths.Given as goal
-
--- the parts so far are truth values
-abbrev pub invariant-loop-item : goal.invariant-loop-item
-invariant-loop-item l = (live : Tables) (texts : List Text) → each_truth (items_of live texts (drop l.item-index l.items)) ≡ each_truth (items_of live texts l.items)

@@ -1,8 +1,0 @@
-use Rattle.{
-  form_parts.proofs.Common.{arith},
-  selections.proofs.HeadingLaws.{label_settled},
-}
-use Rattle.selections.proofs.planning.value_plan.Goals as goal
-
-pub column_place-requires-clause-label : goal.column_place-requires-clause-label
-column_place-requires-clause-label c = label_settled _ _ _ c.from.ensures.1 (λ more. grind (arith, rw c.in-Scalar.is at c.requires.value.given))

@@ -1,6 +1,0 @@
-use Rattle.form_parts.proofs.Common.{◌≡◌, take, Na, taken}
-use Rattle.settings.proofs.aligning.cells_at.Given as goal
-
--- the cells so far
-abbrev pub invariant-loop-row : goal.invariant-loop-row
-invariant-loop-row l = l.cells ≡ taken Na l.fn.column.cells (take l.row-index l.row-items)

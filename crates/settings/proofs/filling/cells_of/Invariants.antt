@@ -1,6 +1,0 @@
-use Rattle.form_parts.proofs.Common.{◌≡◌, take}
-use Rattle.settings.proofs.filling.cells_of.Given as goal
-
--- the cells so far
-abbrev pub invariant-loop-row : goal.invariant-loop-row
-invariant-loop-row l = l.cells ≡ take l.row l.fn.column.cells

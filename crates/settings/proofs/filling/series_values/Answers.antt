@@ -1,8 +1,0 @@
-use Rattle.settings.proofs.PutCases.{own_given}
-use Rattle.settings.proofs.filling.series_values.Goals as goal
-
-pub returns-in-Iloc-clause-given : goal.returns-in-Iloc-clause-given
-returns-in-Iloc-clause-given c = search own_given
-
-pub returns-in-Iat-clause-given : goal.returns-in-Iat-clause-given
-returns-in-Iat-clause-given c = search own_given

@@ -1,6 +1,0 @@
-use Rattle.form_parts.proofs.Common.{◌≡◌, take}
-use Rattle.settings.proofs.growing.axis_with.Given as goal
-
--- the labels so far
-abbrev pub invariant-loop-row : goal.invariant-loop-row
-invariant-loop-row l = l.labels ≡ take l.row l.on.labels

@@ -1,9 +1,0 @@
-use Rattle.{
-  form_parts.proofs.Common.{arith, subst, IsWhole},
-  settings.proofs.GrowLaws.{row_is_whole},
-}
-use Rattle.settings.proofs.growing.with_row.Goals as goal
-
-pub new-requires-clause-whole : goal.new-requires-clause-whole
-new-requires-clause-whole c =
-    subst IsWhole (grind arith) (row_is_whole _ c.args.label c.requires.table.known.whole)

@@ -1,8 +1,0 @@
-use Rattle.signatures.proofs.SureLaws.{dict_sure, sure_told, told_there}
-use Rattle.signatures.proofs.bound.Bound.dict.Goals as goal
-
-pub unwrap-requires : goal.unwrap-requires
-unwrap-requires c = sure_told _ dict_sure c.args.self.now _ _ c.requires (λ live texts. told_there _ _ _ (c.dict_or_none.ensures.value live texts))
-
-pub returns-clause-live : goal.returns-clause-live
-returns-clause-live c = λ live h. rw c.unwrap.ensures at (c.dict_or_none.ensures.live live h)

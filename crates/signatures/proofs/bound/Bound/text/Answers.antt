@@ -1,8 +1,0 @@
-use Rattle.{
-  meaning.proofs.Common.{◌∙◌},
-  signatures.proofs.SureLaws.{text_sure, sure_told},
-}
-use Rattle.signatures.proofs.bound.Bound.text.Goals as goal
-
-pub unwrap-requires : goal.unwrap-requires
-unwrap-requires c = sure_told _ text_sure c.args.self.now _ _ c.requires (λ live texts. λ s. c.text_or_none.ensures.there live texts ∙ s)

@@ -1,8 +1,0 @@
-use Rattle.{
-  meaning.proofs.Common.{arith},
-  frame_store.proofs.RowLaws.{item_of-Row},
-}
-use Rattle.signatures.proofs.forms.are_alike.Goals as goal
-
-pub returns-in-Row : goal.returns-in-Row
-returns-in-Row c = λ live texts. grind (arith, c.are_tuples_like.ensures live texts, c.as_slice.ensures, c.in-Row.is, item_of-Row live texts c.in-Row.parts)

@@ -1,6 +1,0 @@
-pub mod Filled
-pub mod Bound
-pub mod Found
-pub mod Rule
-pub mod Scalars
-pub mod Names

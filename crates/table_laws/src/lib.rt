@@ -1,2 +1,0 @@
-//! Laws of what tables mean: each form makes valid tables of valid ones. Laws alone, in `proofs/`.
-#![tactic(auto)]

@@ -1,0 +1,18 @@
+//! Tests of cells, columns, axes and sorts, of the store and of printed frames: what no clause says, and what no script
+//! reaches.
+#![tactic(auto)]
+
+#[cfg(test)]
+mod axes;
+#[cfg(test)]
+mod cells;
+#[cfg(test)]
+mod columns;
+#[cfg(test)]
+mod picks;
+#[cfg(test)]
+mod printed;
+#[cfg(test)]
+mod sorts;
+#[cfg(test)]
+mod store;
