@@ -76,7 +76,7 @@ fn made_named(
 
 /// What a function of `pd` makes of its arguments, and of the bytes of a file where it reads one: a new object. The
 /// arguments are bound to the function's signature as in a call of Python; all that they hold was given a number by
-/// `dict`. `Series` and `DataFrame` are those of the crate `frame_make`, `read_csv` is that of `frame_make`, and
+/// `dict`. `Series` and `DataFrame` are those of the crate `frame_make`, as `read_csv` is, and
 /// `concat` is told below; no other function than `read_csv` looks at the bytes.
 ///
 /// `pd.concat(objects, axis=0, join="outer", ignore_index=False, keys=None)` puts a list of Series and frames together

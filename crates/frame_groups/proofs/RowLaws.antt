@@ -1,11 +1,5 @@
 -- Tables that have the rows of the frame.
-use Rattle.{
-  frame_parts.proofs.Common.{arith, ◌≡◌, ℕ, Bool, false, List, [], ◌∷◌, ◌++◌, map, length, Option, None, Result, length-map, length-map-range_with_len, list_all, Label, WrongKind, Text, CellValue, AreGiven, FaultValue, then_value, CellBlock, CellColumn, IsSettled, ColumnOf, NumberedTable, Table, table_value, column_value, Entry, column_of_value, blocks_value, headings_value, Refuses, headings_part},
-  factorize.specs.group.{Rows.{GroupsValue}, Reductions.{group_places}},
-  frame_labels.{specs.method.Groups.{headings_of, same_rows, group_answer}, proofs.IndexingLaws.{headings_seen, headings_settled}},
-  frame_select.specs.Selected.{headings_at},
-  frame_groups.{specs.{declared.{columns.ColumnCall.{ColumnCall}, grouping.Grouping.{Grouping}, values.Values.{Values}}, Columns.{takes_at, made_at, rows_made, AreBlocks, row_call_of, IsByRow}, Grouped.{grouping_seen, values_seen}, Tables.{HasHeadings}}, proofs.ColumnLaws.{if_taken, each_is, boxed, one_more_block, one_more_value}},
-}
+use Rattle.{frame_parts.proofs.Common.{arith, ◌≡◌, ℕ, Bool, false, List, [], ◌∷◌, ◌++◌, map, length, Option, None, Result, length-map, length-map-range_with_len, list_all, Label, WrongKind, Text, CellValue, AreGiven, FaultValue, then_value, CellBlock, CellColumn, IsSettled, ColumnOf, NumberedTable, Table, table_value, Entry, column_of_value, blocks_value, headings_value, Refuses, headings_part}, factorize.specs.group.{Rows.{GroupsValue}, Reductions.{group_places}}, frame_labels.{specs.method.Groups.{headings_of, same_rows, group_answer}, proofs.IndexingLaws.{headings_seen, headings_settled}}, frame_select.specs.Selected.{headings_at}, frame_groups.{specs.{declared.{columns.ColumnCall.{ColumnCall}, grouping.Grouping.{Grouping}, values.Values.{Values}}, Columns.{takes_at, made_at, rows_made, AreBlocks, row_call_of, IsByRow}, Grouped.{grouping_seen, values_seen}, Tables.{HasHeadings}}, proofs.ColumnLaws.{if_taken, each_is, boxed, one_more_block, one_more_value}}}
 use Rattle.column_core.specs.Columns as kernel
 use Rattle.frame_labels.specs.method.Groups as meant
 

@@ -6,7 +6,7 @@ ghost use Rattle.column_core.specs.cells.Cell.{IsLonger};
 ghost use Rattle.frame_store.specs.tables.Settled.{IsSettled};
 ghost use Rattle.frame_store.specs.tables.Table.{heading_value};
 ghost use Rattle.frame_labels.specs.method.Groups as meant;
-ghost use Rattle.frame_labels.specs.method.Calls.{chain_result};
+ghost use Rattle.frame_labels.specs.method.Calls.{call_result};
 ghost use Rattle.frame_store.specs.Arguments.{object_value, shape_at, IsLive, IsLiveObject};
 ghost use Rattle.frame_store.specs.Objects.{tables, table_at};
 ghost use Rattle.frame_store.specs.World.{world, entry_in, argument_in, arguments_in, IsSettledWorld, IsKnownArgument, AreKnownArguments, Forms};
@@ -197,7 +197,7 @@ pub fn method(
     requires before { IsKnownChain (world store.old dict.old) chain.now }
     requires arguments { AreKnownArguments (world store.old dict.old) args.now }
     ensures { let w = world store.old dict.old in
-        Forms result (chain_result (entry_in w on) (chain_in w chain.now)
+        Forms result (call_result (entry_in w on) (chain_in w chain.now)
         (arguments_in w args.now)) w (world store.new dict.new) }
 {
     match chain {

@@ -16,14 +16,21 @@ use Rattle.frame_select.specs.Selected.{as_it_is}
 use Rattle.frame_signatures.specs.Bound.{stands_at}
 use Rattle.frame_signatures.specs.declared.bound.Bound.{Bound}
 
--- the first argument
-abbrev pub first_in : World → Bound → Given
-first_in w b = stands_at w.tables w.texts b 0
+-- the argument at a place, and the first one
+abbrev pub stands_in : World → Bound → ℕ → Given
+stands_in w b place = stands_at w.tables w.texts b place
 
--- the texts of the arguments were given, and what stands for the first where it isn't given is no text
-pub record NamesColumns (w : World) (b : Bound) : Type 0 where
+abbrev pub first_in : World → Bound → Given
+first_in w b = stands_in w b 0
+
+-- the texts of the arguments were given, and what stands at the place where none is given is no text
+pub record NamesColumnsAt (w : World) (b : Bound) (place : ℕ) : Type 0 where
   pub given : IsSettled (arguments_of w.tables) w.texts b.args.now
-  pub no_text : HasNoText (slice_get b.parameters.now 0)
+  pub no_text : HasNoText (slice_get b.parameters.now place)
+
+-- the same of the first
+abbrev pub NamesColumns : World → Bound → Type 0
+NamesColumns w b = NamesColumnsAt w b 0
 
 -- the places are those that are meant, which the table has, or the first fault is
 abbrev pub FindsPlaces : List Text → NumberedTable → Result (List ℕ) OpFault → Result (List ℕ) FaultValue → Type 0

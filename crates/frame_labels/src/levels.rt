@@ -87,8 +87,11 @@ fn named_level(
     }
 }
 
-// The level that an argument names: by its number, or by its name, which a text alone can be.
-pub(crate) fn level_of(
+/// The level that an argument names: by its number, or by its name, which a text alone can be.
+///
+/// `WrongKind` of a level that is neither a number nor a text, `OutOfRange` of a number without a level, `NoKey` of a name
+/// that no level has. `NoMemory` never comes.
+pub fn level_of(
     alloc: Global,
     dict: &TextDict,
     on: &ObjRef<'_>,

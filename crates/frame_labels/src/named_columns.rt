@@ -14,7 +14,7 @@ ghost use Rattle.frame_store.specs.Arguments.{object_value, shape_at, IsLiveObje
 ghost use Rattle.frame_store.specs.Objects.{tables, table_at};
 ghost use Rattle.frame_store.specs.World.{world, IsSettledWorld, IsKnownTable, Forms};
 ghost use Rattle.frame_signatures.specs.Scalars.{scalars};
-ghost use Rattle.frame_labels.specs.Named.{first_in, NamesColumns, FindsPlaces, AreMarks};
+ghost use Rattle.frame_labels.specs.Named.{stands_in, first_in, NamesColumnsAt, NamesColumns, FindsPlaces, AreMarks};
 ghost use Rattle.frame_store.specs.Parts.{AreColumnsOf};
 
 use cell_core::{Cell, Grid, Label, NoMemory, Places, TextDict};
@@ -54,6 +54,34 @@ fn places_of(
     column_places(alloc, dict, on, &cells)
 }
 
+/// The columns that the argument at a place names: a label, or the labels of a list; none where it is `None`.
+///
+/// `NoKey` of the first label that no column has. `NoMemory` may come in place of any answer.
+pub fn told_places(
+    alloc: Global,
+    store: &Store,
+    dict: &TextDict,
+    bound: &Bound<'_>,
+    place: usize,
+    on: ObjId,
+) -> Result<Places, OpFault>
+    requires live { IsLiveObject (tables store.now) on }
+    requires settled { IsSettledWorld (world store.now dict.now) }
+    requires names { NamesColumnsAt (world store.now dict.now) bound.now place }
+    ensures { FindsPlaces dict.now (table_at (tables store.now) on.0) result
+        (select.column_places (object_value (tables store.now) dict.now on)
+        (meant.labels_in (stands_in (world store.now dict.now) bound.now place))) }
+{
+    let source = store.read(on);
+    match bound.scalar_or_none(place) {
+        Some(cell) => place_of(alloc, dict, &source, cell),
+        None => match bound.list_or_none(place) {
+            Some(items) => places_of(alloc, dict, &source, items),
+            None => Ok(Places::new(alloc)),
+        },
+    }
+}
+
 /// The columns that the first argument names: a label, or the labels of a list.
 ///
 /// `NoKey` of the first label that no column has. `NoMemory` may come in place of any answer.
@@ -71,14 +99,7 @@ pub fn named_places(
         (select.column_places (object_value (tables store.now) dict.now on)
         (meant.labels_in (first_in (world store.now dict.now) bound.now))) }
 {
-    let source = store.read(on);
-    match bound.scalar_or_none(0) {
-        Some(cell) => place_of(alloc, dict, &source, cell),
-        None => match bound.list_or_none(0) {
-            Some(items) => places_of(alloc, dict, &source, items),
-            None => Ok(Places::new(alloc)),
-        },
-    }
+    told_places(alloc, store, dict, bound, 0, on)
 }
 
 /// The columns that the first argument names, or all where it is `None`.

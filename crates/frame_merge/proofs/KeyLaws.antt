@@ -4,11 +4,11 @@ use Rattle.{
   column_core.{proofs.cells.Common.{position_or_len_is, ⊎_elim, option_map}, specs.cells.Fault.{key_kinds}},
   std.proofs.lemmas.List.{append_assoc},
   frame_store.{specs.{declared.arguments.Chain.{Chain, TheVariants.{Plain}}, Arguments.{shape_at}}, proofs.tables.KindLaws.{kind_is}},
-  frame_labels.{specs.{method.{Merge.{is_key, MergeKeys, suffixed_heading, right_places, kinds_at, are_same_kinds, merged_rows, how_named, validate_in, merge_result}, Rows.{all_places, places_besides}, Levels.{label_cell}, Calls.{is_merge, merge_call, chain_result, call_result}}, LevelColumns.{cell_of}, Chains.{chain_in}}, proofs.IndexingLaws.{headings_seen, headings_settled}},
+  frame_labels.{specs.{method.{Merge.{is_key, MergeKeys, suffixed_heading, right_places, kinds_at, are_same_kinds, merged_rows, how_named, validate_in, merge_result}, Rows.{all_places, places_besides}, Levels.{label_cell}, Calls.{merge_call, reshape_call, called, table_call, method_result, call_result}}, LevelColumns.{cell_of}, Chains.{chain_in, is_plain, last_name}}, proofs.IndexingLaws.{headings_seen, headings_settled}},
   indexmap.specs.IndexSet.{insert_key},
-  meaning_call.{specs.{declared.{Method.{Method, TheVariants.{Other}}, OtherMethod.TheVariants.{Merge}, Parameter.{Parameter}}, Signature.{method_names, method_named, fits_shape, parameters_of, needed, optional}, Binding.{each, is_scalar, count_of, takes, text_in}}, proofs.ShapeLaws.{named_fits, of_frame}},
+  meaning_call.{specs.{declared.{Method.{Method, TheVariants.{Reshape, Other}}, OtherMethod.TheVariants.{Merge}, ReshapeMethod.{ReshapeMethod}, Parameter.{Parameter}}, Signature.{method_names, method_named, fits_shape, parameters_of, needed, optional}, Binding.{each, is_scalar, count_of, takes, text_in}}, proofs.ShapeLaws.{named_fits, of_frame}},
   frame_select.{specs.{Headings.{same_heading}, Selected.{heading_of, headings_at}}, proofs.{HeadingLaws.{heading_decides, same_seen, head_settled, rest_settled}, PlaceLaws.{heading_seen, heading_settled}, AnswerLaws.{column_seen}, PickedLaws.{list_is}}},
-  frame_merge.specs.{Headings.{AreAmong, label_beside, merged_headings}, declared.keys.MergeKeys.{MergeKeys as NumberedKeys}, Keys.{keys_value, cell_labels, keys_told, keys_checked, kinds_of, AreMergeKeys, keys_seen, labels_on}, Calls.{is_plain, merge_of, IsMergeCall}},
+  frame_merge.specs.{Headings.{AreAmong, label_beside, merged_headings}, declared.keys.MergeKeys.{MergeKeys as NumberedKeys}, Keys.{keys_value, cell_labels, keys_told, keys_checked, kinds_of, AreMergeKeys, keys_seen, labels_on}, Calls.{is_merge, merge_of, with_reshape, reshape_of, IsMergeCall}},
   meaning_join.specs.declared.{How.{How}, Validate.{Validate}},
   frame_signatures.{specs.{Bound.{given_in, stands_at, IsBound}, declared.bound.Bound.{Bound as BoundArguments}}, proofs.RuleLaws.{filled}},
 }
@@ -281,8 +281,37 @@ pub frame_called : (tables : Tables) (on : Value) (chain : Chain) (id : ObjId) �
 frame_called _ (Object x) (Plain name) _ is = grind (arith, merge_is_of_frame)
 frame_called _ on _ _ is = cc
 
-pub merge_called : (w : World) (on : Value) (chain : Chain) (gs : List NamedGiven) (id : ObjId) → merge_of w.tables on chain ≡ Some id → call_result (entry_in w on) (chain_in w chain) gs ≡ merge_call (object_value w.tables w.texts id) gs
-merge_called w on = grind arith
+-- which of the three answers a method of a table
+merge_chosen : (o : Option Method) (name : Text) (gs : List NamedGiven) (t : Table) → is_merge o ≡ true → table_call o name gs t ≡ merge_call t gs
+merge_chosen (Some (Other Merge)) _ _ _ _ = refl
+merge_chosen _ _ _ _ is = cc
 
-pub other_called : (w : World) (on : Value) (chain : Chain) (gs : List NamedGiven) → is_plain chain ≡ true → merge_of w.tables on chain ≡ None → chain_result (entry_in w on) (chain_in w chain) gs ≡ call_result (entry_in w on) (chain_in w chain) gs
-other_called w on = grind (arith, other_if)
+reshape_chosen : (id : ObjId) (o : Option Method) (found : ObjId × ReshapeMethod) (name : Text) (gs : List NamedGiven) (t : Table) → with_reshape id o ≡ Some found
+    → (found.0 ≡ id) × (o ≡ Some (Reshape found.1)) × (table_call o name gs t ≡ reshape_call found.1 t gs)
+reshape_chosen id (Some (Reshape m)) found _ _ _ is = grind arith
+reshape_chosen _ _ _ _ _ _ is = cc
+
+any_chosen : (id : ObjId) (o : Option Method) (name : Text) (gs : List NamedGiven) (t : Table) → is_merge o ≡ false → with_reshape id o ≡ None → table_call o name gs t ≡ called o name gs t
+any_chosen _ (Some (Other Merge)) _ _ _ is none = cc
+any_chosen _ (Some (Reshape m)) _ _ _ is none = cc
+any_chosen _ _ _ _ _ _ _ = refl
+
+pub merge_called : (w : World) (on : Value) (chain : Chain) (gs : List NamedGiven) (id : ObjId) → merge_of w.tables on chain ≡ Some id → call_result (entry_in w on) (chain_in w chain) gs ≡ merge_call (object_value w.tables w.texts id) gs
+merge_called w on = grind (arith, merge_chosen)
+
+-- an object and its method of another shape
+pub record IsReshape (w : World) (on : Value) (chain : Chain) (found : ObjId × ReshapeMethod) : Type 0 where
+  pub fits : fits_shape (Reshape found.1) (shape_at w.tables found.0) ≡ true
+  pub meant : (gs : List NamedGiven) → call_result (entry_in w on) (chain_in w chain) gs ≡ reshape_call found.1 (object_value w.tables w.texts found.0) gs
+
+pub reshape_called : (w : World) (on : Value) (chain : Chain) (found : ObjId × ReshapeMethod) → reshape_of w.tables on chain ≡ Some found → IsReshape w on chain found
+reshape_called w (Object id) (Plain name) found is =
+    let chosen = λ (gs : List NamedGiven). reshape_chosen id _ found name gs (object_value w.tables w.texts id) is in
+    record {
+      fits = rw (chosen []).0 (named_fits _ name _ (chosen []).1);
+      meant = λ gs. (chosen gs).2 ∙ ap (λ x. reshape_call found.1 (object_value w.tables w.texts x) gs) (sym (chosen gs).0);
+    }
+reshape_called w _ _ found is = cc
+
+pub other_called : (w : World) (on : Value) (chain : Chain) (gs : List NamedGiven) → is_plain chain ≡ true → merge_of w.tables on chain ≡ None → reshape_of w.tables on chain ≡ None → method_result (entry_in w on) (last_name chain) gs ≡ call_result (entry_in w on) (chain_in w chain) gs
+other_called w on = grind (arith, other_if, any_chosen)

@@ -1,15 +1,5 @@
 -- The rows of two frames that have equal keys, with texts by number and with texts.
-use Rattle.{
-  frame_parts.proofs.Common.{arith, ◌≡◌, ◌∙◌, ◌+◌, ap, refl, sym, ℕ, Bool, true, false, cond, List, [], ◌∷◌, ◌++◌, map, All, Option, Some, None, ◌≤◌, ◌^◌, length, Result, Ok, Err, map-append, length-map, All-head, All-tail, All-map, length-range_with_len, nat_tests, IfSome, IfOk, flat_map, distinct, Text, first_where, first_repeated, All-append as all_append, all_distinct, first_map, distinct_map, Label, AreDistinct, CellColumn, IsPlaceOf, HaveLevels, tuple_less, IsSettled, NumberedTable, Table, table_value, tuple_value, Entry, same_tuple, tuple_by_number, tuples_settled, labels_value, Refuses, settled_by},
-  column_core.{proofs.cells.Common.{option_map, Side as MeantSide}, specs.cells.FaultOf.{side_of}},
-  frame_methods.specs.sorting.Sorting.{in_order},
-  meaning_join.{specs.{pick.Rows.{rows_where}, align.Joins.{Entry as KeyEntry, entries_of, keys_in_order}, declared.{How.{How, TheVariants.{Outer}}, Validate.{Validate}}, Pairs.{pair, partners, pairs_from, pair_of_entry, key_pairs, RepeatedKey, repeated_on, repeated_key, Pair, JoinRefusal, not_one_to_one, within_limit, joined}}, proofs.{pick.RowLaws.{rows_where-map}, align.OrderLaws.{all_in_order, in_order_map}}},
-  merge_concat.{proofs.CodeLaws.{with_seen}, specs.{declared.{fault.MergeFault.{MergeFault}, pairs.Pairs.{Pairs}}, Pairs.{JoinsBy}, Joining.{IsJoinOf}}},
-  cell_core.specs.declared.{cell.Side.{Side}, code.Code.TheVariants.{BadMerge}},
-  factorize.{specs.{row_keys.Keys.{same_tuple as same_numbers}, Keys.{column_keys, levels_of}}, proofs.LabelLaws.{columns_alike}},
-  frame_labels.{specs.method.{Groups.{row_keys}, Merge.{unless_twice}}, proofs.{IndexingLaws.{all_rows, tuples_seen}, KeyLaws.{numbered_keys}}},
-  frame_merge.specs.{declared.keys.MergeKeys.{MergeKeys}, Keys.{keys_value}, Rows.{repeated_in, pairs_in, met_result, AreRowsMet, MeetsBy}},
-}
+use Rattle.{frame_parts.proofs.Common.{arith, ◌≡◌, ◌∙◌, ◌+◌, ap, refl, sym, ℕ, Bool, true, false, cond, List, [], ◌∷◌, ◌++◌, map, All, Option, Some, None, ◌≤◌, length, Result, Ok, Err, map-append, length-map, All-head, All-tail, All-map, length-range_with_len, nat_tests, IfSome, IfOk, flat_map, Text, first_where, first_repeated, All-append as all_append, all_distinct, first_map, distinct_map, Label, AreDistinct, CellColumn, IsPlaceOf, HaveLevels, tuple_less, IsSettled, NumberedTable, Table, table_value, tuple_value, Entry, same_tuple, tuple_by_number, tuples_settled, labels_value, Refuses, settled_by}, column_core.{proofs.cells.Common.{option_map, Side as MeantSide}, specs.cells.FaultOf.{side_of}}, frame_methods.specs.sorting.Sorting.{in_order}, meaning_join.{specs.{pick.Rows.{rows_where}, align.Joins.{Entry as KeyEntry, entries_of, keys_in_order}, declared.{How.{How, TheVariants.{Outer}}, Validate.{Validate}}, Pairs.{pair, partners, pairs_from, pair_of_entry, key_pairs, RepeatedKey, repeated_on, repeated_key, Pair, JoinRefusal, not_one_to_one, within, joined_within}}, proofs.{pick.RowLaws.{rows_where-map}, align.OrderLaws.{all_in_order, in_order_map}}}, merge_concat.{proofs.CodeLaws.{with_seen}, specs.{declared.{fault.MergeFault.{MergeFault}, pairs.Pairs.{Pairs}}, Pairs.{JoinsBy}, Joining.{IsJoinOf}}}, cell_core.specs.declared.{cell.Side.{Side}, code.Code.TheVariants.{BadMerge}}, factorize.{specs.{row_keys.Keys.{same_tuple as same_numbers}, Keys.{column_keys, levels_of}}, proofs.LabelLaws.{columns_alike}}, frame_labels.{specs.method.{Groups.{row_keys}, Merge.{unless_twice}}, proofs.{IndexingLaws.{all_rows, tuples_seen}, KeyLaws.{numbered_keys}}}, frame_merge.specs.{declared.keys.MergeKeys.{MergeKeys}, Keys.{keys_value}, Rows.{repeated_in, pairs_in, met_result, AreRowsMet, MeetsBy}}}
 use Rattle.meaning_join.specs.Pairs as join
 use Rattle.merge_concat.specs.declared.fault.MergeFault.TheVariants as fault
 
@@ -97,10 +87,10 @@ module _ {K : Type 0} where
   abbrev unless : Option (RepeatedKey K) → Result (List Pair) (JoinRefusal K) → Result (List Pair) (JoinRefusal K)
   unless again rest = join.unless_repeated again rest
 
-  joined_ok : (again : Option (RepeatedKey K)) (ps pairs : List Pair) → unless again (within_limit ps) ≡ Ok pairs → (again ≡ None) × (pairs ≡ ps) × (length ps ≤ 2 ^ 26)
+  joined_ok : (most : ℕ) (again : Option (RepeatedKey K)) (ps pairs : List Pair) → unless again (within most ps) ≡ Ok pairs → (again ≡ None) × (pairs ≡ ps) × (length ps ≤ most)
   joined_ok = grind (arith, nat_tests)
 
-  joined_twice : (again : Option (RepeatedKey K)) (ps : List Pair) (k : RepeatedKey K) → unless again (within_limit ps) ≡ Err (not_one_to_one k) → again ≡ Some k
+  joined_twice : (most : ℕ) (again : Option (RepeatedKey K)) (ps : List Pair) (k : RepeatedKey K) → unless again (within most ps) ≡ Err (not_one_to_one k) → again ≡ Some k
   joined_twice = grind arith
 
 -- the join by numbers is the join by texts
@@ -153,21 +143,21 @@ module _ (texts : List Text) (distinct : AreDistinct texts) (l r : NumberedTable
   )
 
   module _ (lks rks : List (List Label)) (lks_are : lks ≡ kl) (rks_are : rks ≡ kr) where
-    abbrev by_numbers : Result (List Pair) (JoinRefusal (List Label))
-    by_numbers = joined same_numbers (tuple_less texts) how once lks rks
+    abbrev by_numbers : ℕ → Result (List Pair) (JoinRefusal (List Label))
+    by_numbers most = joined_within most same_numbers (tuple_less texts) how once lks rks
 
-    by_rows : by_numbers ≡ joined same_numbers (tuple_less texts) how once kl kr
-    by_rows = search
+    by_rows : (most : ℕ) → by_numbers most ≡ joined_within most same_numbers (tuple_less texts) how once kl kr
+    by_rows most = λ i. joined_within most same_numbers (tuple_less texts) how once (lks_are i) (rks_are i)
 
-    pub joins_meet : (made : Result Pairs MergeFault) → JoinsBy made by_numbers → MeetsBy texts (met_result made) (repeated_in once L R (keys_value keys)) (pairs_in how L R (keys_value keys))
-    joins_meet (Ok made) is =
-        let h = joined_ok _ _ _ (sym by_rows ∙ is.are) in
+    pub joins_meet : (most : ℕ) (made : Result Pairs MergeFault) → JoinsBy made (by_numbers most) → MeetsBy texts most (met_result made) (repeated_in once L R (keys_value keys)) (pairs_in how L R (keys_value keys))
+    joins_meet most (Ok made) is =
+        let h = joined_ok _ _ _ _ (sym (by_rows most) ∙ is.are) in
         (none_again h.0, search pairs_are)
-    joins_meet (Err (fault.NotOneToOne side key)) is = twice _ _ (joined_twice _ _ _ (sym by_rows ∙ is))
-    joins_meet (Err (fault.DuplicateLabels key)) is = absurd is
-    joins_meet (Err fault.MixedKinds) is = absurd is
-    joins_meet (Err fault.TooLarge) is = grind (arith, nat_tests, by_rows, again_is, pairs_are)
-    joins_meet (Err fault.NoMemory) is = tt
+    joins_meet most (Err (fault.NotOneToOne side key)) is = twice _ _ (joined_twice _ _ _ _ (sym (by_rows most) ∙ is))
+    joins_meet _ (Err (fault.DuplicateLabels key)) is = absurd is
+    joins_meet _ (Err fault.MixedKinds) is = absurd is
+    joins_meet most (Err fault.TooLarge) is = grind (arith, nat_tests, by_rows most, again_is, pairs_are)
+    joins_meet _ (Err fault.NoMemory) is = tt
 
 -- the rows that are joined are those of their sides
 module _ (l r : NumberedTable) (keys : MergeKeys) (how : How) where

@@ -1,6 +1,7 @@
 -- The columns of joined rows, and the frame of them.
 use Rattle.{
-  frame_parts.proofs.Common.{drop_more, length-map, map-append, take_more, length-append, map-range_with_len_more, length-map-range_with_len, All-map, All-append, All-filter, slice_get_within, get_or_from_slice_get, nat_tests, ◌≡◌, ◌∙◌, ◌+◌, ap, refl, sym, arith, ℕ, suc, false, List, [], ◌∷◌, ◌++◌, map, take, drop, length, slice_get, All, Option, Some, None, append_assoc, nat_eq, Result, filter, ◌^◌, ◌<◌, subst, true, slice_index_or, Ok, Err, get_or-map, range_with_len, position_or_len, IfSome, IsSome, on_rows_seen, default_seen, map-map as map_map, Cell, Na, Label, Limit, Frame, AreDistinct, IsLonger, Text, CellValue, na_cell, datum, LabelValue, FaultValue, fault_of, IsSettled, ColumnOf, Table, column_at, column_value, NumberedTable, table_value, heading_value, Entry, IsWhole, columns_value, headings_value, Makes, IsKnownTable, OpFault, Refused, NoMemory, HeadingList, columns_of, table_of, table_settled, settled_later, seen_later, columns_part, CellBlock, AxisValue, range_axis, within_limits, limited, unless_repeated, default_labels, common_name, heading_at},
+  frame_parts.proofs.Common.{drop_more, length-map, map-append, take_more, length-append, map-range_with_len_more, length-map-range_with_len, All-map, All-append, All-filter, length-range_with_len, slice_get_within, get_or_from_slice_get, nat_tests, ◌-◌, ◌&&◌, ◌≡◌, ◌∙◌, ◌+◌, ap, refl, sym, arith, ℕ, suc, false, List, [], ◌∷◌, ◌++◌, map, take, drop, length, slice_get, All, Option, Some, None, append_assoc, nat_eq, Result, filter, ◌^◌, ◌<◌, subst, true, slice_index_or, Ok, Err, get_or-map, range_with_len, position_or_len, IfSome, IsSome, on_rows_seen, default_seen, map-map as map_map, Cell, Na, Label, Limit, Frame, AreDistinct, IsLonger, Text, CellValue, na_cell, datum, LabelValue, FaultValue, fault_of, IsSettled, ColumnOf, Table, column_at, column_value, NumberedTable, table_value, heading_value, Entry, IsWhole, columns_value, headings_value, Makes, IsKnownTable, OpFault, Refused, NoMemory, HeadingList, columns_of, table_of, table_settled, settled_later, seen_later, columns_part, CellBlock, AxisValue, range_axis, within_limits, limited, unless_repeated, default_labels, common_name, heading_at},
+  std.proofs.Common.{min, nat_le},
   frame_select.{proofs.{AnswerLaws.{column_seen}, HeadingLaws.{repeated_seen}, RefusalLaws.{repeated_settled}}, specs.Headings.{NamesRepeated, repeated_heading}},
   meaning_join.specs.{Pairs.{Pair}, declared.{How.{How}, Validate.{Validate}}},
   frame_labels.{specs.method.{Rows.{all_places}, Merge.{MergeKeys, is_key, right_key, right_places, key_cell, left_column, column_of_side, suffixed_heading, merged, merged_rows}}, proofs.{NamedLaws.{is_other, others_meant}, TableLaws.{limited_within}}},
@@ -127,8 +128,8 @@ module _ (texts : List Text) where
   some_headings hs all = λ k d lt. grind (arith, subst IsSome (get_or-map (heading_value texts) hs k d) (all k _ (omega (arith, length-map hs (heading_value texts), lt))))
 
 -- the frame that is frame_meant, of rows that are met and labels that are made
-module _ (old new : List Text) (l r : NumberedTable) (numbers : NumberedKeys) (known : record { left : IsKnownTable old l; right : IsKnownTable old r; frames : (l.shape ≡ Frame) × (r.shape ≡ Frame); keys : AreMergeKeys l r numbers }) (how : How) (once : Validate) (met : Option Pairs)
-    (found : record { rows : MeetsBy old (Ok met) (repeated_in once (table_value old l) (table_value old r) (keys_value numbers)) (pairs_in how (table_value old l) (table_value old r) (keys_value numbers)); inside : IfSome met (AreRowsMet l r) }) (distinct : AreDistinct new) (labels slice : List (Option Label))
+module _ (old new : List Text) (l r : NumberedTable) (numbers : NumberedKeys) (known : record { left : IsKnownTable old l; right : IsKnownTable old r; frames : (l.shape ≡ Frame) × (r.shape ≡ Frame); keys : AreMergeKeys l r numbers }) (how : How) (once : Validate) (most : ℕ) (met : Option Pairs)
+    (found : record { rows : MeetsBy old most (Ok met) (repeated_in once (table_value old l) (table_value old r) (keys_value numbers)) (pairs_in how (table_value old l) (table_value old r) (keys_value numbers)); inside : IfSome met (AreRowsMet l r) }) (distinct : AreDistinct new) (labels slice : List (Option Label))
     (labelled : record { longer : IsLonger old new; given : IsSettled headings_value new labels; labels : headings_value new labels ≡ merged_headings (table_value old l) (table_value old r) (keys_value numbers) }) (sliced : slice ≡ labels) where
   abbrev L : Table
   L = table_value old l
@@ -164,8 +165,14 @@ module _ (old new : List Text) (l r : NumberedTable) (numbers : NumberedKeys) (k
   repeated_so NoMemory _ = tt
 
   module _ (none : repeated_heading slice ≡ None) where
-    pub many_so : met ≡ None → Makes new (Err (Refused Limit)) answer
-    many_so is = let many : 2 ^ 26 < length ps = rw is at found.rows.1 in grind (arith, finished_by _ none, nat_tests, rows_meant)
+    pub many_so : (rights : List ℕ) (counted_right : ℕ) → rights ≡ filter (is_other keys.right) (range_with_len 0 counted_right) → counted_right ≡ length r.columns → (columns : ℕ) → columns ≡ min (length l.columns + length rights) (2 ^ 64 - 1)
+        → ((rows : ℕ) → within_limits rows columns ≡ (nat_le rows most && nat_le columns (2 ^ 16))) → met ≡ None → Makes new (Err (Refused Limit)) answer
+    many_so rights _ kept right_columns columns sum law is =
+        let many : most < length ps = rw is at found.rows.1 in
+        let others : rights ≡ right_places R keys = others_meant old r _ _ _ kept right_columns in
+        let all : length frame_meant.columns ≡ length l.columns + length rights = grind (arith, length-append, length-map, length-range_with_len, others) in
+        let beyond : within_limits (length ps) (length frame_meant.columns) ≡ false = grind (arith, nat_tests, law (length ps), all) in
+        grind (arith, finished_by _ none, rows_meant, beyond)
 
     module _ (made : Pairs) (some : met ≡ Some made) (count : ℕ) (counted : count ≡ length made.left) where
       are : ArePairs made ps

@@ -1,5 +1,5 @@
 -- The rows of two frames that have equal keys.
-use Rattle.std.specs.Prelude.{◌≡◌, ◌<◌, ◌≤◌, ◌^◌, List, length, All, Option, Some, None, Result, Ok, Err}
+use Rattle.std.specs.Prelude.{◌≡◌, ◌<◌, ◌≤◌, ℕ, List, length, All, Option, Some, None, Result, Ok, Err}
 use Rattle.column_core.specs.cells.Text.{Text}
 use Rattle.column_core.specs.cells.Cell.{LabelValue}
 use Rattle.column_core.specs.cells.Fault.{FaultValue}
@@ -34,17 +34,17 @@ pub record AreRowsMet (l r : NumberedTable) (pairs : Pairs) : Type 0 where
   pub right : All (IsPlaceOf (length r.labels)) pairs.right
   pub same : length pairs.right ≡ length pairs.left
 
--- pairs that are made, as many as a table may have rows, or more than that
-abbrev pub HasMet : Option Pairs → List Pair → Type 0
-HasMet (Some made) pairs = ArePairs made pairs × (length pairs ≤ 2 ^ 26)
-HasMet None pairs = 2 ^ 26 < length pairs
+-- pairs that are made, so many at most, or more than that
+abbrev pub HasMet : ℕ → Option Pairs → List Pair → Type 0
+HasMet most (Some made) pairs = ArePairs made pairs × (length pairs ≤ most)
+HasMet most None pairs = most < length pairs
 
 -- the pairs are those that are meant, and no key stands twice; or one does, and is refused. Want of memory may come in
 -- place of any answer.
-abbrev pub MeetsBy : List Text → Result (Option Pairs) OpFault → Option (RepeatedKey (List LabelValue)) → List Pair → Type 0
-MeetsBy texts (Ok met) again pairs = (again ≡ None) × HasMet met pairs
-MeetsBy texts (Err (Refused code)) again pairs = (rest : Result Entry FaultValue) → Refuses texts code (unless_twice again rest)
-MeetsBy texts (Err NoMemory) again pairs = Unit {0}
+abbrev pub MeetsBy : List Text → ℕ → Result (Option Pairs) OpFault → Option (RepeatedKey (List LabelValue)) → List Pair → Type 0
+MeetsBy texts most (Ok met) again pairs = (again ≡ None) × HasMet most met pairs
+MeetsBy texts most (Err (Refused code)) again pairs = (rest : Result Entry FaultValue) → Refuses texts code (unless_twice again rest)
+MeetsBy texts most (Err NoMemory) again pairs = Unit {0}
 
 -- what a join answers, as a part of a merge
 abbrev pub met_result : Result Pairs MergeFault → Result (Option Pairs) OpFault

@@ -6,19 +6,19 @@ ghost use Rattle.frame_labels.specs.method.Calls as meant;
 ghost use Rattle.frame_store.specs.Arguments.{object_value, shape_at, IsLive, IsLiveObject};
 ghost use Rattle.frame_store.specs.Objects.{tables};
 ghost use Rattle.frame_store.specs.World.{world, entry_in, arguments_in, IsSettledWorld, AreKnownArguments, Forms};
-ghost use Rattle.frame_labels.specs.Chains.{chain_in};
-ghost use Rattle.frame_merge.specs.Calls.{is_plain, merge_of};
+ghost use Rattle.frame_labels.specs.Chains.{chain_in, is_plain};
+ghost use Rattle.frame_merge.specs.Calls.{is_merge, merge_of, reshape_of};
 
 use crate::merging::merged;
 use cell_core::{Grid, Shape, TextDict};
 use frame_signatures::{bind, method_named, parameters};
 use frame_store::{Chain, Named, NamedList, ObjId, OpFault, Store, Value, placed};
-use meaning_call::{Method, OtherMethod};
+use meaning_call::{Method, OtherMethod, ReshapeMethod};
 use std::alloc::Global;
 
 // Whether the name is that of the method `merge` of a shape.
 fn is_merge(shape: Shape, name: &str) -> bool
-    ensures { result ≡ meant.is_merge (signature.method_named shape name.now) }
+    ensures { result ≡ is_merge (signature.method_named shape name.now) }
 {
     match method_named(shape, name) {
         Some(method) => matches!(method, Method::Other(OtherMethod::Merge)),
@@ -41,6 +41,23 @@ fn merge_of(store: &Store, on: Value, chain: &Chain) -> Option<ObjId>
         Some(id)
     } else {
         None
+    }
+}
+
+// The object of whose methods of another shape one is called, and that method, if it is such a call.
+fn reshape_of(store: &Store, on: Value, chain: &Chain) -> Option<(ObjId, ReshapeMethod)>
+    requires { IsLive (tables store.now) on }
+    ensures { result ≡ reshape_of (tables store.now) on chain.now }
+{
+    let Value::Object(id) = on else {
+        return None;
+    };
+    let Chain::Plain(name) = chain else {
+        return None;
+    };
+    match method_named(store.read(id).shape(), name.as_str())? {
+        Method::Reshape(method) => Some((id, method)),
+        _ => None,
     }
 }
 
@@ -70,7 +87,7 @@ fn merge_call(
     placed(store, dict, table)
 }
 
-/// A method of a value by its name: `merge` of a frame, or any other.
+/// A method of a value by its name: `merge` of a frame, one of another shape, or any other.
 ///
 /// `left.merge(right, how="inner", on=None, validate=None)` answers a new frame of the rows of both frames whose cells
 /// in the key columns are equal, NA with NA ("Merge, join, concatenate and compare" in the pandas user guide). The keys
@@ -79,8 +96,8 @@ fn merge_call(
 /// exchanged; `outer` goes through all keys in order. The columns are those of the left, and then those of the right
 /// that are no keys; a label that both have, neither of them a key, gets `_x` on the left and `_y` on the right, behind
 /// its text. A cell is NA where the row doesn't come from the column's side, and that of a key comes from the side that
-/// has the row. The rows are numbered. No object that was there changes. Any other method is answered as
-/// `frame_methods::method` does.
+/// has the row. The rows are numbered. No object that was there changes. A method of another shape is answered as
+/// `frame_reshape::method` does, and any other one as `frame_methods::method` does.
 ///
 /// # Errors
 ///
@@ -109,6 +126,11 @@ pub fn method(
 {
     match merge_of(store, on, chain) {
         Some(id) => merge_call(alloc, store, dict, id, args.as_slice()),
-        None => frame_methods::method(alloc, store, dict, on, chain, args),
+        None => match reshape_of(store, on, chain) {
+            Some((id, method)) => {
+                frame_reshape::method(alloc, store, dict, id, method, args.as_slice())
+            }
+            None => frame_methods::method(alloc, store, dict, on, chain, args),
+        },
     }
 }

@@ -1,7 +1,8 @@
 //! What `merge` of a frame answers: the rows of two frames that have equal keys, as a frame.
 //!
 //! [`method`] calls a method of a value by its name. `merge` of a frame is answered here, by its definition on whole
-//! tables (`meaning_method/specs/Merge.antt`); any other method is handed to `frame_methods`.
+//! tables (`meaning_method/specs/Merge.antt`); a method of another shape is handed to `frame_reshape`, and any other
+//! method to `frame_methods`.
 //!
 //! The arguments are bound and read (`arguments`), and the key columns of both frames are found and tested (`keys`).
 //! The rows are joined by `merge_concat`, by the cells of the key columns (`rows`). A label that columns of both frames

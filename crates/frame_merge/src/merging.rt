@@ -19,7 +19,7 @@ use crate::keys::{MergeKeys, keys_of_merge, labels_told};
 use crate::rows::rows_met;
 use cell_core::{Code, Grid, Shape, TextDict};
 use frame_labels::places_besides;
-use frame_parts::{common_name, within_limits};
+use frame_parts::{common_name, rows_within, within_limits};
 use frame_select::different_headings;
 use frame_signatures::Bound;
 use frame_store::{ObjId, ObjRef, OpFault, Store, Table};
@@ -46,9 +46,10 @@ fn merged_rows(
     ensures answer { Makes dict.new result (meant.merged_rows (table_value dict.old l.now)
         (table_value dict.old r.now) how once (keys_value keys.now)) }
 {
-    let met = rows_met(alloc, dict, l, r, keys, how, once)?;
-    let name = common_name(dict, l.columns_name(), r.columns_name());
     let rights = places_besides(alloc, r.columns(), &keys.right)?;
+    let most = rows_within(l.columns().saturating_add(rights.len()));
+    let met = rows_met(alloc, dict, l, r, keys, how, once, most)?;
+    let name = common_name(dict, l.columns_name(), r.columns_name());
     let labels = merged_labels(alloc, dict, l, r, keys, &rights)?;
     // Equal texts have equal numbers: `TextDict::len` says so.
     let _ = dict.len();

@@ -15,7 +15,7 @@ use meaning_join::{How, Validate};
 use merge_concat::{MergeFault, Pairs, join_rows};
 use std::alloc::Global;
 
-// What a join answers: no pairs where there are more than a table may have rows.
+// What a join answers: no pairs where there are too many.
 fn met(joined: Result<Pairs, MergeFault>) -> Result<Option<Pairs>, OpFault>
     requires { IsJoinFault joined }
     ensures { result ≡ met_result joined }
@@ -32,7 +32,7 @@ fn met(joined: Result<Pairs, MergeFault>) -> Result<Option<Pairs>, OpFault>
 }
 
 // The rows of both frames that have equal keys, NA with NA, and as `how` says those that meet none; no pairs where
-// there are more than a table may have rows. A key that stands twice on a side where each may stand once is refused.
+// there are more than the caller has room for. A key that stands twice on a side where each may stand once is refused.
 #[tactic(auto, using(crate::proofs::RowLaws::both_fit, frame_labels::proofs::KeyLaws::keys_counted))]
 pub(crate) fn rows_met(
     alloc: Global,
@@ -42,13 +42,14 @@ pub(crate) fn rows_met(
     keys: &MergeKeys,
     how: How,
     once: Validate,
+    most: usize,
 ) -> Result<Option<Pairs>, OpFault>
     requires left { IsKnownTable dict.now l.now }
     requires right { IsKnownTable dict.now r.now }
     requires keys { AreMergeKeys l.now r.now keys.now }
     ensures rows { let L = table_value dict.now l.now in
         let R = table_value dict.now r.now in
-        MeetsBy dict.now result (repeated_in once L R (keys_seen dict.now keys.now))
+        MeetsBy dict.now most result (repeated_in once L R (keys_seen dict.now keys.now))
         (pairs_in how L R (keys_seen dict.now keys.now)) }
     ensures inside { IfOk result (λ met. IfSome met (AreRowsMet l.now r.now)) }
 {
@@ -60,5 +61,5 @@ pub(crate) fn rows_met(
     let of_right: &[ColRef<'_>] = &rights;
     let left = KeyColumns::of(of_left, l.rows());
     let right = KeyColumns::of(of_right, r.rows());
-    met(join_rows(alloc, dict, &left, &right, how, once))
+    met(join_rows(alloc, dict, &left, &right, how, once, most))
 }

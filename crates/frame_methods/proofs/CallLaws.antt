@@ -1,8 +1,5 @@
 -- What is made, as an answer.
-use Rattle.{
-  frame_parts.proofs.Common.{arith, ◌≡◌, ◌∙◌, List, ap, Result, Ok, Err, IfOk, IsLonger, Cell, Text, datum, FaultValue, IsSettled, NumberedTable, Table, table_value, Entry, MakesBy, Value, OpFault, Tables, shown, Makes, FormAnswers, seen_later},
-  frame_methods.specs.{declared.made.Made.{Made}, Made.{made_value}},
-}
+use Rattle.{frame_parts.proofs.Common.{arith, ◌≡◌, ◌∙◌, List, ap, Result, Ok, Err, IfOk, IsLonger, Cell, Text, datum, FaultValue, IsSettled, NumberedTable, table_value, Entry, MakesBy, Value, OpFault, Tables, shown, Makes, FormAnswers, seen_later}, frame_methods.specs.{declared.made.Made.{Made}, Made.{made_value}}}
 use Rattle.frame_store.specs.tables.Value as value
 use Rattle.frame_methods.specs.declared.made.Made.TheVariants as made
 

@@ -16,4 +16,6 @@ pub mod SortLaws
 pub mod ShapeLaws
 pub mod Hints
 -- laws of crates below, passed on to the crates above
+pub use Rattle.frame_parts.proofs as frame_parts
+pub use Rattle.nullable_array.proofs as nullable_array
 pub use Rattle.sorting.proofs as sorting

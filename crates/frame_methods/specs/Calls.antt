@@ -7,7 +7,7 @@ use Rattle.frame_store.specs.tables.Table.{Table}
 use Rattle.frame_store.specs.tables.Value.{Entry}
 use Rattle.meaning_call.specs.declared.Method.{Method}
 use Rattle.meaning_call.specs.Signature.{parameters_of, fits_shape}
-use Rattle.frame_labels.specs.method.Methods.{answer_for, takes_one_table}
+use Rattle.frame_labels.specs.method.Methods.{answer_for, is_answered}
 use Rattle.frame_store.specs.declared.fault.OpFault.{OpFault}
 use Rattle.frame_store.specs.declared.fault.OpFault.TheVariants.{Refused, NoMemory}
 use Rattle.frame_store.specs.Shown.{Refuses}
@@ -17,9 +17,9 @@ use Rattle.frame_signatures.specs.Bound.{given_in}
 use Rattle.frame_signatures.specs.declared.bound.Bound.{Bound}
 use Rattle.frame_methods.specs.declared.binding.BoundCall.{BoundCall}
 
--- the method is answered by its table alone, the arguments are its own, the shape has it, and their texts were given
+-- the method is answered here, the arguments are its own, the shape has it, and their texts were given
 pub record IsCall (w : World) (m : Method) (b : Bound) (shape : Shape) : Type 0 where
-  pub alone : takes_one_table m ≡ true
+  pub answered : is_answered m ≡ true
   pub parameters : b.parameters.now ≡ parameters_of m
   pub shaped : fits_shape m shape ≡ true
   pub given : IsSettled (arguments_of w.tables) w.texts b.args.now

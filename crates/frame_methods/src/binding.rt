@@ -37,11 +37,11 @@ pub fn exists(store: &Store, on: Value, name: &str) -> bool
     }
 }
 
-// Whether a method is answered by its table alone: all are but those of `OtherMethod`.
-fn takes_one_table(method: Method) -> bool
-    ensures { result ≡ meant.takes_one_table method }
+// Whether a method is answered here: all are but those of another shape, and those of `OtherMethod`.
+fn is_answered(method: Method) -> bool
+    ensures { result ≡ meant.is_answered method }
 {
-    !matches!(method, Method::Other(_))
+    !matches!(method, Method::Reshape(_) | Method::Other(_))
 }
 
 // The call of the method of the name that an object has, if it is answered here and takes the arguments.
@@ -64,7 +64,7 @@ pub(crate) fn bound_call<'a>(
     let Some(method) = method_named(store.read(on).shape(), name) else {
         return Err(no_attribute(alloc, name));
     };
-    if !takes_one_table(method) {
+    if !is_answered(method) {
         return Err(OpFault::Refused(Code::NotBuilt));
     }
     let bound = bind(store, dict, parameters(method), args)?;

@@ -1,23 +1,22 @@
 // Calls of methods on objects.
-ghost use Rattle.std.specs.Prelude.{◌≡◌, false, List, IsSome, Result, IfOk};
+ghost use Rattle.std.specs.Prelude.{◌≡◌, true, List, IsSome, Result, IfOk};
 ghost use Rattle.column_core.specs.cells.Text.{Text as OneText};
 ghost use Rattle.column_core.specs.cells.Cell.{IsLonger};
 ghost use Rattle.column_core.specs.cells.Fault.{FaultValue};
 ghost use Rattle.frame_store.specs.tables.Settled.{IsSettled};
 ghost use Rattle.frame_store.specs.tables.Value.{Entry};
-ghost use Rattle.frame_labels.specs.method.Calls.{chain_result, method_result};
+ghost use Rattle.frame_labels.specs.method.Calls.{method_result};
 ghost use Rattle.meaning_call.specs.declared.Method.TheVariants.{Rows, Levels, Labels, Table as Whole};
 ghost use Rattle.frame_parts.specs.Makes.{MakesBy};
-ghost use Rattle.frame_store.specs.Arguments.{entry_of, object_value, shape_at, IsLive};
+ghost use Rattle.frame_store.specs.Arguments.{object_value, shape_at, IsLive};
 ghost use Rattle.frame_store.specs.Objects.{tables};
 ghost use Rattle.frame_store.specs.Shown.{Makes};
 ghost use Rattle.frame_store.specs.World.{world, entry_in, arguments_in, IsSettledWorld, AreKnownArguments, Forms};
-ghost use Rattle.frame_labels.specs.Chains.{chain_in, is_grouped};
+ghost use Rattle.frame_labels.specs.Chains.{is_plain, last_name};
 ghost use Rattle.frame_methods.specs.Calls.{answer_in, IsCall};
 ghost use Rattle.frame_methods.specs.Made.{made_value};
-ghost use Rattle.frame_methods.specs.Faults.{IsChained};
 
-use crate::binding::{BoundCall, bound_call, exists};
+use crate::binding::{BoundCall, bound_call};
 use crate::column_ops::columns_answer;
 use crate::csv::to_csv;
 use crate::duplicates::duplicated;
@@ -26,7 +25,7 @@ use crate::renaming::{rename_frame, rename_series, to_frame};
 use crate::rows::{dropna, head, tail};
 use crate::sorts::{sort_index, sort_values};
 use crate::summaries::{summarize, summary_of};
-use cell_core::{Code, Grid, TextDict};
+use cell_core::{Grid, TextDict};
 use frame_labels::{
     drop_columns, drop_level, level_names, named_places, no_attribute, reindex, rename_axis,
     renumber, reset_levels, set_index, subset_places, swap_levels, xs,
@@ -53,18 +52,6 @@ fn answer_made(
         Made::Scalar(cell) => Ok(Value::Scalar(cell)),
         Made::Table(table) => placed(store, dict, Ok(table)),
     }
-}
-
-// The name that a chain has before its last one, on a value that may have it.
-fn chained(alloc: Global, store: &Store, on: Value, name: &str) -> OpFault
-    requires { IsLive (tables store.now) on }
-    ensures { (texts : List OneText)
-        → IsChained texts result (entry_of (tables store.now) texts on) name.now }
-{
-    if exists(store, on, name) {
-        return OpFault::Refused(Code::NotBuilt);
-    }
-    no_attribute(alloc, name)
 }
 
 // The table that a method makes of rows.
@@ -260,7 +247,7 @@ fn answer(
             placed(store, dict, table)
         }
         Method::Table(method) => table_answer(alloc, store, dict, method, bound, on),
-        Method::Other(_) => unreachable!(),
+        Method::Reshape(_) | Method::Other(_) => unreachable!(),
     }
 }
 
@@ -287,7 +274,7 @@ fn call(
     answer(alloc, store, dict, &call, id)
 }
 
-/// A method of a value: `s.name(..)`, or one with `rolling` or `expanding` before it.
+/// A method of a value: `s.name(..)`.
 ///
 /// The answer is a scalar, or a new object whose table is that of its own rows; no other object
 /// changes. The scalar that `to_csv` answers is a text, to which the dictionary gives a number. The
@@ -296,7 +283,7 @@ fn call(
 /// # Errors
 ///
 /// In this order: `NoAttribute` where the value has no such method (a scalar has none); `NotBuilt` of
-/// a method that isn't built; `WrongKind` of arguments that are unknown, missing, too many, given
+/// a method that isn't answered here; `WrongKind` of arguments that are unknown, missing, too many, given
 /// twice or of a form that the method doesn't take; `BadValue(Argument)` of a value that isn't listed;
 /// the method's own refusals; `Limit`. `NoMemory` may come in place of any answer. After a refusal all
 /// objects are as they were.
@@ -308,18 +295,16 @@ pub fn method(
     chain: &Chain,
     args: &NamedList,
 ) -> Result<Value, OpFault>
-    requires chain { is_grouped chain.now ≡ false }
+    requires chain { is_plain chain.now ≡ true }
     requires live { IsLive (tables store.old) on }
     requires settled { IsSettledWorld (world store.old dict.old) }
     requires arguments { AreKnownArguments (world store.old dict.old) args.now }
     ensures { let w = world store.old dict.old in
-        Forms result (chain_result (entry_in w on) (chain_in w chain.now)
+        Forms result (method_result (entry_in w on) (last_name chain.now)
         (arguments_in w args.now)) w (world store.new dict.new) }
 {
     match chain {
         Chain::Plain(name) => call(alloc, store, dict, on, name.as_str(), args.as_slice()),
-        Chain::Group(_, _, _) => unreachable!(),
-        Chain::Rolling(_, _) => Err(chained(alloc, store, on, "rolling")),
-        Chain::Expanding(_, _) => Err(chained(alloc, store, on, "expanding")),
+        Chain::Group(_, _, _) | Chain::Rolling(_, _) | Chain::Expanding(_, _) => unreachable!(),
     }
 }

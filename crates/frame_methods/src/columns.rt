@@ -18,11 +18,11 @@ use frame_store::{Blocks, ObjRef};
 use nullable_array::ArrayFault;
 use std::alloc::Global;
 
-// What an operation makes of a column, or its refusal, which is one of a kernel's.
-pub(crate) type MadeColumn = Result<Column, ArrayFault>;
+/// What an operation makes of a column, or its refusal, which is one of a kernel's.
+pub type MadeColumn = Result<Column, ArrayFault>;
 
-// A column that is made of a column with as many cells.
-pub(crate) trait ColumnOp {
+/// A column that is made of a column with as many cells.
+pub trait ColumnOp {
     // The cells that it holds.
     ghost held: { Self → List Cell } = { λ _. [] };
 
@@ -30,6 +30,7 @@ pub(crate) trait ColumnOp {
     ghost answer: { Self → List CellValue
         → ColumnOf CellValue → Result (ColumnOf CellValue) FaultValue };
 
+    /// What the operation makes of a column. `NoMemory` may come in place of any answer.
     fn column(&self, alloc: Global, dict: &mut TextDict, a: ColRef<'_>) -> MadeColumn
         requires own { EachGiven dict.old (held self.now) }
         requires cells { AreGiven dict.old a.cells }

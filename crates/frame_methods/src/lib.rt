@@ -14,8 +14,10 @@
 //! `frame_format` (`csv`).
 //!
 //! What the methods of levels and labels make, and the columns that an argument names, is in the
-//! crate `frame_labels` below; calls behind `groupby` are in `frame_groups`, and joins of frames in
-//! `frame_merge`.
+//! crate `frame_labels` below; calls behind `groupby` are in `frame_groups`, those behind `rolling` and
+//! `expanding` in `frame_windows`, methods of another shape in `frame_reshape`, and joins of frames in
+//! `frame_merge`. A call of another crate that makes each column by itself is an operation, too: a
+//! [`ColumnOp`], of which [`columns_placed`] makes an object.
 //!
 //! ```text
 //! let mut args = NamedList::new(alloc);
@@ -44,3 +46,5 @@ mod tables;
 
 pub use binding::exists;
 pub use calling::method;
+pub use columns::{ColumnOp, MadeColumn};
+pub use tables::columns_placed;

@@ -39,8 +39,10 @@ pub(crate) fn columns_table<O: ColumnOp>(
     Ok(table_under(alloc, on, headings, columns)?)
 }
 
-// An object of what is made of each column.
-pub(crate) fn columns_placed<O: ColumnOp>(
+/// A new object: the table with what an operation makes of each column in its place.
+///
+/// The first column's refusal, and `Limit`. `NoMemory` may come in place of any answer.
+pub fn columns_placed<O: ColumnOp>(
     alloc: Global,
     store: &mut Store,
     dict: &mut TextDict,

@@ -1,11 +1,11 @@
 -- Rows that are joined, and the table of two tables on them.
 use Rattle.{
-  frame_parts.{proofs.Common.{◌≡◌, ◌<◌, ◌+◌, ℕ, suc, List, [], ◌∷◌, length, refl, ap, arith, Option, None, Result, Ok, Err, slice_index_or, ◌∙◌, true, false, map, sym, subst, All, length-map, All-map, slice_set, list_all, Label, AreDistinct, IsLonger, AreGiven, Text, CellValue, na_cell, Binary, FaultValue, limit, then_value, HaveLevels, range_axis, Joined, AlignsBy, lists_seen, tuple_less, IsSettled, ColumnOf, NumberedTable, heading_value, tuple_value, Table, table_value, IsWhole, Entry, same_tuple, common_name, on_rows, meets, beside, Meeting, within_limits, with_columns, labels_value, headings_value, Makes, columns_value, OpFault, table_with, block_column, table_settled, columns_part, columns_name_part, headings_part, columns_given, MakesBy, blocks_value, AreColumns, tuple_by_number, tuples_settled, settled_tuples, made_is_meant, made_is_settled, refused_on, on_rows_given, on_rows_seen, CellBlock, IsPlaceOf}, specs.{Faults.{align_refusal}, form.Infix.{tuple_before, common_names, joined_rows, joined_columns, with_joined, joined_infix}}},
+  frame_parts.{proofs.Common.{◌≡◌, ◌<◌, ◌+◌, ◌≤◌, ◌^◌, ◌&&◌, ℕ, nat_tests, LabelValue, suc, List, [], ◌∷◌, length, refl, ap, arith, Option, None, Result, Ok, Err, slice_index_or, ◌∙◌, true, false, map, sym, subst, All, length-map, All-map, slice_set, list_all, Label, AreDistinct, IsLonger, AreGiven, Text, CellValue, na_cell, Binary, FaultValue, limit, then_value, HaveLevels, range_axis, Joined, AlignsBy, lists_seen, tuple_less, IsSettled, ColumnOf, NumberedTable, heading_value, tuple_value, Table, table_value, IsWhole, Entry, same_tuple, common_name, on_rows, meets, beside, Meeting, within_limits, with_columns, labels_value, headings_value, Makes, columns_value, OpFault, table_with, block_column, table_settled, columns_part, columns_name_part, headings_part, columns_given, MakesBy, Refused, NoMemory, AxisValue, axis_of, blocks_value, AreColumns, tuple_by_number, tuples_settled, settled_tuples, made_is_meant, made_is_settled, refused_on, on_rows_given, on_rows_seen, CellBlock, IsPlaceOf}, specs.{Faults.{align_refusal}, form.Infix.{tuple_before, common_names, joined_rows, joined_columns, with_joined, joined_infix}}},
   column_core.proofs.cells.Common.{below_more},
-  std.proofs.Common.{get_or-set_other, get_or-set_same},
-  label_align.{proofs.{index_core.RangeLaws.{length-range_labels}, align.{InsideLaws.{AreInside, joined_inside}, SeenLaws.{answer_seen, outer_seen}}}, specs.{align.{Faults.{AlignRefusal}, Joins.{Lists, outer}}, declared.fault.AlignFault.{AlignFault, TheVariants.{DuplicateLabels, TooLarge, NoMemory}}}},
+  std.proofs.Common.{nat_le, get_or-set_other, get_or-set_same},
+  label_align.{proofs.{index_core.RangeLaws.{length-range_labels}, align.{InsideLaws.{AreInside, joined_inside}, SeenLaws.{answer_seen, outer_seen}}}, specs.{align.{Faults.{AlignRefusal, met_rows}, Joins.{Entry as MetEntry, Lists, lists_of, most_rows, within, outer_within, outer_entries}}, declared.fault.AlignFault.{AlignFault, TheVariants.{DuplicateLabels, TooLarge, NoMemory as WantOfMemory}}}},
   row_keys.specs.Keys.{same_tuple as same_numbers},
-  frame_ops.{specs.{Joining.{joined_value, side_on}, declared.{naming.Naming.{Naming}, other.Other.TheVariants.{Beside}}, Namings.{headings_by, named_by, IsSettledNaming}, Pairs.{all_met, kinds_meet, columns_meant, columns_for}}, proofs.{MeetingLaws.{kinds_seen, table_meant, beside_meetings}, HeadingLaws.{named_settled}}},
+  frame_ops.{specs.{Joining.{joined_value, joined_within, side_on}, declared.{naming.Naming.{Naming}, other.Other.TheVariants.{Beside}}, Namings.{headings_by, named_by, IsSettledNaming}, Pairs.{all_met, kinds_meet, columns_meant, columns_for}}, proofs.{MeetingLaws.{kinds_seen, table_meant, beside_meetings}, HeadingLaws.{named_settled}}},
 }
 use Rattle.frame_store.specs.tables.Value as value
 
@@ -13,26 +13,43 @@ use Rattle.frame_store.specs.tables.Value as value
 abbrev pub IsKept : List Text → ℕ → List Label → Type 0
 IsKept texts levels tuple = (length tuple ≡ levels) × IsSettled tuple_value texts tuple
 
+-- entries that are no more than so many are no more than a table may have rows
+pub few_rows : {K : Type 0} (most : ℕ) (entries : List (MetEntry K)) (rows : Lists K) → most ≤ 2 ^ 26 → within most entries ≡ Ok rows → within most_rows entries ≡ Ok rows
+few_rows = grind (arith, nat_tests)
+
+few_joined : (most : ℕ) (entries : List (MetEntry (List LabelValue))) (rows : Lists (List LabelValue)) → most ≤ 2 ^ 26 → met_rows (within most entries) ≡ Ok rows → met_rows (within most_rows entries) ≡ Ok rows
+few_joined = grind (arith, nat_tests)
+
+-- rows that are so many at most are the rows of both tables
+pub rows_found : (texts : List Text) (a b : NumberedTable) (most : ℕ) → most ≤ 2 ^ 26 → (x y : AxisValue) → x ≡ axis_of a → y ≡ axis_of b → (made : Joined)
+    → joined_within most (labels_value texts x.tuples) (labels_value texts y.tuples) ≡ Ok (joined_value texts made) → (axis : AxisValue) → axis.tuples ≡ made.axis.tuples
+    → joined_rows (table_value texts a).labels (table_value texts b).labels ≡ Ok (joined_value texts (record { axis = axis; left = made.left; right = made.right }))
+rows_found texts a b most few x y x_is y_is made is axis same =
+    let met = few_joined most (outer_entries same_tuple tuple_before (labels_value texts a.labels) (labels_value texts b.labels)) (joined_value texts made) few (rw (x_is, y_is) at is) in
+    rw same met
+
 -- the join by numbers is the join by texts
 module _ (texts : List Text) (a b : List (List Label)) (distinct : AreDistinct texts) (given : IsSettled labels_value texts a) (given' : IsSettled labels_value texts b) where
-  abbrev numbers : Result (Lists (List Label)) (AlignRefusal (List Label))
-  numbers = outer same_numbers (tuple_less texts) a b
+  abbrev numbers : ℕ → Result (Lists (List Label)) (AlignRefusal (List Label))
+  numbers most = outer_within most same_numbers (tuple_less texts) a b
 
-  seen : outer same_tuple tuple_before (labels_value texts a) (labels_value texts b) ≡ answer_seen (tuple_value texts) numbers
+  seen : (most : ℕ) → outer_within most same_tuple tuple_before (labels_value texts a) (labels_value texts b) ≡ answer_seen (tuple_value texts) (numbers most)
   seen =
       outer_seen _ _ _ _ _ _ (λ x y h k. tuple_by_number _ x y distinct h k) (λ x y h k. refl) a b
       (tuples_settled _ a given) (tuples_settled _ b given')
 
-  pub rows_meant : (rows : Joined) → numbers ≡ Ok (lists_seen rows) → joined_rows (labels_value texts a) (labels_value texts b) ≡ Ok (joined_value texts rows)
-  rows_meant _ is = grind (arith, seen)
+  pub rows_meant : (most : ℕ) (rows : Joined) → numbers most ≡ Ok (lists_seen rows) → joined_within most (labels_value texts a) (labels_value texts b) ≡ Ok (joined_value texts rows)
+  rows_meant most _ is = grind (arith, seen most)
 
-  pub rows_refused : (fault : AlignFault) → AlignsBy lists_seen (Err fault) numbers → MakesBy joined_value texts (Err (align_refusal fault)) (joined_rows (labels_value texts a) (labels_value texts b))
-  rows_refused (DuplicateLabels key) is = grind arith
-  rows_refused TooLarge is = grind (arith, seen)
-  rows_refused NoMemory _ = tt
+  pub rows_refused : (most : ℕ) (fault : AlignFault) → AlignsBy lists_seen (Err fault) (numbers most) → MakesBy joined_value texts (Err (align_refusal fault)) (joined_within most (labels_value texts a) (labels_value texts b))
+  rows_refused _ (DuplicateLabels key) is = grind arith
+  rows_refused most TooLarge is = grind (arith, seen most)
+  rows_refused _ WantOfMemory _ = tt
 
-  pub rows_inside : (levels : ℕ) → HaveLevels levels a → HaveLevels levels b → (rows : Joined) → numbers ≡ Ok (lists_seen rows) → AreInside (IsKept texts levels) (length a) (length b) (lists_seen rows)
-  rows_inside = search (joined_inside, tuples_settled)
+  pub rows_inside : (most : ℕ) → most ≤ 2 ^ 26 → (levels : ℕ) → HaveLevels levels a → HaveLevels levels b → (rows : Joined) → numbers most ≡ Ok (lists_seen rows) → AreInside (IsKept texts levels) (length a) (length b) (lists_seen rows)
+  rows_inside most few levels alike alike' rows is =
+      let met = few_rows most (outer_entries same_numbers (tuple_less texts) a b) (lists_seen rows) few is in
+      search (joined_inside, tuples_settled)
 
 pub joined_given : (texts : List Text) (levels m n : ℕ) (rows : Joined) → AreInside (IsKept texts levels) m n (lists_seen rows) → IsSettled labels_value texts rows.axis.tuples
 joined_given _ _ m n _ h = settled_tuples _ _ (λ k d lt. (h.keyed k d lt).1)
@@ -73,6 +90,34 @@ length-beside (a ∷ as') (b ∷ bs) same = ap suc (length-beside as' bs (omega 
 
 pub rows_numbered : (count : ℕ) → length (range_axis count).tuples ≡ count
 rows_numbered = grind (arith, length-map, length-range_labels)
+
+-- rows that are more than a table of so many columns may have are beyond the limits
+module _ (op : Binary) (v w t : Table) (same : length w.columns ≡ length v.columns) (kinds : list_all (meets op) (beside v.columns w.columns) ≡ true)
+    (most : ℕ) (law : (rows : ℕ) → within_limits rows (length v.columns) ≡ (nat_le rows most && nat_le (length v.columns) (2 ^ 16))) where
+  many_joined : (rows : Lists (List LabelValue)) → most < length rows.keys → joined_infix op v w t rows ≡ Err limit
+  many_joined rows many =
+      grind (arith, nat_tests, kinds_on op rows.left rows.right v.columns w.columns, length-beside, length-map, law (length rows.keys))
+
+  many_entries : (entries : List (MetEntry (List LabelValue))) (f : FaultValue) → met_rows (within most entries) ≡ Err f → then_value (met_rows (within most_rows entries)) (joined_infix op v w t) ≡ Err f
+  many_entries entries _ = grind (arith, nat_tests, many_joined (lists_of entries), length-map)
+
+  refused_so : (texts : List Text) (fault : OpFault) → MakesBy joined_value texts (Err fault) (joined_within most v.labels w.labels) → Makes texts (Err fault) (then_value (joined_rows v.labels w.labels) (joined_infix op v w t))
+  refused_so texts (Refused code) h = (many_entries (outer_entries same_tuple tuple_before v.labels w.labels) _ h.0, h.1)
+  refused_so _ NoMemory _ = tt
+
+-- and so they are of two tables whose columns the operator takes
+pub rows_beyond : (op : Binary) (texts : List Text) (a b : NumberedTable) (t : Table) → length b.columns ≡ length a.columns → list_all (kinds_meet op) (all_met a (Beside b)) ≡ true
+    → (most count : ℕ) → count ≡ length a.columns → ((rows : ℕ) → within_limits rows count ≡ (nat_le rows most && nat_le count (2 ^ 16)))
+    → (x y : AxisValue) → x ≡ axis_of a → y ≡ axis_of b → (made : Result Joined OpFault) (fault : OpFault) → made ≡ Err fault
+    → MakesBy joined_value texts made (joined_within most (labels_value texts x.tuples) (labels_value texts y.tuples))
+    → Makes texts (Err fault) (then_value (joined_rows (table_value texts a).labels (table_value texts b).labels) (joined_infix op (table_value texts a) (table_value texts b) t))
+rows_beyond op texts a b t columns kinds most count counted law x y x_is y_is made fault is makes =
+    let v = table_value texts a in
+    let w = table_value texts b in
+    let same : length w.columns ≡ length v.columns = grind (arith, length-map) in
+    let all : list_all (meets op) (beside v.columns w.columns) ≡ true = cc (beside_meetings texts b a.columns columns, kinds_seen op texts (all_met a (Beside b))) in
+    let wide : count ≡ length v.columns = grind (arith, length-map) in
+    refused_so op v w t same all most (subst (λ n. (rows : ℕ) → within_limits rows n ≡ (nat_le rows most && nat_le n (2 ^ 16))) wide law) texts fault (rw (is, x_is, y_is) at makes)
 
 -- a side on other rows is a whole table
 pub side_is_whole : (t : NumberedTable) (rows : List (Option ℕ)) → IsWhole t → IsWhole (side_on t rows)

@@ -4,6 +4,7 @@ use Rattle.std.specs.List.{list_all}
 use Rattle.cell_core.specs.declared.cell.Cell.TheVariants.{Na}
 use Rattle.cell_core.specs.declared.cell.Label.{Label}
 use Rattle.column_core.specs.cells.Text.{Text}
+use Rattle.column_core.specs.cells.Cell.{LabelValue}
 use Rattle.column_core.specs.cells.Fault.{FaultValue, bad_value, not_aligned}
 use Rattle.column_core.specs.cells.Symbol.{Binary}
 use Rattle.column_core.specs.Moves.{IsPlaceOf}
@@ -12,7 +13,9 @@ use Rattle.label_align.specs.declared.joined.Joined.{Joined}
 use Rattle.frame_store.specs.tables.Table.{NumberedTable, Table}
 use Rattle.frame_store.specs.tables.Value.{Entry}
 use Rattle.frame_parts.specs.form.Infix as meant
-use Rattle.frame_parts.specs.form.Infix.{on_rows, on_levels, meets, beside, same_count, compares}
+use Rattle.frame_parts.specs.form.Infix.{same_tuple, tuple_before, on_rows, on_levels, meets, beside, same_count, compares}
+use Rattle.frame_parts.specs.align.Faults.{met_rows}
+use Rattle.frame_parts.specs.align.Joins.{outer_within}
 use Rattle.frame_store.specs.Parts.{table_with, headings_of}
 use Rattle.frame_store.specs.Shown.{labels_value}
 use Rattle.frame_ops.specs.declared.other.Other.TheVariants.{Beside}
@@ -21,6 +24,10 @@ use Rattle.frame_ops.specs.Pairs.{all_met, kinds_meet}
 -- the joined rows with their texts
 abbrev pub joined_value : List Text → Joined → meant.Joined
 joined_value texts rows = record { keys = labels_value texts rows.axis.tuples; left = rows.left; right = rows.right }
+
+-- the rows by the labels that either side has, where these are so many at most
+abbrev pub joined_within : ℕ → List (List LabelValue) → List (List LabelValue) → Result meant.Joined FaultValue
+joined_within most a b = met_rows (outer_within most same_tuple tuple_before a b)
 
 -- a row of a side for each joined row, if it has one there
 pub record AreSideRows (count : ℕ) (side : AxisValue) (rows : List (Option ℕ)) : Type 0 where

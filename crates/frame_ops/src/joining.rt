@@ -15,7 +15,7 @@ ghost use Rattle.frame_store.specs.Shown.{Makes, labels_value, headings_value};
 ghost use Rattle.frame_store.specs.World.{IsKnownTable};
 ghost use Rattle.frame_parts.specs.Makes.{MakesBy, AreColumns, blocks_value};
 ghost use Rattle.frame_ops.specs.declared.other.Other.TheVariants.{Beside};
-ghost use Rattle.frame_ops.specs.Joining.{joined_value, side_on, IsJoined, AreApart};
+ghost use Rattle.frame_ops.specs.Joining.{joined_value, joined_within, side_on, IsJoined, AreApart};
 ghost use Rattle.frame_ops.specs.Namings.{named_by, IsNaming, IsSettledNaming};
 ghost use Rattle.frame_ops.specs.Pairs.{all_met, kinds_meet, columns_meant};
 
@@ -24,24 +24,26 @@ use crate::naming::{Naming, headings_by};
 use crate::other::Other;
 use cell_core::{Code, Gaps, Grid, NoMemory, TextDict};
 use column_operators::Operator;
-use frame_parts::{align_refusal, columns_on, common_name, within_limits};
+use frame_parts::{align_refusal, columns_on, common_name, rows_within, within_limits};
 use frame_store::{Blocks, ObjRef, OpFault, Table, headings_of};
-use label_align::{Joined, outer};
+use label_align::{Joined, outer_within};
 use multi_index::Axis;
 use std::alloc::Global;
 
-/// The rows of two axes by the labels that either has. `Limit` where they are too many.
+/// The rows of two axes by the labels that either has. `Limit` where they are more than these, before one is made.
 #[tactic(auto, using(crate::proofs::JoinLaws::rows_meant, crate::proofs::JoinLaws::rows_refused))]
 pub(crate) fn joined_rows(
     alloc: Global,
     dict: &TextDict,
     a: &Axis,
     b: &Axis,
+    most: usize,
 ) -> Result<Joined, OpFault>
+    requires few { most ≤ 2 ^ 26 }
     requires levels { length a.now.names ≡ length b.now.names }
     requires given_a { IsSettled labels_value dict.now a.now.tuples }
     requires given_b { IsSettled labels_value dict.now b.now.tuples }
-    ensures rows { MakesBy joined_value dict.now result (meant.joined_rows
+    ensures rows { MakesBy joined_value dict.now result (joined_within most
         (labels_value dict.now a.now.tuples) (labels_value dict.now b.now.tuples)) }
     ensures given { IfOk result (λ rows. IsSettled labels_value dict.now rows.axis.tuples) }
     ensures inside { IfOk result (IsJoined a.now b.now) }
@@ -52,7 +54,7 @@ pub(crate) fn joined_rows(
     // Equal texts have equal numbers: `TextDict::len` says so. Each row has a label for each level: `Axis::levels`
     // does.
     let _ = (dict.len(), a.levels(), b.levels());
-    match outer(alloc, dict, a, b) {
+    match outer_within(alloc, dict, a, b, most) {
         Ok(rows) => Ok(rows),
         Err(fault) => Err(align_refusal(fault)),
     }
@@ -124,7 +126,7 @@ fn joined_columns(
 
 /// Two tables whose columns meet in order, and whose rows are joined: each row meets each row of its label, or none.
 ///
-/// `Limit` before a row is made, then `ZeroDivide`. `NoMemory` may come in place of any answer.
+/// `Limit` before a row is joined, then `ZeroDivide`. `NoMemory` may come in place of any answer.
 #[tactic(auto, using(crate::proofs::Hints::joined_infix))]
 pub(crate) fn joined_infix(
     alloc: Global,
@@ -147,7 +149,8 @@ pub(crate) fn joined_infix(
         (meant.joined_infix (operator_of op) (table_value dict.old a.now)
         (table_value dict.old b.now) (table_value dict.old (named_by a.now naming)))) }
 {
-    let mut rows = joined_rows(alloc, dict, a.axis(), b.axis())?;
+    let most = rows_within(a.columns());
+    let mut rows = joined_rows(alloc, dict, a.axis(), b.axis(), most)?;
     name_levels(dict, a.axis(), b.axis(), &mut rows.axis);
     let blocks = joined_columns(alloc, dict, op, a, b, &rows)?;
     let headings = headings_by(alloc, a, naming)?;

@@ -24,6 +24,9 @@ use label_align::Joined;
 use multi_index::Axis;
 use std::alloc::Global;
 
+// As many rows as a table may have.
+const MOST_ROWS: usize = 67108864;
+
 // The label of a column: 0 where it has none, as only a Series can.
 fn label_or_zero(heading: Option<Label>) -> Label
     ensures { heading_tuple heading ≡ result ∷ [] }
@@ -80,7 +83,7 @@ pub(crate) fn joined_labels(
 {
     let left = labels_axis(alloc, dict, a)?;
     let right = labels_axis(alloc, dict, b)?;
-    joined_rows(alloc, dict, &left, &right)
+    joined_rows(alloc, dict, &left, &right, MOST_ROWS)
 }
 
 // The headings of joined labels.

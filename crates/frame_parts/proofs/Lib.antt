@@ -1,6 +1,7 @@
 pub mod LabelLaws
 pub mod TableMade
 pub mod RowLaws
+pub mod LimitLaws
 pub mod GapLaws
 pub mod CellLaws
 pub mod Common

@@ -21,4 +21,4 @@ pub use faults::{align_refusal, block_of, column_of, refusal_of, wrong_kind};
 pub use gaps::{columns_on, rows_of_labels};
 pub use kinds::present_kind;
 pub use labels::{common_name, name_of, same_heading, same_label, same_rows};
-pub use limits::within_limits;
+pub use limits::{rows_within, within_limits};

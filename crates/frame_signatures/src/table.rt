@@ -7,10 +7,11 @@ ghost use Rattle.meaning_call.specs.Signature as signature;
 ghost use Rattle.frame_signatures.specs.Names.{meant};
 
 use cell_core::{Kind, Shape};
-use meaning_call::Method::{Columns, Labels, Levels, Other, Rows, Summary, Table};
+use meaning_call::Method::{Columns, Labels, Levels, Other, Reshape, Rows, Summary, Table};
 use meaning_call::{
     Accepted, Choices, ColumnMethod, DefaultText, Function, LabelMethod, LevelMethod, Method,
-    Omitted, OtherMethod, Parameter, ParameterName, RowMethod, SummaryMethod, TableMethod,
+    Omitted, OtherMethod, Parameter, ParameterName, ReshapeMethod, RowMethod, SummaryMethod,
+    TableMethod,
 };
 
 // A parameter that must be given: its name and form, and its listed values.
@@ -129,10 +130,10 @@ pub fn parameters(method: Method) -> &'static [Parameter]
         Other(OtherMethod::Rolling) => ROLLING,
         Other(OtherMethod::Expanding) => &[optional!(MinPeriods: Whole = Omitted::Number(1))],
         Other(OtherMethod::Merge) => MERGE,
-        Other(OtherMethod::Unstack) => &[optional!(Level: Level = Omitted::Number(-1))],
-        Other(OtherMethod::Pivot) => PIVOT,
-        Other(OtherMethod::PivotTable) => PIVOT_TABLE,
-        Other(OtherMethod::Melt) => MELT,
+        Reshape(ReshapeMethod::Unstack) => &[optional!(Level: Level = Omitted::Number(-1))],
+        Reshape(ReshapeMethod::Pivot) => PIVOT,
+        Reshape(ReshapeMethod::PivotTable) => PIVOT_TABLE,
+        Reshape(ReshapeMethod::Melt) => MELT,
         _ => &[],
     }
 }
@@ -316,11 +317,11 @@ const METHOD_NAMES: &[MethodName] = &[
     both!("rolling": Other(OtherMethod::Rolling)),
     both!("expanding": Other(OtherMethod::Expanding)),
     frame_alone!("merge": Other(OtherMethod::Merge)),
-    frame_alone!("stack": Other(OtherMethod::Stack)),
-    series_alone!("unstack": Other(OtherMethod::Unstack)),
-    frame_alone!("pivot": Other(OtherMethod::Pivot)),
-    frame_alone!("pivot_table": Other(OtherMethod::PivotTable)),
-    frame_alone!("melt": Other(OtherMethod::Melt)),
+    frame_alone!("stack": Reshape(ReshapeMethod::Stack)),
+    series_alone!("unstack": Reshape(ReshapeMethod::Unstack)),
+    frame_alone!("pivot": Reshape(ReshapeMethod::Pivot)),
+    frame_alone!("pivot_table": Reshape(ReshapeMethod::PivotTable)),
+    frame_alone!("melt": Reshape(ReshapeMethod::Melt)),
 ];
 
 fn method_names() -> &'static [MethodName]

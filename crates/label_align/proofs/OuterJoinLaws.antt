@@ -1,6 +1,6 @@
 -- Entries, one more at a time, and how many there are.
 use Rattle.{
-  meaning_align.{proofs.{cells.Common.{◌≡◌, ◌<◌, ◌≤◌, ◌+◌, ◌*◌, ℕ, List, [], ◌∷◌, ◌++◌, ◌∙◌, map, take, length, Option, Some, slice_index_or, arith, max, Ok, Err, suc, Bool, true, false, not, cond, filter, refl, ap, All, sym, ◌-◌, drop, subst, Result, zero, map-map, length-map, append-nil, take_more, map-append, drop-drop, ext_get_or, flat_map-map, flat_map-append, All-tail, All-map, filter-append, All-nil, All-cons, All-head, sum_by-cons, ranks_by, length-map-range_with_len, get_or-map-range_with_len, false≢true, nat_tests, tied_itself, take-append_seam, drop-append_seam, flat_map, list_any, range_with_len, Decides, IsStrictWeakOrder, pointwise, pointwise_decides, lists_total, slice_cmp-IsAntisymmetric, IfOk, All-append as all_append, distinct, Text, Label, AreDistinct, IsGivenLabel, LabelValue, label_datum, label_total}, OrderLaws.{all_flat, all_in_order, all_distinct, all_put_in}, pick.{RowLaws.{rows_where-append}, InsideLaws.{rows_inside}}}, specs.{Faults.{too_large}, Joins.{Entry, or_gap, entry, entries_with, entries_of, most_rows, lists_of, within_limit, outer_entries, keys_in_order}, OuterJoin.{IsOuterJoin, rows_of_key}, pick.Rows.{rows_where}}},
+  meaning_align.{proofs.{cells.Common.{◌≡◌, ◌<◌, ◌≤◌, ◌+◌, ◌*◌, ℕ, List, [], ◌∷◌, ◌++◌, ◌∙◌, map, take, length, Option, Some, slice_index_or, arith, max, Ok, Err, suc, Bool, true, false, not, cond, filter, refl, ap, All, sym, ◌-◌, drop, subst, Result, zero, map-map, length-map, append-nil, take_more, map-append, drop-drop, ext_get_or, flat_map-map, flat_map-append, All-tail, All-map, filter-append, All-nil, All-cons, All-head, sum_by-cons, ranks_by, length-map-range_with_len, get_or-map-range_with_len, false≢true, nat_tests, tied_itself, take-append_seam, drop-append_seam, flat_map, list_any, range_with_len, Decides, IsStrictWeakOrder, pointwise, pointwise_decides, lists_total, slice_cmp-IsAntisymmetric, IfOk, All-append as all_append, distinct, Text, Label, AreDistinct, IsGivenLabel, LabelValue, label_datum, label_total}, OrderLaws.{all_flat, all_in_order, all_distinct, all_put_in}, pick.{RowLaws.{rows_where-append}, InsideLaws.{rows_inside}}}, specs.{Faults.{too_large}, Joins.{Entry, or_gap, entry, entries_with, entries_of, lists_of, within, outer_entries, keys_in_order}, OuterJoin.{IsOuterJoin, rows_of_key}, pick.Rows.{rows_where}}},
   std.{proofs.{lemmas.List.{length-append, append_assoc}, Math.ListN.{get_or-map}}, specs.List.Sorted.{ties, IsStableBy}},
   label_align.specs.{declared.{joined.{JoinedRows.{JoinedRows}, Joined.{Joined}}, runs.Run.{Run}, fault.AlignFault.{AlignFault}}, Joined.{HasMore, entries_seen, lists_seen, entries_shown}, Runs.{no_run, with_row, gathered, runs_from, rows_in, total, entries_in, run_entries, count_in, counted, tuple_of_row, label_of_row, same_row, AreGivenTuples}, Tuples.{tuple_seen, tuple_less, labels_of, row_less}, Answers.{AlignsBy}},
   sorting.{specs.Sorting.{put_in, in_order}, proofs.{SortLaws.{irreflexive, Ascends, in_order_ascends, in_order_ties, one_order}, OrderLaws.{in_order_same}}},
@@ -35,11 +35,11 @@ pub flat_map_more : {X C : Type 0} (f : X → List C) (xs : List X) (i : ℕ) (d
 flat_map_more f xs i d lt = cc (take_more xs i d lt, flat_map-append f (take i xs) (slice_index_or xs i d ∷ []), append-nil (f (slice_index_or xs i d)))
 
 -- too many entries, and few enough
-module _ {K : Type 0} (entries : List (Entry K)) (counted : ℕ) (size : counted ≡ length entries) where
-  pub too_many : (counted ≤ most_rows → ⊥) → within_limit entries ≡ Err too_large
+module _ {K : Type 0} (most : ℕ) (entries : List (Entry K)) (counted : ℕ) (size : counted ≡ length entries) where
+  pub too_many : (counted ≤ most → ⊥) → within most entries ≡ Err too_large
   too_many = grind arith
 
-  pub few_enough : counted ≤ most_rows → within_limit entries ≡ Ok (lists_of entries)
+  pub few_enough : counted ≤ most → within most entries ≡ Ok (lists_of entries)
   few_enough = grind arith
 
 -- More entries, and then more.
@@ -517,9 +517,9 @@ module _ (texts : List Text) where
     abbrev outer_of_both : List (Entry (List Label))
     outer_of_both = outer_entries same_tuple (tuple_less texts) a b
 
-    pub law_of : (result : Result Joined AlignFault) → AlignsBy lists_seen result (within_limit outer_of_both) → IfOk result (λ joined. IsOuterJoin same_tuple (tuple_less texts) a b (lists_seen joined))
-    law_of (Ok joined) meant = grind (arith, outer_join same_tuple (tuple_less texts) tuple_decides tuple_weak a b)
-    law_of (Err fault) _ = tt
+    pub law_of : (most : ℕ) (result : Result Joined AlignFault) → AlignsBy lists_seen result (within most outer_of_both) → IfOk result (λ joined. IsOuterJoin same_tuple (tuple_less texts) a b (lists_seen joined))
+    law_of most (Ok joined) meant = grind (arith, outer_join same_tuple (tuple_less texts) tuple_decides tuple_weak a b)
+    law_of _ (Err fault) _ = tt
 
     module _ (levels : ℕ) (distinct : AreDistinct texts) (alike : HaveLevels levels (a ++ b)) (given : AreGivenTuples texts (a ++ b)) (rows : List ℕ) (sorted : rows ≡ in_order (row_less texts (a ++ b) levels) (range_with_len 0 (length (a ++ b)))) where
       abbrev IsRow : ℕ → Type 0
@@ -575,7 +575,7 @@ module _ (texts : List Text) where
           lists_outer = grind (arith, map-map, entries_outer)
 
           -- those of few enough are shown
-          pub outer_shown : counted runs ≤ most_rows → within_limit outer_of_both ≡ Ok (entries_shown (a ++ b) out)
+          pub outer_shown : (most : ℕ) → counted runs ≤ most → within most outer_of_both ≡ Ok (entries_shown (a ++ b) out)
           outer_shown = search (few_enough, counted_outer, lists_outer)
 
 -- Rows of one level are their labels.

@@ -19,6 +19,9 @@ use cell_core::{Gaps, TextDict};
 use multi_index::Axis;
 use std::alloc::Global;
 
+// As many rows as a table may have.
+const MOST_ROWS: usize = 67108864;
+
 // How many levels both axes have.
 fn levels_of_both(a: &Axis, b: &Axis) -> usize
     requires { length a.now.names ≡ length b.now.names }
@@ -36,6 +39,7 @@ fn joined_rows(
     alloc: Global,
     dict: &TextDict,
     both: &BothSides<'_>,
+    most: usize,
 ) -> Result<JoinedRows, AlignFault>
     requires alike { HaveLevels both.now.levels (tuples_of both.now) }
     requires given { AreGivenTuples dict.now (tuples_of both.now) }
@@ -43,13 +47,13 @@ fn joined_rows(
         All (λ row. row < length (tuples_of both.now)) made.rows.items) }
     ensures rows { let left = both.now.left.now.tuples in
         AlignsBy (entries_shown (tuples_of both.now)) result
-        (meant.outer same_tuple (tuple_less dict.now) left both.now.right.now.tuples) }
+        (meant.outer_within most same_tuple (tuple_less dict.now) left both.now.right.now.tuples) }
 {
     // Equal texts have equal numbers: `TextDict::len` says so.
     let _ = dict.len();
     let rows = rows_in_order(alloc, dict, both)?;
     let runs = runs_of(alloc, both, rows.as_slice())?;
-    match size_of_runs(&runs) {
+    match size_of_runs(&runs, most) {
         Some(size) => {
             let count = both.left.len();
             let made = entries_of_runs(alloc, count, &runs, rows.as_slice(), size)?;
@@ -57,6 +61,43 @@ fn joined_rows(
         }
         None => Err(AlignFault::TooLarge),
     }
+}
+
+/// The rows of two axes joined by their tuples, as [`outer`] joins them, for a caller that has room for so many at most.
+/// They are counted before one is made.
+///
+/// # Errors
+///
+/// `TooLarge` exactly where there are more rows than that. `NoMemory` may come in place of any answer, and
+/// `DuplicateLabels` never comes.
+pub fn outer_within(
+    alloc: Global,
+    dict: &TextDict,
+    a: &Axis,
+    b: &Axis,
+    most: usize,
+) -> Result<Joined, AlignFault>
+    requires levels { length a.now.names ≡ length b.now.names }
+    requires given_a { AreGivenTuples dict.now a.now.tuples }
+    requires given_b { AreGivenTuples dict.now b.now.tuples }
+    ensures rows { AlignsBy lists_seen result
+        (meant.outer_within most same_tuple (tuple_less dict.now) a.now.tuples b.now.tuples) }
+    ensures law { IfOk result (λ joined.
+        IsOuterJoin same_tuple (tuple_less dict.now) a.now.tuples b.now.tuples (lists_seen joined)) }
+    ensures names { IfOk result (λ joined. joined.axis.names ≡ replicate (length a.now.names) None) }
+{
+    let both = BothSides {
+        left: a,
+        right: b,
+        levels: levels_of_both(a, b),
+    };
+    let JoinedRows { rows, left, right } = joined_rows(alloc, dict, &both, most)?;
+    let axis = axis_of_rows(alloc, dict, &both, &rows)?;
+    Ok(Joined {
+        axis,
+        left: Gaps::from(left),
+        right: Gaps::from(right),
+    })
 }
 
 /// The rows of two axes joined by their tuples: all tuples of both in order. One that stands p times on the
@@ -79,16 +120,5 @@ pub fn outer(alloc: Global, dict: &TextDict, a: &Axis, b: &Axis) -> Result<Joine
         IsOuterJoin same_tuple (tuple_less dict.now) a.now.tuples b.now.tuples (lists_seen joined)) }
     ensures names { IfOk result (λ joined. joined.axis.names ≡ replicate (length a.now.names) None) }
 {
-    let both = BothSides {
-        left: a,
-        right: b,
-        levels: levels_of_both(a, b),
-    };
-    let JoinedRows { rows, left, right } = joined_rows(alloc, dict, &both)?;
-    let axis = axis_of_rows(alloc, dict, &both, &rows)?;
-    Ok(Joined {
-        axis,
-        left: Gaps::from(left),
-        right: Gaps::from(right),
-    })
+    outer_within(alloc, dict, a, b, MOST_ROWS)
 }

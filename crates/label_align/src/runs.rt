@@ -1,7 +1,6 @@
 // Runs of rows in order that carry one key.
 ghost use Rattle.std.specs.Prelude.{◌≡◌, ◌<◌, ◌≤◌, ◌+◌, ◌^◌, All, IfOk, SomeIff, drop, length, slice_index};
 ghost use Rattle.multi_index.specs.Axes.{HaveLevels};
-ghost use Rattle.meaning_align.specs.Joins.{most_rows};
 ghost use Rattle.label_align.specs.Both.{tuples_of};
 ghost use Rattle.label_align.specs.Runs as runs;
 
@@ -16,9 +15,6 @@ pub(crate) struct Run {
     pub lefts: usize,
     pub rights: usize,
 }
-
-// As many rows as a table may have.
-const MOST_ROWS: usize = 67108864;
 
 const NO_RUN: Run = Run {
     row: 0,
@@ -85,16 +81,16 @@ pub(crate) fn runs_of(
     Ok(made)
 }
 
-// How many entries runs have, where a table may have as many rows.
-pub(crate) fn size_of_runs(parts: &[Run]) -> Option<usize>
-    ensures { SomeIff result (runs.counted parts.now ≤ most_rows) (runs.counted parts.now) }
+// How many entries runs have, where they are so many at most.
+pub(crate) fn size_of_runs(parts: &[Run], most: usize) -> Option<usize>
+    ensures { SomeIff result (runs.counted parts.now ≤ most) (runs.counted parts.now) }
 {
     let mut total = 0usize;
     for run in parts {
         let left = run.lefts.max(1);
         let right = run.rights.max(1);
         match left.checked_mul(right) {
-            Some(size) if size <= MOST_ROWS - total => total += size,
+            Some(size) if size <= most - total => total += size,
             _ => return None,
         }
     }

@@ -2,7 +2,7 @@
 use Rattle.{
   meaning_pick.{proofs.{cells.Common.{arith, ◌≡◌, ◌∙◌, ap, refl, sym, ℕ, Bool, not, cond, List, [], ◌∷◌, ◌++◌, map, filter, All, Option, Some, Result, Ok, Err, length-map, map-append, All-head, All-tail, flat_map, pointwise, distinct, All-append as all_append}, RowLaws.{rows_where-map}, SeenLaws.{pointwise-map}}, specs.Rows.{rows_where, only_row}},
   std.specs.Option.{option_map},
-  meaning_align.{proofs.OrderLaws.{all_distinct, all_in_order, in_order_map}, specs.{Faults.{AlignRefusal, duplicate_labels, too_large}, Targets.{first_where, first_repeated, rows_of_targets, reindexed}, Joins.{Entry, Lists, entry, entries_with, entries_of, keys_in_order, outer_entries, within_limit, outer}}},
+  meaning_align.{proofs.OrderLaws.{all_distinct, all_in_order, in_order_map}, specs.{Faults.{AlignRefusal, duplicate_labels, too_large}, Targets.{first_where, first_repeated, rows_of_targets, reindexed}, Joins.{Entry, Lists, entry, entries_with, entries_of, keys_in_order, outer_entries, within, outer_within}}},
 }
 
 map_map : {A B C D : Type 0} (f : B → C) (g : A → B) (h : D → C) (k : A → D) → ((x : A) → f (g x) ≡ h (k x)) → (xs : List A) → map f (map g xs) ≡ map h (map k xs)
@@ -51,7 +51,7 @@ module _ {X Y : Type 0} (f : X → Y) where
   rows_map g _ _ [] = refl
   rows_map g g' same (e ∷ es) = λ i. same e i ∷ rows_map g g' same es i
 
-  limit_map : (es : List (Entry X)) → within_limit (map entry_seen es) ≡ answer_seen (within_limit es)
+  limit_map : (most : ℕ) (es : List (Entry X)) → within most (map entry_seen es) ≡ answer_seen (within most es)
   limit_map = grind (arith, length-map, map_map, rows_map)
 
   with_map : (key : X) (rights : List ℕ) (left : Option ℕ) → entries_with (f key) rights left ≡ map entry_seen (entries_with key rights left)
@@ -86,12 +86,12 @@ module _ {X Y : Type 0} (f : X → Y) where
       entries_map (key ∷ keys) all =
           (λ i. key_map key (All-head P key keys all) i ++ entries_map keys (All-tail P key keys all) i) ∙ sym (map-append _ (of_key key) (flat_map of_key keys))
 
-      pub outer_seen : outer same' less' (map f left) (map f right) ≡ answer_seen (outer same less left right)
-      outer_seen =
+      pub outer_seen : (most : ℕ) → outer_within most same' less' (map f left) (map f right) ≡ answer_seen (outer_within most same less left right)
+      outer_seen most =
           let both : All P (left ++ right) = search all_append in
           let keys : keys_in_order same' less' (map f left ++ map f right) ≡ map f (keys_in_order same less (left ++ right))
           = cc (map-append f left right, distinct_map P same same' equal (left ++ right) both, in_order_map P f less less' below (distinct same (left ++ right)) (all_distinct P same (left ++ right) both)) in
-          cc (entries_map (keys_in_order same less (left ++ right)) (search (all_in_order, all_distinct)), limit_map (outer_entries same less left right))
+          cc (entries_map (keys_in_order same less (left ++ right)) (search (all_in_order, all_distinct)), limit_map most (outer_entries same less left right))
 
     same_map : (xs ys : List X) → All P xs → All P ys → pointwise same' (map f xs) (map f ys) ≡ pointwise same xs ys
     same_map = search pointwise-map

@@ -50,10 +50,15 @@ pub record Lists (K : Type 0) : Type 0 where
 abbrev pub lists_of : {K : Type 0} → List (Entry K) → Lists K
 lists_of entries = record { keys = map (λ e. e.key) entries; left = map (λ e. e.left) entries; right = map (λ e. e.right) entries }
 
--- what there is, unless it is too much
-abbrev pub within_limit : {K : Type 0} → List (Entry K) → Result (Lists K) (AlignRefusal K)
-within_limit entries = if nat_lt most_rows (length entries) then Err too_large else Ok (lists_of entries)
+-- what there is, unless there are more entries than so many
+abbrev pub within : {K : Type 0} → ℕ → List (Entry K) → Result (Lists K) (AlignRefusal K)
+within most entries = if nat_lt most (length entries) then Err too_large else Ok (lists_of entries)
 
--- the outer join: all keys of both sides in order, one that stands p times on the left and q times on the right p times q times
+-- the outer join: all keys of both sides in order, one that stands p times on the left and q times on the right p times q
+-- times, where these are so many at most
+abbrev pub outer_within : {K : Type 0} → ℕ → (K → K → Bool) → (K → K → Bool) → List K → List K → Result (Lists K) (AlignRefusal K)
+outer_within most same less left right = within most (outer_entries same less left right)
+
+-- and as many as a table may have rows
 abbrev pub outer : {K : Type 0} → (K → K → Bool) → (K → K → Bool) → List K → List K → Result (Lists K) (AlignRefusal K)
-outer same less left right = within_limit (outer_entries same less left right)
+outer same less left right = outer_within most_rows same less left right

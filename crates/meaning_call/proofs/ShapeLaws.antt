@@ -21,6 +21,7 @@ same_self (method.Rows m) = search true_same
 same_self (method.Levels m) = search true_same
 same_self (method.Labels m) = search true_same
 same_self (method.Table m) = search true_same
+same_self (method.Reshape m) = search true_same
 same_self (method.Other m) = search true_same
 
 or_true : (a : Bool) {b : Bool} → b ≡ true → (a || b) ≡ true

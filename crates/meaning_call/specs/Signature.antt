@@ -12,6 +12,7 @@ use Rattle.meaning_call.specs.contracts.RowMethod as row_method_type
 use Rattle.meaning_call.specs.contracts.LevelMethod as level_method_type
 use Rattle.meaning_call.specs.contracts.LabelMethod as label_method_type
 use Rattle.meaning_call.specs.contracts.TableMethod as table_method_type
+use Rattle.meaning_call.specs.contracts.ReshapeMethod as reshape_method_type
 use Rattle.meaning_call.specs.contracts.OtherMethod as other_method_type
 use Rattle.meaning_call.specs.declared.Method.{Method}
 use Rattle.meaning_call.specs.declared.Method.TheVariants as method
@@ -21,6 +22,7 @@ use Rattle.meaning_call.specs.declared.RowMethod.TheVariants as row_method
 use Rattle.meaning_call.specs.declared.LevelMethod.TheVariants as level_method
 use Rattle.meaning_call.specs.declared.LabelMethod.TheVariants as label_method
 use Rattle.meaning_call.specs.declared.TableMethod.TheVariants as table_method
+use Rattle.meaning_call.specs.declared.ReshapeMethod.TheVariants as reshape_method
 use Rattle.meaning_call.specs.declared.OtherMethod.TheVariants as other_method
 use Rattle.meaning_call.specs.declared.Function.{Function}
 use Rattle.meaning_call.specs.declared.Function.TheVariants as function
@@ -94,13 +96,13 @@ parameters_of (method.Other other_method.Expanding) = optional name.MinPeriods a
 parameters_of (method.Other other_method.Merge) =
     needed name.Right accepted.Frame ∷ among listed.Hows (optional name.How accepted.Text (omitted.Text default.Inner)) ∷ optional name.On accepted.SomeLabels omitted.None
     ∷ among listed.Validations (optional name.Validate accepted.Text omitted.None) ∷ []
-parameters_of (method.Other other_method.Stack) = []
-parameters_of (method.Other other_method.Unstack) = optional name.Level accepted.Level (omitted.Number (negsuc 0)) ∷ []
-parameters_of (method.Other other_method.Pivot) = needed name.Columns accepted.Scalar ∷ needed name.Index accepted.SomeLabels ∷ needed name.Values accepted.Scalar ∷ []
-parameters_of (method.Other other_method.PivotTable) =
+parameters_of (method.Reshape reshape_method.Stack) = []
+parameters_of (method.Reshape reshape_method.Unstack) = optional name.Level accepted.Level (omitted.Number (negsuc 0)) ∷ []
+parameters_of (method.Reshape reshape_method.Pivot) = needed name.Columns accepted.Scalar ∷ needed name.Index accepted.SomeLabels ∷ needed name.Values accepted.Scalar ∷ []
+parameters_of (method.Reshape reshape_method.PivotTable) =
     needed name.Values accepted.Scalar ∷ needed name.Index accepted.SomeLabels ∷ needed name.Columns accepted.Scalar
     ∷ among listed.Aggregations (needed name.Aggfunc accepted.Text) ∷ []
-parameters_of (method.Other other_method.Melt) = optional name.IdVars accepted.Labels omitted.None ∷ optional name.ValueVars accepted.Labels omitted.None ∷ []
+parameters_of (method.Reshape reshape_method.Melt) = optional name.IdVars accepted.Labels omitted.None ∷ optional name.ValueVars accepted.Labels omitted.None ∷ []
 
 abbrev pub function_parameters : Function → List Parameter
 function_parameters function.Series =
@@ -218,11 +220,11 @@ method_names =
     ∷ both (codes "rolling") (method.Other other_method.Rolling)
     ∷ both (codes "expanding") (method.Other other_method.Expanding)
     ∷ frame_alone (codes "merge") (method.Other other_method.Merge)
-    ∷ frame_alone (codes "stack") (method.Other other_method.Stack)
-    ∷ series_alone (codes "unstack") (method.Other other_method.Unstack)
-    ∷ frame_alone (codes "pivot") (method.Other other_method.Pivot)
-    ∷ frame_alone (codes "pivot_table") (method.Other other_method.PivotTable)
-    ∷ frame_alone (codes "melt") (method.Other other_method.Melt)
+    ∷ frame_alone (codes "stack") (method.Reshape reshape_method.Stack)
+    ∷ series_alone (codes "unstack") (method.Reshape reshape_method.Unstack)
+    ∷ frame_alone (codes "pivot") (method.Reshape reshape_method.Pivot)
+    ∷ frame_alone (codes "pivot_table") (method.Reshape reshape_method.PivotTable)
+    ∷ frame_alone (codes "melt") (method.Reshape reshape_method.Melt)
     ∷ []
 
 abbrev pub method_at : Shape → MethodName → Option Method
@@ -240,6 +242,7 @@ same_method (method.Rows m) (method.Rows n) = sameb row_method_type.the_type m n
 same_method (method.Levels m) (method.Levels n) = sameb level_method_type.the_type m n
 same_method (method.Labels m) (method.Labels n) = sameb label_method_type.the_type m n
 same_method (method.Table m) (method.Table n) = sameb table_method_type.the_type m n
+same_method (method.Reshape m) (method.Reshape n) = sameb reshape_method_type.the_type m n
 same_method (method.Other m) (method.Other n) = sameb other_method_type.the_type m n
 same_method m n = false
 

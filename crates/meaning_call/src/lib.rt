@@ -34,7 +34,9 @@ pub enum Method {
     Labels(LabelMethod),
     /// Of the whole table: a copy, its ends, other headings, fewer columns, or text.
     Table(TableMethod),
-    /// Of groups, of windows, of two frames, or of another shape.
+    /// Of the same cells in another shape.
+    Reshape(ReshapeMethod),
+    /// Of groups, of windows, or of two frames.
     Other(OtherMethod),
 }
 
@@ -145,8 +147,23 @@ pub enum TableMethod {
     ToCsv,
 }
 
-/// A method of groups, of windows, of two frames or of another shape. Of one that isn't built only the
-/// signature is defined.
+/// A method that makes of labels of columns labels of rows, or the other way round ("Reshaping and pivot
+/// tables").
+#[derive(Clone, Copy, PartialEq, Eq)]
+pub enum ReshapeMethod {
+    /// `stack` of a frame: its columns as a level of the rows' labels.
+    Stack,
+    /// `unstack` of a Series: a level of its rows' labels as columns.
+    Unstack,
+    /// `pivot` of a frame: the cells of a column as labels of columns.
+    Pivot,
+    /// `pivot_table` of a frame: a pivot whose cells are aggregated.
+    PivotTable,
+    /// `melt` of a frame: its columns as rows.
+    Melt,
+}
+
+/// A method of groups, of windows or of two frames.
 #[derive(Clone, Copy, PartialEq, Eq)]
 pub enum OtherMethod {
     /// `groupby` of a frame: groups of rows ("Group by: split-apply-combine").
@@ -158,16 +175,6 @@ pub enum OtherMethod {
     /// `merge` of a frame: its rows with those of another frame by equal keys
     /// ("Merge, join, concatenate and compare").
     Merge,
-    /// `stack` of a frame: its columns as a level of the rows' labels ("Reshaping and pivot tables").
-    Stack,
-    /// `unstack` of a Series: a level of its rows' labels as columns ("Reshaping and pivot tables").
-    Unstack,
-    /// `pivot` of a frame: the cells of a column as labels of columns ("Reshaping and pivot tables").
-    Pivot,
-    /// `pivot_table` of a frame: a pivot whose cells are aggregated ("Reshaping and pivot tables").
-    PivotTable,
-    /// `melt` of a frame: its columns as rows ("Reshaping and pivot tables").
-    Melt,
 }
 
 /// A function of `pd`.

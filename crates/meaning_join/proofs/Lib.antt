@@ -2,3 +2,4 @@
 pub use Rattle.meaning_align.proofs as align
 pub use Rattle.meaning_align.proofs.pick as pick
 pub use Rattle.meaning_tables.proofs as tables
+pub use Rattle.meaning_tables.proofs.cells as cells

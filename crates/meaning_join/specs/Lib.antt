@@ -4,3 +4,4 @@ pub mod Concat
 pub use Rattle.meaning_align.specs as align
 pub use Rattle.meaning_align.specs.pick as pick
 pub use Rattle.meaning_tables.specs as tables
+pub use Rattle.meaning_tables.specs.cells as cells

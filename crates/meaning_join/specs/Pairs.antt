@@ -65,13 +65,18 @@ pub data JoinRefusal (K : Type 0) : Type 0 where
   -- there are more rows than a table may have
   too_large : JoinRefusal K
 
-abbrev pub within_limit : {K : Type 0} → List Pair → Result (List Pair) (JoinRefusal K)
-within_limit pairs = if nat_lt most_rows (length pairs) then Err too_large else Ok pairs
+-- the pairs, unless there are more than so many
+abbrev pub within : {K : Type 0} → ℕ → List Pair → Result (List Pair) (JoinRefusal K)
+within most pairs = if nat_lt most (length pairs) then Err too_large else Ok pairs
 
 abbrev pub unless_repeated : {K : Type 0} → Option (RepeatedKey K) → Result (List Pair) (JoinRefusal K) → Result (List Pair) (JoinRefusal K)
 unless_repeated None pairs = pairs
 unless_repeated (Some repeated) pairs = Err (not_one_to_one repeated)
 
--- the join of two sides
+-- the join of two sides, where its pairs are so many at most
+abbrev pub joined_within : {K : Type 0} → ℕ → (K → K → Bool) → (K → K → Bool) → How → Validate → List K → List K → Result (List Pair) (JoinRefusal K)
+joined_within most same less how once left right = unless_repeated (repeated_key same once left right) (within most (key_pairs same less how left right))
+
+-- and as many as a table may have rows
 abbrev pub joined : {K : Type 0} → (K → K → Bool) → (K → K → Bool) → How → Validate → List K → List K → Result (List Pair) (JoinRefusal K)
-joined same less how once left right = unless_repeated (repeated_key same once left right) (within_limit (key_pairs same less how left right))
+joined same less how once left right = joined_within most_rows same less how once left right

@@ -1,9 +1,12 @@
 -- No call of a method or a function has the fault that a file isn't there.
 use Rattle.{
-  meaning_script.{proofs.cells.Common.{arith, List, [], ◌∷◌, Bool, Option, ℕ, false, Some, None, Result, ◌≡◌, true, LabelValue, CellValue, Text, FaultValue, Shape, Series, Frame}, specs.{tables.{Table.{Table}, Value.{Given, object_in, NamedGiven, GivenList, Entry, cell, table}}, call.{declared.Function.{Function}, Binding.{text_in, bound_of, Bound}, Signature.{function_parameters, function_named}}, method.{Merge.{keys_named, keys_under, keys_on, keys_of_merge, merge_result}, Concat.{Concatenation, frames_below, below, along, concat_result, concat_call}, Groups.{Grouping, Values, GroupCall, group_answer, of_bound, grouping_in, values_named, values_in, transform_in, without_arguments, group_call_of, grouped_of}, Calls.{ChainValue, plain_result, call_result}, Functions.{made_named, function_result}, Readers.{reads_file, read_result}}, select.Select.{shown_as}}},
-  meaning_laws.{specs.FormFault.{HasFormFault}, proofs.{FormFaults.{if_fault, then_value_fault, finished_fault, column_places_fault, on_fault, limited_fault, try_all_fault, of_length_fault, on_bound_fault, made_column_fault, column_place_fault, series_call_fault, frame_call_fault, read_result_fault}, MethodFaults.{method_result_fault}}},
+  meaning_script.{proofs.cells.Common.{arith, List, [], ◌∷◌, Bool, Option, ℕ, false, Some, None, Result, ◌≡◌, true, LabelValue, CellValue, Text, FaultValue, Cumulation, Shape, Series, Frame}, specs.{shapes.Reshape.{UnstackRefusal}, group.Reductions.{GroupReduction}, tables.{Table.{ColumnOf, Table}, Value.{Given, object_in, NamedGiven, GivenList, Entry, cell, table}}, call.{declared.{Function.{Function}, Method.{Method}, ReshapeMethod.{ReshapeMethod}}, Binding.{text_in, bound_of, Bound}, Signature.{function_parameters, function_named}}, method.{Merge.{keys_named, keys_under, keys_on, keys_of_merge, merge_result}, Concat.{Concatenation, frames_below, below, along, concat_result, concat_call}, Groups.{Grouping, Values, GroupCall, group_answer, of_bound, grouping_in, values_named, values_in, transform_in, without_arguments, group_call_of, grouped_of, grouped_result}, Calls.{ChainValue, table_call, plain_result, call_result}, Windows.{Windows, rolling_in, expanding_in, window_call, windowed, windows_of, rolling_result, expanding_result}, Reshape.{met_labels, unstacked_at, Pivoted, pivoted_in, pivoted, group_series, melted_in, value_labels, melt_result, reshaped}, Functions.{made_named, function_result}, Readers.{reads_file, read_result}}, select.Select.{shown_as}}},
+  meaning_laws.{specs.FormFault.{HasFormFault}, proofs.{FormFaults.{if_fault, then_value_fault, finished_fault, column_places_fault, on_fault, limited_fault, try_all_fault, of_length_fault, on_bound_fault, made_column_fault, column_place_fault, series_call_fault, frame_call_fault, read_result_fault}, MethodFaults.{each_column_fault, level_of_fault, called_fault}}},
 }
 use Rattle.meaning_script.specs.call.declared.Function.TheVariants as function
+use Rattle.meaning_script.specs.call.declared.Method.TheVariants as method
+use Rattle.meaning_script.specs.call.declared.OtherMethod.TheVariants as other_method
+use Rattle.meaning_script.specs.call.declared.ReshapeMethod.TheVariants as reshape
 use Rattle.meaning_script.specs.method.Groups as groups
 use Rattle.meaning_script.specs.method.Calls as call
 
@@ -73,7 +76,7 @@ values_fault = grind (arith, named_fault)
 transform_fault : (gs : List Given) → HasFormFault (transform_in gs)
 transform_fault = grind arith
 
-without_fault : (o : Option GroupCall) (name : Text) (gs : List NamedGiven) → HasFormFault (without_arguments o name gs)
+without_fault : {A : Type 0} (o : Option A) (name : Text) (gs : List NamedGiven) → HasFormFault (without_arguments o name gs)
 without_fault = grind (arith, of_bound_fault)
 
 call_fault : (name : Text) (gs : List NamedGiven) → HasFormFault (group_call_of name gs)
@@ -83,16 +86,81 @@ grouped_of_fault : (shape : Shape) (t : Table) (by : List NamedGiven) (brackets 
 grouped_of_fault Series t _ _ _ _ = tt
 grouped_of_fault Frame t _ _ _ _ = search (then_value_fault, of_bound_fault, grouping_in_fault, values_fault, call_fault, answer_fault)
 
+grouped_fault : (v : Entry) (by : List NamedGiven) (brackets : Option Given) (name : Text) (gs : List NamedGiven) → HasFormFault (grouped_result v by brackets name gs)
+grouped_fault = grind (arith, grouped_of_fault)
+
+-- ---- windows
+
+rolling_in_fault : (gs : List Given) → HasFormFault (rolling_in gs)
+rolling_in_fault = grind (arith, on_fault, if_fault)
+
+expanding_in_fault : (gs : List Given) → HasFormFault (expanding_in gs)
+expanding_in_fault = grind (arith, on_fault)
+
+windowed_fault : (w : Windows) (op : Cumulation) (c : ColumnOf CellValue) → HasFormFault (windowed w op c)
+windowed_fault w op c = made_column_fault _
+
+windows_fault : (t : Table) (windows : Result Windows FaultValue) (name : Text) (gs : List NamedGiven) → HasFormFault windows → HasFormFault (windows_of t windows name gs)
+windows_fault t windows name gs h = then_value_fault windows _ h (λ w. then_value_fault _ _ (without_fault (window_call name) name gs) (λ op. each_column_fault (windowed w op) t (windowed_fault w op)))
+
+rolling_fault : (v : Entry) (args : List NamedGiven) (name : Text) (gs : List NamedGiven) → HasFormFault (rolling_result v args name gs)
+rolling_fault (cell c) args name gs = tt
+rolling_fault (table t) args name gs = search (windows_fault, of_bound_fault, rolling_in_fault)
+
+expanding_fault : (v : Entry) (args : List NamedGiven) (name : Text) (gs : List NamedGiven) → HasFormFault (expanding_result v args name gs)
+expanding_fault (cell c) args name gs = tt
+expanding_fault (table t) args name gs = search (windows_fault, of_bound_fault, expanding_in_fault)
+
+-- ---- other shapes
+
+met_labels_fault : {A : Type 0} (r : Result A (UnstackRefusal (List LabelValue))) → HasFormFault (met_labels r)
+met_labels_fault = grind arith
+
+unstacked_fault : (t : Table) (level : ℕ) → HasFormFault (unstacked_at t level)
+unstacked_fault = search (then_value_fault, met_labels_fault, finished_fault)
+
+pivoted_in_fault : (t : Table) (index columns values : Given) → HasFormFault (pivoted_in t index columns values)
+pivoted_in_fault = search (then_value_fault, column_places_fault, if_fault, on_fault, column_place_fault)
+
+pivoted_fault : (p : Pivoted) (s : Table) → HasFormFault (pivoted p s)
+pivoted_fault = search (if_fault, unstacked_fault)
+
+group_series_fault : (t : Table) (keys : List ℕ) (place : ℕ) (op : GroupReduction) → HasFormFault (group_series t keys place op)
+group_series_fault = search (then_value_fault, try_all_fault, made_column_fault)
+
+melted_in_fault : (t : Table) (ids values : Given) → HasFormFault (melted_in t ids values)
+melted_in_fault = grind (arith, then_value_fault, column_places_fault)
+
+labels_fault : (t : Table) (values : List ℕ) → HasFormFault (value_labels t values)
+labels_fault = grind (arith, if_fault)
+
+melt_fault : (t : Table) (ids values : Given) → HasFormFault (melt_result t ids values)
+melt_fault = search (then_value_fault, melted_in_fault, labels_fault, on_fault, finished_fault)
+
+reshaped_fault : (m : ReshapeMethod) (gs : List Given) (t : Table) → HasFormFault (reshaped m gs t)
+reshaped_fault reshape.Stack gs t = search (on_fault, if_fault, limited_fault)
+reshaped_fault reshape.Unstack (level ∷ []) t = search (if_fault, then_value_fault, level_of_fault, unstacked_fault)
+reshaped_fault reshape.Pivot (columns ∷ index ∷ values ∷ []) t = search (then_value_fault, pivoted_in_fault, pivoted_fault)
+reshaped_fault reshape.PivotTable (values ∷ index ∷ columns ∷ aggfunc ∷ []) t = search (on_fault, then_value_fault, pivoted_in_fault, group_series_fault, pivoted_fault)
+reshaped_fault reshape.Melt (ids ∷ values ∷ []) t = melt_fault t ids values
+reshaped_fault m gs t = tt
+
 -- ---- calls
 
+table_call_fault : (o : Option Method) (name : Text) (gs : List NamedGiven) (t : Table) → HasFormFault (table_call o name gs t)
+table_call_fault (Some (method.Other other_method.Merge)) name gs t = search (on_bound_fault, merge_result_fault)
+table_call_fault (Some (method.Reshape m)) name gs t = search (on_bound_fault, reshaped_fault)
+table_call_fault o name gs t = called_fault o name gs t
+
 plain_result_fault : (v : Entry) (name : Text) (gs : List NamedGiven) → HasFormFault (plain_result v name gs)
-plain_result_fault (cell c) name gs = method_result_fault (cell c) name gs
-plain_result_fault (table t) _ _ = search (if_fault, on_bound_fault, merge_result_fault, method_result_fault)
+plain_result_fault (cell c) name gs = tt
+plain_result_fault (table t) name gs = table_call_fault _ name gs t
 
 pub call_result_fault : (v : Entry) (chain : ChainValue) (gs : List NamedGiven) → HasFormFault (call_result v chain gs)
 call_result_fault v (call.plain name) gs = plain_result_fault v name gs
-call_result_fault v (call.grouped by brackets name) _ = grind (arith, method_result_fault, grouped_of_fault)
-call_result_fault v (call.through name) _ = grind (arith, method_result_fault, grouped_of_fault)
+call_result_fault v (call.grouped by brackets name) gs = grouped_fault v by brackets name gs
+call_result_fault v (call.rolling args name) gs = rolling_fault v args name gs
+call_result_fault v (call.expanding args name) gs = expanding_fault v args name gs
 
 made_named_fault : (f : Option Function) (file : Option (List ℕ)) (name : Text) (gs : List NamedGiven) → HasFormFault (made_named f file name gs)
 made_named_fault None _ _ _ = tt

@@ -1,7 +1,7 @@
 -- Calls behind values and calls of functions of `pd` make valid tables of valid values and arguments.
 use Rattle.{
-  meaning_script.{proofs.{cells.Common.{◌≡◌, refl, ℕ, List, ◌<◌, [], ◌∷◌, length, map, length-append, arith, eqb-true, length-map, All-nil, All-append, true, Option, Some, None, IfOk, nat_eq, slice_get, codes, IsSome, IfSome, All, position_or_len, Text, Int64}, tables.KindLaws.{kind_is}, call.ShapeLaws.{named_fits, of_frame}}, specs.{tables.{Table.{Table, column_at}, Value.{Entry, cell, table, NamedGiven, Given, object_in}, Valid.{IsValid}}, call.{declared.{Function.{Function}, Method.{Method, TheVariants.{Other}}, OtherMethod.TheVariants.{Merge}}, Signature.{method_names, fits_shape, parameters_of}, Binding.{argument_at, text_in}}, form.{Finish.{finished}, Select.{heading_at}}, method.{Calls.{ChainValue, plain, is_merge, plain_result, call_result, merge_call}, Functions.{made_by, made_named, function_result}, Rows.{all_places}, Merge.{MergeKeys, kinds_at, are_same_kinds, keys_of_merge, suffixed_heading, right_places, left_heading, right_heading, column_of_side, key_cell, joined_key_column, right_key, joined_or_left, left_column, merged, merged_rows, merge_result}}, join.{declared.{How.{How}, Validate.{Validate}}, Pairs.{Pair}}}},
-  meaning_laws.{specs.Validity.{IsValidObject, IsValidEntry, AreValidArguments}, proofs.{ListLaws.{if_keeps, all_made, all_mapped, at_or, then_keeps, on_keeps, on_some_keeps}, Words.{Keeps, IsFrame, Name, Below}, TableLaws.{shaped, IsShaped}, MethodLaws.{method_result_keeps, chain_result_keeps}, CsvLaws.{read_result_keeps}, MakeLaws.{series_call_keeps, frame_call_keeps}, ConcatLaws.{concat_call_keeps}, ColumnLaws.{IsColumn, Held}, ReachLaws.{below_all, some_below}, InfixLaws.{gap_held}, GroupLaws.{AreLabels, frame_keeps}, SetLaws.{length_default, default_levels}, ArgumentLaws.{argument_valid, object_valid, frame_at, bound_taken}}},
+  meaning_script.{proofs.{cells.Common.{◌≡◌, refl, ℕ, List, ◌<◌, [], ◌∷◌, length, map, length-append, arith, eqb-true, length-map, All-append, true, Option, Some, None, IfOk, nat_eq, slice_get, codes, IsSome, IfSome, All, position_or_len, Text}, tables.KindLaws.{kind_is}, call.ShapeLaws.{named_fits, of_frame}}, specs.{tables.{Table.{Table, column_at}, Value.{Entry, cell, table, NamedGiven, Given, object_in}, Valid.{IsValid}}, call.{declared.{Function.{Function}, Method.{Method, TheVariants.{Other}}, OtherMethod.TheVariants.{Merge}}, Signature.{method_names, fits_shape, parameters_of}, Binding.{argument_at, text_in}}, form.{Finish.{finished}, Select.{heading_at}}, method.{Calls.{ChainValue, plain, grouped, rolling, expanding, table_call, plain_result, call_result, merge_call}, Functions.{made_by, made_named, function_result}, Rows.{all_places}, Merge.{MergeKeys, kinds_at, are_same_kinds, keys_of_merge, suffixed_heading, right_places, left_heading, right_heading, column_of_side, key_cell, joined_key_column, right_key, joined_or_left, left_column, merged, merged_rows, merge_result}}, join.{declared.{How.{How}, Validate.{Validate}}, Pairs.{Pair}}}},
+  meaning_laws.{specs.Validity.{IsValidObject, IsValidEntry, AreValidArguments}, proofs.{ListLaws.{all_made, all_mapped, then_keeps, on_keeps, on_some_keeps}, Words.{Keeps, IsFrame, Name, Below}, TableLaws.{shaped, IsShaped, cells_held}, MethodLaws.{on_bound_keeps, called_keeps}, WindowLaws.{rolling_result_keeps, expanding_result_keeps}, ReshapeLaws.{reshaped_keeps}, CsvLaws.{read_result_keeps}, MakeLaws.{series_call_keeps, frame_call_keeps}, ConcatLaws.{concat_call_keeps}, ColumnLaws.{IsColumn, Held}, ReachLaws.{below_all, some_below}, InfixLaws.{gap_held}, GroupLaws.{AreLabels, frame_keeps, grouped_result_keeps}, SetLaws.{length_default, default_levels}, ArgumentLaws.{argument_valid, object_valid, frame_at, bound_taken}}},
 }
 use Rattle.meaning_script.specs.call.declared.Function.TheVariants as function
 use Rattle.meaning_script.specs.call.declared.Method.TheVariants as method
@@ -14,10 +14,6 @@ AreKeys l r keys = are_same_kinds (kinds_at l keys.left) (kinds_at r keys.right)
 
 keys_are : (l r : Table) (labels : Given) → IfOk (keys_of_merge l r labels) (AreKeys l r)
 keys_are = grind arith
-
--- cells of columns are held, also where there is no such column
-cells_held : (t : Table) → IsShaped t → (place : ℕ) → All (Held (column_at t.columns place).kind) (column_at t.columns place).cells
-cells_held t s place = at_or (λ c. All (Held c.kind) c.cells) _ _ _ (All-nil (Held Int64)) (λ k d lt. (s.columns k d lt).held)
 
 beside_some : (suffix : Text) (others : List Name) (h : Name) → IsSome h → IsSome (suffixed_heading suffix others h)
 beside_some = grind arith
@@ -97,19 +93,25 @@ merge_call_keeps t gs s h =
 
 -- calls
 -- a frame alone has a `merge`
-merge_frame : (t : Table) (o : Option Method) → is_merge o ≡ true → ((m : Method) → o ≡ Some m → fits_shape m t.shape ≡ true) → IsFrame t
+merge_frame : (t : Table) → fits_shape (Other other_method.Merge) t.shape ≡ true → IsFrame t
 unfolding method_names
-merge_frame t (Some (method.Other other_method.Merge)) e fits = of_frame (method.Other other_method.Merge) _ refl (fits (method.Other _) refl)
-merge_frame t _ e fits = cc
+merge_frame = search of_frame
+
+table_call_keeps : (o : Option Method) (name : Text) (gs : List NamedGiven) (t : Table) → IsShaped t → ((m : Method) → o ≡ Some m → fits_shape m t.shape ≡ true) → AreValidArguments gs → Keeps (table_call o name gs t)
+table_call_keeps (Some (method.Other other_method.Merge)) name gs t s fits k = merge_call_keeps t gs record { fits = s; frame = merge_frame t (fits _ refl) } k
+table_call_keeps (Some (method.Reshape m)) name gs t s fits k = on_bound_keeps _ _ (λ given. reshaped_keeps m given t s (fits _ refl))
+table_call_keeps o name gs t s fits k = called_keeps o name gs t s fits
 
 plain_result_keeps : (v : Entry) (name : Text) (gs : List NamedGiven) → IsValidObject v → AreValidArguments gs → Keeps (plain_result v name gs)
 plain_result_keeps (cell c) name gs h k = tt
-plain_result_keeps (table t) name gs h k = search (if_keeps, merge_call_keeps, shaped, merge_frame, named_fits, method_result_keeps)
+plain_result_keeps (table t) name gs h k = table_call_keeps _ name gs t (shaped t h) (λ m e. named_fits _ _ m e) k
 
 -- any call behind a value
 pub call_result_keeps : (v : Entry) (chain : ChainValue) (gs : List NamedGiven) → IsValidObject v → AreValidArguments gs → IfOk (call_result v chain gs) IsValidEntry
 call_result_keeps v (plain name) gs h k = plain_result_keeps v _ gs h k
-call_result_keeps v _ gs h k = search chain_result_keeps
+call_result_keeps v (grouped by brackets name) gs h k = grouped_result_keeps v by brackets name gs h
+call_result_keeps v (rolling args name) gs h k = rolling_result_keeps v args name gs h
+call_result_keeps v (expanding args name) gs h k = expanding_result_keeps v args name gs h
 
 -- any function of `pd`
 made_by_keeps : (f : Function) (file : Option (List ℕ)) (gs : List NamedGiven) → AreValidArguments gs → IfOk (made_by f file gs) IsValidEntry

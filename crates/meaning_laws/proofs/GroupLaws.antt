@@ -31,7 +31,7 @@ running_held : (kind : Kind) (codes : List (Option ℕ)) (cells : Cells) (row : 
 running_held = search (of_group_held, unless_held, cumulation_held, cells_held)
 
 -- what is made of a column: a cell for each group, or for each row
-abbrev Makes : (ColumnValue → Result ColumnValue ColumnFault) → ℕ → ℕ → Type 0
+abbrev pub Makes : (ColumnValue → Result ColumnValue ColumnFault) → ℕ → ℕ → Type 0
 Makes f rows made = (c : Column) → IsColumn rows c → IfOk (made_column (f (value_of_column c))) (IsColumn made)
 
 module _ (op : GroupReduction) where
@@ -39,7 +39,7 @@ module _ (op : GroupReduction) where
   if_taken = grind arith
 
   module _ (g : GroupsValue) (rows : ℕ) where
-    reduce_makes : Makes (reduce_groups op g) rows g.count
+    pub reduce_makes : Makes (reduce_groups op g) rows g.count
     reduce_makes c h = search (if_taken, length_tabulate, reduced_held)
 
     transform_makes : length g.codes ≡ rows → Makes (transform_groups op g) rows rows
@@ -48,10 +48,10 @@ module _ (op : GroupReduction) where
 cumsum_makes : (g : GroupsValue) (rows : ℕ) → length g.codes ≡ rows → Makes (cumsum_groups g) rows rows
 cumsum_makes g rows as_many c h = search (if_made, length_tabulate, all_tabulated, running_held)
 
-abbrev AreBelow : Table → List ℕ → Type 0
+abbrev pub AreBelow : Table → List ℕ → Type 0
 AreBelow t places = Below (length t.columns) places
 
-each_makes : (t : Table) (f : ColumnValue → Result ColumnValue ColumnFault) (made : ℕ) → IsShaped t → Makes f (length t.labels) made → (places : List ℕ) → AreBelow t places
+pub each_makes : (t : Table) (f : ColumnValue → Result ColumnValue ColumnFault) (made : ℕ) → IsShaped t → Makes f (length t.labels) made → (places : List ℕ) → AreBelow t places
     → IfOk (each_of t f places) (AllOf (IsColumn made) (length places))
 each_makes t f made s so places below =
     try_keeps (λ place. place < length _) _ (λ place. made_column (f (value_of_column (column_at t.columns place)))) (λ place lt. so (column_at t.columns place) (column_of_table t s place lt)) places below
@@ -66,7 +66,7 @@ module _ {K : Type 0} (P : K → Type 0) where
   all_keys : (rules : KeyRules K) (sorted dropna : Bool) (rows : List K) → All P rows → All P (group_keys rules sorted dropna rows)
   all_keys rules sorted dropna rows all = All-filter (is_kept dropna rules.holds_na) P _ (search (all_ordered, all_distinct))
 
-rows_have : (t : Table) (keys : List ℕ) → Levelled (length keys) (row_keys t keys)
+pub rows_have : (t : Table) (keys : List ℕ) → Levelled (length keys) (row_keys t keys)
 rows_have t keys =
     let cells = cells_have t keys in
     search (all_made, length-map)
@@ -115,7 +115,7 @@ pub record AreValues (t : Table) (v : Values) : Type 0 where
 -- a row for each group
 
 module _ (t : Table) (g : Grouping) where
-  under_body : (hs : List Name) (columns : List Column) → 1 ≤ length g.keys → length g.keys ≤ 4 → length hs ≡ length columns → All (IsColumn (length (keys_of t g))) columns → IsBody (under_keys t g hs columns)
+  pub under_body : (hs : List Name) (columns : List Column) → 1 ≤ length g.keys → length g.keys ≤ 4 → length hs ≡ length columns → All (IsColumn (length (keys_of t g))) columns → IsBody (under_keys t g hs columns)
   under_body = search (length-map, all_keys, rows_have)
 
   key_columns_held : IsShaped t → AreBelow t g.keys → All (IsColumn (length (keys_of t g))) (map (key_column t g) g.keys)
@@ -138,7 +138,7 @@ module _ (t : Table) (g : Grouping) where
       (λ e. shown_keeps _ _ (under_body hs _ k.some (k.few e) headed held) one (labels e))
       (λ e. frame_keeps _ (beside_body hs _ s k.keys headed held) (All-append IsSome (headings_of t g.keys) hs (some_labelled t s is g.keys k.keys) (others e)))
 
-one_column : (rows : ℕ) (c : Column) → IsColumn rows c → All (IsColumn rows) (c ∷ [])
+pub one_column : (rows : ℕ) (c : Column) → IsColumn rows c → All (IsColumn rows) (c ∷ [])
 one_column = grind arith
 
 -- the rows as they are

@@ -70,7 +70,7 @@ pub of_several_keeps : {A : Type 0} (P : A → Type 0) (t : Table) (rest : Resul
 of_several_keeps P = grind (arith, nat_tests)
 
 module _ (t : Table) where
-  dropped_has : (level : ℕ) → IsLevel t level → (tuple : Tuple) → length tuple ≡ length t.level_names → Has (length (remove t.level_names level)) (remove tuple level)
+  pub dropped_has : (level : ℕ) → IsLevel t level → (tuple : Tuple) → length tuple ≡ length t.level_names → Has (length (remove t.level_names level)) (remove tuple level)
   dropped_has = grind (arith, length-remove)
 
   pub dropped_shaped : (level : ℕ) → IsShaped t → IsLevel t level → 2 ≤ length t.level_names → IsShaped (level_dropped t level)
@@ -145,7 +145,7 @@ column_or_missing_keeps : (t : Table) (place : Option ℕ) → IsShaped t → If
 column_or_missing_keeps t None s inside = search (spread_column, na_held)
 column_or_missing_keeps t (Some place) s inside = column_of_table t s place inside
 
-name_there : (tuple : Tuple) → Has 1 tuple → IsSome (row_name tuple)
+pub name_there : (tuple : Tuple) → Has 1 tuple → IsSome (row_name tuple)
 name_there = grind arith
 
 abbrev ArePlaces : Table → List Tuple → List (Option ℕ) → Type 0

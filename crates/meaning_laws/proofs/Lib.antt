@@ -9,10 +9,12 @@ pub mod RowLaws
 pub mod LevelLaws
 pub mod GroupLaws
 pub mod MethodLaws
+pub mod WindowLaws
 pub mod MakeLaws
 pub mod CsvLaws
 pub mod ArgumentLaws
 pub mod ConcatLaws
+pub mod ReshapeLaws
 pub mod CallLaws
 pub mod StatementLaws
 pub mod FormFaults

@@ -1,6 +1,6 @@
 -- No method has the fault that a file isn't there.
 use Rattle.{
-  meaning_script.{proofs.cells.Common.{arith, ℤ, Bool, true, false, List, [], ◌∷◌, Option, Result, Shape, Series, Frame, Text, CellValue, LabelValue, FaultValue}, specs.{tables.{Table.{ColumnOf, Table}, Value.{Entry, Given, GivenList, NamedGiven}}, call.declared.Method.{Method}, method.{Rows.{head_result, tail_result, duplicated_result, sort_by_result, drop_result}, Methods.{each_column, filled_column, Summary, summary_cell, summary_of, renamed_frame, reset_index_result, csv_answer, answer_for}, Levels.{rename_axis_result, set_index_result, renumbered, droplevel_result, swaplevel_result}, Reindex.{reindex_result}, Section.{xs_result}, Calls.{method_result}}}},
+  meaning_script.{proofs.cells.Common.{arith, ℤ, Bool, true, false, List, [], ◌∷◌, Option, Result, Shape, Series, Frame, Text, CellValue, LabelValue, FaultValue}, specs.{tables.{Table.{ColumnOf, Table}, Value.{Given, GivenList, NamedGiven}}, call.declared.Method.{Method}, method.{Rows.{head_result, tail_result, duplicated_result, sort_by_result, drop_result}, Methods.{each_column, filled_column, Summary, summary_cell, summary_of, renamed_frame, reset_index_result, csv_answer, answer_for}, Levels.{rename_axis_result, set_index_result, renumbered, level_of, droplevel_result, swaplevel_result}, Reindex.{reindex_result}, Section.{xs_result}, Calls.{called}}}},
   meaning_laws.{proofs.{FormFaults.{if_fault, then_value_fault, of_length_fault, unless_repeated_fault, met_rows_fault, on_bound_fault, limited_fault, finished_fault, made_column_fault, try_all_fault, found_fault, column_places_fault, on_fault}, SelectFaults.{found_pick_fault, whole_items_fault}}, specs.FormFault.{HasFormFault}},
 }
 use Rattle.meaning_script.specs.call.declared.Method.TheVariants as method
@@ -11,7 +11,7 @@ use Rattle.meaning_script.specs.call.declared.LabelMethod.TheVariants as label_m
 use Rattle.meaning_script.specs.call.declared.TableMethod.TheVariants as table_method
 
 -- cells, column by column
-each_column_fault : (f : ColumnOf CellValue → Result (ColumnOf CellValue) FaultValue) (t : Table) → ((c : ColumnOf CellValue) → HasFormFault (f c)) → HasFormFault (each_column f t)
+pub each_column_fault : (f : ColumnOf CellValue → Result (ColumnOf CellValue) FaultValue) (t : Table) → ((c : ColumnOf CellValue) → HasFormFault (f c)) → HasFormFault (each_column f t)
 each_column_fault = search (then_value_fault, try_all_fault, limited_fault)
 
 filled_column_fault : (value : CellValue) (c : ColumnOf CellValue) → HasFormFault (filled_column value c)
@@ -56,6 +56,9 @@ set_index_fault = search (then_value_fault, column_places_fault, unless_repeated
 reset_index_fault : (t : Table) (drop : Bool) → HasFormFault (reset_index_result t drop)
 reset_index_fault t true = limited_fault (renumbered t)
 reset_index_fault t false = search (then_value_fault, try_all_fault, if_fault, finished_fault)
+
+pub level_of_fault : (t : Table) (level : Option CellValue) → HasFormFault (level_of t level)
+level_of_fault = grind (arith, found_pick_fault, found_fault)
 
 droplevel_fault : (t : Table) (level : Option CellValue) → HasFormFault (droplevel_result t level)
 droplevel_fault = grind (then_value_fault, arith, found_pick_fault, found_fault, if_fault, limited_fault)
@@ -105,5 +108,5 @@ answer_for_fault m (a ∷ []) t = search answers depth 9
 answer_for_fault m (a ∷ b ∷ []) t = search answers depth 9
 answer_for_fault m _ t = search answers
 
-pub method_result_fault : (v : Entry) (name : Text) (gs : List NamedGiven) → HasFormFault (method_result v name gs)
-method_result_fault = grind (arith, if_fault, on_bound_fault, answer_for_fault)
+pub called_fault : (o : Option Method) (name : Text) (gs : List NamedGiven) (t : Table) → HasFormFault (called o name gs t)
+called_fault = grind (arith, if_fault, on_bound_fault, answer_for_fault)

@@ -1,7 +1,7 @@
 -- Methods make valid tables of valid ones.
 use Rattle.{
-  meaning_script.{proofs.{cells.Common.{◌≡◌, ◌∙◌, refl, sym, ℕ, pos, List, [], ◌∷◌, length, map, arith, length-map, All-head, All-tail, Bool, true, false, unwrap_or, Some, None, IsSome, Result, IfOk, All, Shape, Series, Frame, Text, LabelValue, int, Kind, FaultValue}, tables.KindLaws.{kind_is}, call.ShapeLaws.{named_fits, of_series, of_frame}}, specs.{tables.{Table.{Table, column_at}, Value.{Entry, Given, NamedGiven}}, call.{declared.Method.{Method}, Signature.{method_names, fits_shape}, Binding.{Bound, on_bound}}, form.Finish.{limited, across_columns}, method.{Methods.{each_column, Summary, summary_cell, summary_kind, kind_for, summary_as, summary_of, summary, renamed_series, renamed_heading, renamed_frame, as_frame, reset_index_result, csv_answer, answer_for}, Calls.{method_result, ChainValue, chain_result}}}},
-  meaning_laws.{specs.Validity.{IsValidObject, IsValidEntry}, proofs.{Words.{AllOf, Keeps, Column, Name, Cells, IsFrame, IsSeries}, ListLaws.{all_made, all_mapped, then_keeps, try_keeps, on_keeps}, ColumnLaws.{IsColumn, column_answers, Held, held_cell, wrap_fits, reduction_held}, TableLaws.{IsShaped, shaped, limited_keeps, with_columns_shaped, column_of_table, series_heading, frame_headings, one_column, different, finished_keeps}, RowLaws.{head_keeps, tail_keeps, dropna_keeps, duplicated_keeps, sort_values_keeps, sort_by_keeps, sorted_keeps, drop_keeps}, GroupLaws.{grouped_result_keeps}, LevelLaws.{rename_axis_keeps, set_index_keeps, renumbered_keeps, levels_reset_keeps, droplevel_keeps, swaplevel_keeps, xs_keeps, reindex_keeps}}},
+  meaning_script.{proofs.{cells.Common.{◌≡◌, ◌∙◌, refl, sym, ℕ, pos, List, [], ◌∷◌, length, map, arith, length-map, All-head, All-tail, Bool, true, false, unwrap_or, Option, Some, None, IsSome, Result, IfOk, All, Shape, Series, Frame, Text, LabelValue, int, Kind, FaultValue}, tables.KindLaws.{kind_is}, call.ShapeLaws.{of_series, of_frame}}, specs.{tables.{Table.{Table, column_at}, Value.{Entry, Given, NamedGiven}}, call.{declared.Method.{Method}, Signature.{method_names, fits_shape}, Binding.{Bound, on_bound}}, form.Finish.{limited, across_columns}, method.{Methods.{each_column, Summary, summary_cell, summary_kind, kind_for, summary_as, summary_of, summary, renamed_series, renamed_heading, renamed_frame, as_frame, reset_index_result, csv_answer, answer_for}, Calls.{called}}}},
+  meaning_laws.{specs.Validity.{IsValidEntry}, proofs.{Words.{AllOf, Keeps, Column, Name, Cells, IsFrame, IsSeries}, ListLaws.{all_made, all_mapped, then_keeps, try_keeps, on_keeps}, ColumnLaws.{IsColumn, column_answers, Held, held_cell, wrap_fits, reduction_held}, TableLaws.{IsShaped, limited_keeps, with_columns_shaped, column_of_table, series_heading, frame_headings, one_column, different, finished_keeps}, RowLaws.{head_keeps, tail_keeps, dropna_keeps, duplicated_keeps, sort_values_keeps, sort_by_keeps, sorted_keeps, drop_keeps}, LevelLaws.{rename_axis_keeps, set_index_keeps, renumbered_keeps, levels_reset_keeps, droplevel_keeps, swaplevel_keeps, xs_keeps, reindex_keeps}}},
 }
 use Rattle.meaning_script.specs.call.declared.Method.TheVariants as method
 use Rattle.meaning_script.specs.call.declared.ColumnMethod.TheVariants as column_method
@@ -11,7 +11,7 @@ use Rattle.meaning_script.specs.call.declared.LabelMethod.TheVariants as label_m
 use Rattle.meaning_script.specs.call.declared.TableMethod.TheVariants as table_method
 
 -- each column by itself
-each_keeps : (f : Column → Result Column FaultValue) (t : Table) → IsShaped t → ((rows : ℕ) (c : Column) → IsColumn rows c → IfOk (f c) (IsColumn rows)) → Keeps (each_column f t)
+pub each_keeps : (f : Column → Result Column FaultValue) (t : Table) → IsShaped t → ((rows : ℕ) (c : Column) → IsColumn rows c → IfOk (f c) (IsColumn rows)) → Keeps (each_column f t)
 each_keeps f t s so =
     let made = try_keeps _ _ f (so (length t.labels)) t.columns s.columns in
     grind (arith, limited_keeps, with_columns_shaped)
@@ -122,9 +122,5 @@ answer_keeps m gs t s fit = search answers
 pub on_bound_keeps : (b : Bound) (go : List Given → Result Entry FaultValue) → ((gs : List Given) → Keeps (go gs)) → Keeps (on_bound b go)
 on_bound_keeps = grind arith
 
-pub method_result_keeps : (v : Entry) (name : Text) (gs : List NamedGiven) → IsValidObject v → Keeps (method_result v name gs)
-method_result_keeps = grind (arith, on_bound_keeps, answer_keeps, shaped, named_fits)
-
--- a method of a value
-pub chain_result_keeps : (v : Entry) (chain : ChainValue) (gs : List NamedGiven) → IsValidObject v → Keeps (chain_result v chain gs)
-chain_result_keeps v chain gs h = grind (arith, method_result_keeps, grouped_result_keeps)
+pub called_keeps : (o : Option Method) (name : Text) (gs : List NamedGiven) (t : Table) → IsShaped t → ((m : Method) → o ≡ Some m → fits_shape m t.shape ≡ true) → Keeps (called o name gs t)
+called_keeps = grind (arith, on_bound_keeps, answer_keeps)

@@ -1,7 +1,7 @@
 -- A statement leaves a valid state of a valid one.
 use Rattle.{
   meaning_script.{proofs.cells.Common.{arith, ℕ, List, All-nil, All-cons, Bool, if◌then◌else◌, codes, is_some, Option, Some, None, IfSome, Result, Ok, Err, IfOk, All, Text, Contents, FaultValue}, specs.{language.Tree.{Expr, Step, Arg, Parts, bare, named, Action}, tables.{Table.{Table}, Valid.{IsValid}, Value.{Entry, NamedGiven}}, call.Signature.{function_named}, method.{Calls.{has_method}, Concat.{tables_of}, Readers.{read_result}}, State.{State, without_name}, Reading.{Files, Reading, Reads, then_read, of_bytes, of_path}, Expression.{target_of, value_of_name, where_named, made, value_of, stepped, brackets_of, given_of, part_of, parts_of, named_of}, Statement.{Answer, then_answer, with_value, set_answer, statement_result}}},
-  meaning_laws.{specs.Validity.{IsValidObject, IsValidEntry, IsValidGiven, IsValidArgument, AreValidArguments, IsValidState, LeavesValid, HasHeldLiterals, IsHeldArgument, IsHeldAction}, proofs.{Words.{Keeps}, InfixLaws.{infix_result_keeps, sign_result_keeps}, ReachLaws.{select_result_keeps, length_result_keeps}, SetLaws.{assign_result_keeps, removal_result_keeps}, MethodLaws.{chain_result_keeps}, CsvLaws.{read_result_keeps}, ArgumentLaws.{more_valid}, CallLaws.{call_result_keeps, function_result_keeps}}},
+  meaning_laws.{specs.Validity.{IsValidObject, IsValidEntry, IsValidGiven, IsValidArgument, AreValidArguments, IsValidState, LeavesValid, HasHeldLiterals, IsHeldArgument, IsHeldAction}, proofs.{Words.{Keeps}, InfixLaws.{infix_result_keeps, sign_result_keeps}, ReachLaws.{select_result_keeps, length_result_keeps}, SetLaws.{assign_result_keeps, removal_result_keeps}, GroupLaws.{grouped_result_keeps}, WindowLaws.{rolling_result_keeps, expanding_result_keeps}, CsvLaws.{read_result_keeps}, ArgumentLaws.{more_valid}, CallLaws.{call_result_keeps, function_result_keeps}}},
 }
 use Rattle.meaning_script.specs.language.Tree as tree
 use Rattle.meaning_script.specs.method.Calls as calls
@@ -80,9 +80,9 @@ module _ (files : Files) (s : State) (valid : IsValidState s) where
         named_keeps (has_method v n) n _ (read_keeps AreValidArguments IsValidEntry (named_of files s args) _ (arguments_valid args) (λ gs k. call_result_keeps v (calls.plain n) gs h k))
     step_keeps v (tree.group args by n more) h =
         named_keeps (has_method v (codes "groupby")) (codes "groupby") _
-        (after_any IsValidEntry (named_of files s args) _ (λ g. after_any IsValidEntry (brackets_of files s by) _ (λ k. after_any IsValidEntry (named_of files s more) _ (λ gs. chain_result_keeps v (calls.grouped g k n) gs h))))
-    step_keeps v (tree.rolling args n more) h = grind (arith, chain_result_keeps)
-    step_keeps v (tree.expanding args n more) h = grind (arith, chain_result_keeps)
+        (after_any IsValidEntry (named_of files s args) _ (λ g. after_any IsValidEntry (brackets_of files s by) _ (λ k. after_any IsValidEntry (named_of files s more) _ (λ gs. grouped_result_keeps v g k n gs h))))
+    step_keeps v (tree.rolling args n more) h = grind (arith, rolling_result_keeps)
+    step_keeps v (tree.expanding args n more) h = grind (arith, expanding_result_keeps)
 
     argument_valid : (a : Arg) → IfOk (given_of files s a).answer IsValidArgument
     argument_valid (tree.expr x) = grind (arith, value_valid x)

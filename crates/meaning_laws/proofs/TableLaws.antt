@@ -1,7 +1,7 @@
 -- Tables whose parts fit, before their limits are tested.
 use Rattle.{
-  meaning_script.{proofs.cells.Common.{arith, ◌≡◌, ℕ, ◌<◌, ◌≤◌, List, [], ◌∷◌, length, map, ◌≢◌, refl, suc, nat_tests, set-get_or, All-nil, All-head, All-tail, all_pairs_push, true, None, IsSome, IfOk, All, Bool, false, ◌||◌, nat_lt, slice_index_or, Option, Some, IfSome, option_map, unwrap_or, Decides, list_any, Shape, Series, Frame, LabelValue, value_decides}, specs.{tables.{Table.{Table, column_at}, Valid.{AreHeadings, IsValid, within_limits}, Change.{put_at}}, form.{Finish.{limited_table, limited, with_columns, same_heading, first_repeated, finished}, Select.{heading_at, place_of_label, found, column_place}}, call.Binding.{same_label}}},
-  meaning_laws.proofs.{Words.{Keeps, Column, Name, Apart, IsFrame, Below}, ColumnLaws.{IsColumn}, ListLaws.{all_made}},
+  meaning_script.{proofs.cells.Common.{arith, ◌≡◌, ℕ, ◌<◌, ◌≤◌, List, [], ◌∷◌, length, map, ◌≢◌, refl, suc, nat_tests, set-get_or, All-nil, All-head, All-tail, all_pairs_push, true, None, IsSome, IfOk, All, Bool, false, ◌||◌, nat_lt, slice_index_or, Option, Some, IfSome, option_map, unwrap_or, Decides, list_any, Shape, Series, Frame, Int64, LabelValue, value_decides}, specs.{tables.{Table.{Table, column_at}, Valid.{AreHeadings, IsValid, within_limits}, Change.{put_at}}, form.{Finish.{limited_table, limited, with_columns, same_heading, first_repeated, finished}, Select.{heading_at, place_of_label, found, column_place}}, call.Binding.{same_label}}},
+  meaning_laws.proofs.{Words.{Keeps, Column, Name, Apart, IsFrame, Below}, ColumnLaws.{IsColumn, Held}, ListLaws.{all_made, at_or}},
 }
 
 -- a table that is valid if it is within the limits
@@ -33,6 +33,10 @@ module _ (t : Table) where
 
     pub column_of_table : (place : ℕ) → place < length t.columns → IsColumn (length t.labels) (column_at t.columns place)
     column_of_table = grind arith
+
+    -- cells of columns are held, also where there is no such column
+    pub cells_held : (place : ℕ) → All (Held (column_at t.columns place).kind) (column_at t.columns place).cells
+    cells_held place = at_or (λ c. All (Held c.kind) c.cells) _ _ _ (All-nil (Held Int64)) (λ k d lt. (s.columns k d lt).held)
 
 -- the name of a Series
 pub series_heading : (s : Shape) (name : Name) (h : Name) → s ≡ Series → name ≡ None → AreHeadings s name (h ∷ [])

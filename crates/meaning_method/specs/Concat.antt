@@ -11,9 +11,9 @@ use Rattle.meaning_call.specs.cells.Text.{same_text}
 use Rattle.meaning_call.specs.cells.Cell.{CellValue, na_cell, LabelValue, int}
 use Rattle.meaning_call.specs.cells.Fault.{FaultValue, wrong_kind, bad_value, argument, levels, repeated_label, then_value}
 use Rattle.meaning_group.specs.align.Targets.{rows_of_targets}
-use Rattle.meaning_join.specs.Concat.{column_below, united, are_equal, repeated_on_any, first_axis, labels_under}
-use Rattle.meaning_join.specs.tables.Table.{ColumnOf, Table, column_at}
-use Rattle.meaning_join.specs.tables.Value.{Entry, Given, GivenList, NamedGiven, no_given, more_given, list_in, object_in}
+use Rattle.meaning_shapes.specs.join.Concat.{column_below, united, are_equal, repeated_on_any, first_axis, labels_under}
+use Rattle.meaning_select.specs.tables.Table.{ColumnOf, Table, column_at}
+use Rattle.meaning_select.specs.tables.Value.{Entry, Given, GivenList, NamedGiven, no_given, more_given, list_in, object_in}
 use Rattle.meaning_call.specs.declared.Function.TheVariants as function
 use Rattle.meaning_call.specs.Signature.{function_parameters}
 use Rattle.meaning_call.specs.Binding.{bound_of, on_bound, whole_in, truth_in, text_in}

@@ -2,7 +2,7 @@
 use Rattle.std.specs.Prelude.{ℕ, List, Option, Some, None, Result, Err}
 use Rattle.meaning_call.specs.cells.Text.{Text}
 use Rattle.meaning_call.specs.cells.Fault.{FaultValue, no_attribute, not_built}
-use Rattle.meaning_join.specs.tables.Value.{Entry, NamedGiven}
+use Rattle.meaning_select.specs.tables.Value.{Entry, NamedGiven}
 use Rattle.meaning_call.specs.declared.Function.{Function}
 use Rattle.meaning_call.specs.declared.Function.TheVariants as function
 use Rattle.meaning_call.specs.Functions.{series_call, frame_call}

@@ -7,8 +7,8 @@ use Rattle.meaning_call.specs.cells.Cell.{CellValue, LabelValue, text}
 use Rattle.meaning_call.specs.cells.Column.{ColumnValue, ColumnFault}
 use Rattle.meaning_call.specs.cells.Operator.{cell_label}
 use Rattle.meaning_call.specs.cells.Fault.{FaultValue, no_attribute, wrong_kind, bad_value, argument, limit, then_value}
-use Rattle.meaning_join.specs.tables.Table.{ColumnOf, Table, column_at}
-use Rattle.meaning_join.specs.tables.Value.{Entry, cell, table, Given, GivenList, NamedGiven, scalar_in, list_in}
+use Rattle.meaning_select.specs.tables.Table.{ColumnOf, Table, column_at}
+use Rattle.meaning_select.specs.tables.Value.{Entry, cell, table, Given, GivenList, NamedGiven, scalar_in, list_in}
 use Rattle.meaning_call.specs.declared.Method.TheVariants.{Other}
 use Rattle.meaning_call.specs.declared.OtherMethod.TheVariants.{Groupby}
 use Rattle.meaning_call.specs.declared.Parameter.{Parameter}
@@ -185,7 +185,7 @@ plain_call t =
     else if same_text t (codes "cumcount") then Some cumcount
     else reduced_or (reduction_named t)
 
-abbrev pub without_arguments : Option GroupCall → Text → List NamedGiven → Result GroupCall FaultValue
+abbrev pub without_arguments : {A : Type 0} → Option A → Text → List NamedGiven → Result A FaultValue
 without_arguments None name gs = Err (no_attribute name)
 without_arguments (Some call) name gs = of_bound (λ given. Ok call) (bound_of [] gs)
 

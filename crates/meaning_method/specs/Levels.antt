@@ -6,8 +6,8 @@ use Rattle.meaning_call.specs.cells.Cell.{CellValue, na_cell, int_cell, truth_ce
 use Rattle.meaning_call.specs.cells.Operator.{cell_label}
 use Rattle.meaning_call.specs.cells.Fault.{FaultValue, wrong_kind, bad_value, levels, limit, then_value}
 use Rattle.meaning_group.specs.pick.Positions.{row_at}
-use Rattle.meaning_join.specs.tables.Table.{ColumnOf, Table}
-use Rattle.meaning_join.specs.tables.Value.{Entry, Given, many, nothing, one, row, entries, scalar_in}
+use Rattle.meaning_select.specs.tables.Table.{ColumnOf, Table}
+use Rattle.meaning_select.specs.tables.Value.{Entry, Given, many, nothing, one, row, entries, scalar_in}
 use Rattle.meaning_call.specs.form.Finish.{limited, finished, first_repeated, unless_repeated, same_heading, default_labels, try_all}
 use Rattle.meaning_call.specs.form.Select.{columns_frame, column_places, heading_at, labels_of, place_of_label, found}
 use Rattle.meaning_call.specs.form.Set.{list_column, of_length}

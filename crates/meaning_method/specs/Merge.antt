@@ -8,12 +8,12 @@ use Rattle.meaning_call.specs.cells.Text.{Text, same_text}
 use Rattle.meaning_call.specs.cells.Cell.{CellValue, na_cell, LabelValue, text}
 use Rattle.meaning_call.specs.cells.Column.{gap_cell, taken}
 use Rattle.meaning_call.specs.cells.Fault.{FaultValue, wrong_kind, bad_value, key_kinds, bad_merge, no_common, limit, then_value}
-use Rattle.meaning_join.specs.declared.How.{How}
-use Rattle.meaning_join.specs.declared.How.TheVariants as how
-use Rattle.meaning_join.specs.declared.Validate.{Validate}
-use Rattle.meaning_join.specs.Pairs.{Pair, RepeatedKey, repeated_key, key_pairs}
-use Rattle.meaning_join.specs.tables.Table.{ColumnOf, Table, column_at}
-use Rattle.meaning_join.specs.tables.Value.{Entry, Given, nothing, object_in}
+use Rattle.meaning_shapes.specs.join.declared.How.{How}
+use Rattle.meaning_shapes.specs.join.declared.How.TheVariants as how
+use Rattle.meaning_shapes.specs.join.declared.Validate.{Validate}
+use Rattle.meaning_shapes.specs.join.Pairs.{Pair, RepeatedKey, repeated_key, key_pairs}
+use Rattle.meaning_select.specs.tables.Table.{ColumnOf, Table, column_at}
+use Rattle.meaning_select.specs.tables.Value.{Entry, Given, nothing, object_in}
 use Rattle.meaning_call.specs.Binding.{text_in}
 use Rattle.meaning_call.specs.form.Finish.{finished, default_labels, same_heading, same_kind}
 use Rattle.meaning_call.specs.form.Infix.{same_tuple, tuple_before, common_name}

@@ -15,8 +15,8 @@ use Rattle.meaning_call.specs.cells.Reduce.{Reduction, is_present, same_cell, re
 use Rattle.meaning_call.specs.cells.Cumulate as cumulation
 use Rattle.meaning_call.specs.cells.Cumulate.{Cumulation, cumulate_column}
 use Rattle.meaning_call.specs.cells.Fault.{FaultValue, wrong_kind, bad_value, no_columns, not_built, then_value}
-use Rattle.meaning_join.specs.tables.Table.{ColumnOf, Table, column_at}
-use Rattle.meaning_join.specs.tables.Value.{Entry, cell, Given, nothing, scalar_in, list_in, dict_in}
+use Rattle.meaning_select.specs.tables.Table.{ColumnOf, Table, column_at}
+use Rattle.meaning_select.specs.tables.Value.{Entry, cell, Given, nothing, scalar_in, list_in, dict_in}
 use Rattle.meaning_call.specs.declared.Method.{Method}
 use Rattle.meaning_call.specs.declared.Method.TheVariants as method
 use Rattle.meaning_call.specs.declared.ColumnMethod.TheVariants as column_method
@@ -187,11 +187,11 @@ answer_for (method.Labels label_method.ReindexFrame) (index ∷ columns ∷ []) 
 answer_for (method.Labels label_method.Xs) (key ∷ level ∷ []) t = on (scalar_in key) (λ c. xs_result t c (scalar_in level))
 answer_for (method.Table table_method.ToFrame) gs t = limited (as_frame t)
 answer_for (method.Table table_method.ToCsv) (index ∷ []) t = on (truth_in index) (λ b. csv_answer b t)
--- no other number of arguments is bound, and no other method is built
+-- no other number of arguments is bound, and no other method is answered here
 answer_for m gs t = Err not_built
 
--- whether the method is answered by its table alone, as all but those of `Other`: of these `groupby` and `merge` are calls of
--- their own, and each that isn't built answers so before its arguments are looked at
-abbrev pub takes_one_table : Method → Bool
-takes_one_table (method.Other m) = false
-takes_one_table m = true
+-- whether a method is answered here: those of another shape are in `Reshape`, and those of `Other` are calls of their own
+abbrev pub is_answered : Method → Bool
+is_answered (method.Reshape m) = false
+is_answered (method.Other m) = false
+is_answered m = true

@@ -6,8 +6,8 @@ use Rattle.meaning_call.specs.cells.Text.{Text}
 use Rattle.meaning_call.specs.cells.Cell.{text_cell, text}
 use Rattle.meaning_call.specs.cells.Fault as fault
 use Rattle.meaning_call.specs.cells.Fault.{FaultValue, wrong_kind, bad_value, argument, cast, no_records, long_row, limit}
-use Rattle.meaning_join.specs.tables.Table.{Table}
-use Rattle.meaning_join.specs.tables.Value.{Entry, cell, table, Given, GivenPairs, NamedGiven, one, no_entries, more_entries, dict_in}
+use Rattle.meaning_select.specs.tables.Table.{Table}
+use Rattle.meaning_select.specs.tables.Value.{Entry, cell, table, Given, GivenPairs, NamedGiven, one, no_entries, more_entries, dict_in}
 use Rattle.meaning_call.specs.declared.Function.{Function}
 use Rattle.meaning_call.specs.declared.Function.TheVariants as function
 use Rattle.meaning_call.specs.Signature.{function_parameters}

@@ -5,8 +5,8 @@ use Rattle.meaning_call.specs.cells.Cell.{na_cell, LabelValue}
 use Rattle.meaning_call.specs.cells.Fault.{FaultValue, wrong_kind, then_value}
 use Rattle.meaning_group.specs.align.Faults.{met_rows}
 use Rattle.meaning_group.specs.align.Targets.{reindexed}
-use Rattle.meaning_join.specs.tables.Table.{ColumnOf, TableOf, Table, column_at}
-use Rattle.meaning_join.specs.tables.Value.{Entry, GivenList}
+use Rattle.meaning_select.specs.tables.Table.{ColumnOf, TableOf, Table, column_at}
+use Rattle.meaning_select.specs.tables.Value.{Entry, GivenList}
 use Rattle.meaning_call.specs.form.Finish.{limited, finished, column_labels}
 use Rattle.meaning_call.specs.form.Infix.{same_tuple, on_rows}
 use Rattle.meaning_select.specs.Keys.{whole_items}

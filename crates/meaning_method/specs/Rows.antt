@@ -9,8 +9,8 @@ use Rattle.meaning_call.specs.cells.Cell.{CellValue, na_cell, truth_cell, LabelV
 use Rattle.meaning_call.specs.cells.Operator.{cell_label}
 use Rattle.meaning_call.specs.cells.Reduce.{is_present, same_cell}
 use Rattle.meaning_call.specs.cells.Fault.{FaultValue, then_value}
-use Rattle.meaning_join.specs.tables.Table.{Table, rows_of}
-use Rattle.meaning_join.specs.tables.Value.{Entry, cell, Given, nothing, one, many}
+use Rattle.meaning_select.specs.tables.Table.{Table, rows_of}
+use Rattle.meaning_select.specs.tables.Value.{Entry, cell, Given, nothing, one, many}
 use Rattle.meaning_call.specs.form.Finish.{limited, finished}
 use Rattle.meaning_call.specs.form.Select.{columns_frame, column_places, labels_of}
 use Rattle.meaning_group.specs.pick.Rows.{rows_where}
@@ -39,8 +39,11 @@ abbrev pub all_places : Table → List ℕ
 all_places t = range_with_len 0 (length t.columns)
 
 -- the rows in which no cell is missing
+abbrev pub without_missing : Table → Table
+without_missing t = rows_taken t (rows_where (list_all is_present) 0 (cells_by_row t (all_places t)))
+
 abbrev pub dropna_result : Table → Result Entry FaultValue
-dropna_result t = limited (rows_taken t (rows_where (list_all is_present) 0 (cells_by_row t (all_places t))))
+dropna_result t = limited (without_missing t)
 
 -- whether each one is equal to an earlier one, after those that stand before
 abbrev pub repeats : {X : Type 0} → (X → X → Bool) → List X → List X → List Bool

@@ -5,8 +5,8 @@ use Rattle.meaning_call.specs.cells.Operator.{cell_label}
 use Rattle.meaning_call.specs.cells.Fault.{FaultValue, then_value}
 use Rattle.meaning_group.specs.pick.Labels.{unless_none}
 use Rattle.meaning_group.specs.pick.Rows.{rows_where}
-use Rattle.meaning_join.specs.tables.Table.{Table}
-use Rattle.meaning_join.specs.tables.Value.{Entry}
+use Rattle.meaning_select.specs.tables.Table.{Table}
+use Rattle.meaning_select.specs.tables.Value.{Entry}
 use Rattle.meaning_call.specs.Binding.{same_label}
 use Rattle.meaning_call.specs.form.Finish.{limited}
 use Rattle.meaning_select.specs.Keys.{found_pick}

@@ -72,10 +72,10 @@ abbrev mutual
       (then_read (named_of files s args) (λ g. then_read (brackets_of files s by) (λ h. then_read (named_of files s more) (λ gs. at_once (call_result v (calls.grouped g h n) gs)))))
   stepped files s v (tree.rolling args n more) =
       where_named (has_method v (codes "rolling")) (codes "rolling")
-      (then_read (named_of files s args) (λ g. then_read (named_of files s more) (λ gs. at_once (call_result v (calls.through (codes "rolling")) gs))))
+      (then_read (named_of files s args) (λ g. then_read (named_of files s more) (λ gs. at_once (call_result v (calls.rolling g n) gs))))
   stepped files s v (tree.expanding args n more) =
       where_named (has_method v (codes "expanding")) (codes "expanding")
-      (then_read (named_of files s args) (λ g. then_read (named_of files s more) (λ gs. at_once (call_result v (calls.through (codes "expanding")) gs))))
+      (then_read (named_of files s args) (λ g. then_read (named_of files s more) (λ gs. at_once (call_result v (calls.expanding g n) gs))))
 
   pub sub_of : Files → State → Sub → Reads GivenSub
   sub_of files s (tree.key a) = then_read (given_of files s a) (λ g. gives (key_given g))

@@ -2,7 +2,7 @@
 use Rattle.{
   column_core.{proofs.cells.Common.{rules, ◌≡◌, ◌<◌, ◌+◌, ◌*◌, ◌&&◌, ◌++◌, refl, arith, ℕ, zero, suc, Bool, not, cond, List, [], ◌∷◌, map, filter, length, length-append, slice_index_or, nat_eq, Option, Some, None, ◌∙◌, ◌≤◌, sym, true, All, inl, inr, take, ap, max, Result, Ok, Err, slice_index, set, min, nat_lt, subst, false, drop, ne_eqb, eq-eqb, false≢true, eqb-true, cases_lt, eqb-false, map-id, map-append, append-nil, take_more, length-take-le, length-map, length-set, get_or-set_same, get_or-set_other, filter-append, All-head, All-tail, All-map, All-take, All-drop, sum_by-cons, flat_map-map, list_any-append, flat_map-append, length-flat_map, map-range_with_len_more, length-range_with_len, get_or-range_with_len, fill_by_all, length-map-range_with_len, map-map, take-append_seam, drop-append_seam, list_any, flat_map, range_with_len, position_or_len, option_map, IfOk, IsEquivalence, IsStrictWeakOrder, Decides, All-append as all_append, Label, Text, distinct, Side}, specs.Moves.{IsPlaceOf}},
   std.{proofs.{Common.{lt-ltb, le-ltb}, lemmas.List.{append_assoc, Sums.{sum_by_more_le, sum_by-le-sum_by, sum_by_push}, FromFn.{take-map-range_with_len}}}, specs.List.{sum_by}},
-  meaning_join.{specs.{align.{Joins.{or_gap, most_rows, Entry, entries_with, entries_of, keys_in_order}, Targets.{first_where, first_repeated}}, pick.Rows.{rows_where}, Pairs.{Pair, pair, exchanged, partners, pairs_from, JoinRefusal, within_limit, too_large, pair_of_entry, key_pairs, RepeatedKey, repeated_key, unless_repeated, joined, not_one_to_one, repeated_on, or_else}, declared.{How.{How, TheVariants.{Inner, Left, Right, Outer}}, Validate.{Validate}}}, proofs.{align.OrderLaws.{all_flat, all_in_order}, pick.{RowLaws.{rows_where-map}, InsideLaws.{rows_inside}}}},
+  meaning_join.{specs.{align.{Joins.{or_gap, Entry, entries_with, entries_of, keys_in_order}, Targets.{first_where, first_repeated}}, pick.Rows.{rows_where}, Pairs.{Pair, pair, exchanged, partners, pairs_from, JoinRefusal, within, too_large, pair_of_entry, key_pairs, RepeatedKey, repeated_key, unless_repeated, joined_within, not_one_to_one, repeated_on, or_else}, declared.{How.{How, TheVariants.{Inner, Left, Right, Outer}}, Validate.{Validate}}}, proofs.{align.OrderLaws.{all_flat, all_in_order}, pick.{RowLaws.{rows_where-map}, InsideLaws.{rows_inside}}}},
   merge_concat.specs.{Joining.{same_row, how_often, once_if, same_pair, turned, AreAlike, IsJoin, IsJoinOf, JoinsAreAlike, SidesExchange, ExchangeChangesOrder, keeps_left, keeps_right}, declared.{pairs.{Pairs.{Pairs}, PairLists.{PairLists}}, fault.MergeFault.{MergeFault}}, Codes.{pairs_with, pairs_of, pairs_at, outer_pairs, count_of, count_with, counted_by_row, counted_by_key, repeated_from, AreCounts, keys_of, is_outer, code_pairs, repeated_in}, Pairs.{AreListed, HasMore, IsJoined, JoinsBy}},
   cell_core.specs.declared.cell.Label.TheVariants.{Na},
   row_keys.{specs.{Keys.{same_tuple, place_among}, Buckets.{rows_of_code, buckets_of}}, proofs.{PartnerLaws.{tuple_laws}, KeyLaws.{place_tells, position_in, any_at}, FillLaws.{rows_more}, RecodeLaws.{All-distinct}}},
@@ -230,17 +230,17 @@ counted_within n count left right lt =
     omega (arith, sum_by_more_le size numbers n 0 (omega (arith, length-range_with_len 0 count)), ap (sum_by size) first, ap size here)
 
 -- too many pairs, and few enough
-module _ {K : Type 0} (pairs : List Pair) (counted : ℕ) (size : length pairs ≡ counted) where
+module _ {K : Type 0} (most : ℕ) (pairs : List Pair) (counted : ℕ) (size : length pairs ≡ counted) where
   abbrev meant : Result (List Pair) (JoinRefusal K)
-  meant = within_limit pairs
+  meant = within most pairs
 
-  pub too_many : most_rows < counted → meant ≡ Err too_large
+  pub too_many : most < counted → meant ≡ Err too_large
   too_many = grind (arith, lt-ltb)
 
-  pub few_enough : counted ≤ most_rows → meant ≡ Ok pairs
+  pub few_enough : counted ≤ most → meant ≡ Ok pairs
   few_enough = grind (arith, le-ltb)
 
-pub exchanged_joined : (made turned : Pairs) (ps : List Pair) → turned.left ≡ made.right → turned.right ≡ made.left → IsJoined made (within_limit ps) → IsJoined turned (within_limit (map exchanged ps))
+pub exchanged_joined : (most : ℕ) (made turned : Pairs) (ps : List Pair) → turned.left ≡ made.right → turned.right ≡ made.left → IsJoined made (within most ps) → IsJoined turned (within most (map exchanged ps))
 exchanged_joined = grind (arith, length-map, map-map)
 
 -- Rows meet by their keys as they meet by the numbers of the keys.
@@ -361,7 +361,7 @@ module _ (texts : List Text) where
     pub right_known : All IsKeyOf right
     right_known = all_right IsKeyOf _ _ rows_known
 
-    apart : (g : ℕ) → g < length keys → number_of (slice_index_or keys g []) ≡ g
+    pub apart : (g : ℕ) → g < length keys → number_of (slice_index_or keys g []) ≡ g
     apart g lt = let key = slice_index_or keys g [] in only_place _ keys key g [] (stands_once key (keys_there (seen_rules texts) tuple_laws sorted false rows g [] lt)) lt (tuple_laws.refl key)
 
     -- the numbers of either side
@@ -545,17 +545,17 @@ module _ {K : Type 0} (same less : K → K → Bool) (laws : IsEquivalence same)
     pairs_answered (Ok pairs) = pairs
     pairs_answered (Err refusal) = pairs_meant
 
-    kept : (repeated : Option (RepeatedKey K)) → pairs_answered (unless_repeated repeated (within_limit pairs_meant)) ≡ pairs_meant
+    kept : (most : ℕ) (repeated : Option (RepeatedKey K)) → pairs_answered (unless_repeated repeated (within most pairs_meant)) ≡ pairs_meant
     kept = grind arith
 
-    pub answer_is_join : (pairs : List Pair) → joined same less how once left right ≡ Ok pairs → IsJoin same how left right pairs
-    answer_is_join = grind (arith, kept (repeated_key same once left right), pairs_are_join how)
+    pub answer_is_join : (most : ℕ) (pairs : List Pair) → joined_within most same less how once left right ≡ Ok pairs → IsJoin same how left right pairs
+    answer_is_join most = grind (arith, kept most (repeated_key same once left right), pairs_are_join how)
 
 -- What is meant, by the numbers of the keys.
 
 module _ (texts : List Text) (how : How) (once : Validate) (left right : List (List Label)) where
-  abbrev meant_join : Result (List Pair) (JoinRefusal (List Label))
-  meant_join = joined same_tuple (tuple_less texts) how once left right
+  abbrev meant_join : ℕ → Result (List Pair) (JoinRefusal (List Label))
+  meant_join most = joined_within most same_tuple (tuple_less texts) how once left right
 
   abbrev repeated : Side → List Label → RepeatedKey (List Label)
   repeated s key = record { side = s; key = key }
@@ -584,20 +584,20 @@ module _ (texts : List Text) (how : How) (once : Validate) (left right : List (L
     abbrev pub found_right : Option (List Label)
     found_right = repeated_in once.right right of_right
 
-    meant_is : meant_join ≡ unless_repeated (or_else (option_map (repeated side.left) found_left) (option_map (repeated side.right) found_right)) (within_limit (key_pairs same_tuple (tuple_less texts) how left right))
-    meant_is = λ i. unless_repeated
+    meant_is : (most : ℕ) → meant_join most ≡ unless_repeated (or_else (option_map (repeated side.left) found_left) (option_map (repeated side.right) found_right)) (within most (key_pairs same_tuple (tuple_less texts) how left right))
+    meant_is most = λ i. unless_repeated
         (or_else (on_side side.left once.left left found_left (search (repeats_are, left_known, numbers_left)) i)
         (on_side side.right once.right right found_right (search (repeats_are, right_known, numbers_right)) i))
-        (within_limit (key_pairs same_tuple (tuple_less texts) how left right))
+        (within most (key_pairs same_tuple (tuple_less texts) how left right))
 
-    pub refused_left : (key : List Label) → found_left ≡ Some key → meant_join ≡ Err (not_one_to_one (repeated side.left key))
-    refused_left _ e = cc meant_is
+    pub refused_left : (most : ℕ) (key : List Label) → found_left ≡ Some key → meant_join most ≡ Err (not_one_to_one (repeated side.left key))
+    refused_left most _ e = cc (meant_is most)
 
-    pub refused_right : (key : List Label) → found_left ≡ None → found_right ≡ Some key → meant_join ≡ Err (not_one_to_one (repeated side.right key))
-    refused_right _ none e = search meant_is
+    pub refused_right : (most : ℕ) (key : List Label) → found_left ≡ None → found_right ≡ Some key → meant_join most ≡ Err (not_one_to_one (repeated side.right key))
+    refused_right most _ none e = search (meant_is most)
 
-    pub allowed : found_left ≡ None → found_right ≡ None → meant_join ≡ within_limit (code_pairs how count of_left of_right)
-    allowed = grind (arith, meant_is, pairs_are, numbers_left, numbers_right)
+    pub allowed : (most : ℕ) → found_left ≡ None → found_right ≡ None → meant_join most ≡ within most (code_pairs how count of_left of_right)
+    allowed most none_left none_right = grind (arith, meant_is most, pairs_are, numbers_left, numbers_right)
 
 -- keys of both sides have four labels at most
 module _ (left right : List (List Label)) (alike : HaveLevels (levels_of (left ++ right)) (left ++ right)) where
@@ -614,7 +614,7 @@ module _ (left right : List (List Label)) (alike : HaveLevels (levels_of (left +
   alike_right k d lt = all_right IsAlikeKey _ _ alike k d lt ∙ sym (all_right IsAlikeKey left _ alike 0 (Na ∷ []) (omega (arith, lt)))
 
 -- what is answered is a join
-pub law_of : (texts : List Text) (how : How) (once : Validate) (left right : List (List Label)) (result : Result Pairs MergeFault)
-    → JoinsBy result (joined same_tuple (tuple_less texts) how once left right) → IfOk result (IsJoinOf same_tuple how left right)
-law_of _ _ _ _ _ (Ok made) answer = search (answer_is_join, tuple_laws, tuple_decides, tuple_weak)
-law_of _ _ _ _ _ (Err fault) _ = tt
+pub law_of : (most : ℕ) (texts : List Text) (how : How) (once : Validate) (left right : List (List Label)) (result : Result Pairs MergeFault)
+    → JoinsBy result (joined_within most same_tuple (tuple_less texts) how once left right) → IfOk result (IsJoinOf same_tuple how left right)
+law_of _ _ _ _ _ _ (Ok made) answer = search (answer_is_join, tuple_laws, tuple_decides, tuple_weak)
+law_of _ _ _ _ _ _ (Err fault) _ = tt

@@ -3,7 +3,7 @@ use Rattle.std.specs.Prelude.{◌≡◌, ◌+◌, ◌*◌, ◌<◌, ◌≤◌, �
 use Rattle.std.specs.List.{flat_map, sum_by, range_with_len}
 use Rattle.cell_core.specs.declared.cell.Label.{Label}
 use Rattle.column_core.specs.cells.Text.{Text}
-use Rattle.meaning_join.specs.align.Joins.{or_gap, most_rows}
+use Rattle.meaning_join.specs.align.Joins.{or_gap}
 use Rattle.meaning_join.specs.declared.How.{How}
 use Rattle.meaning_join.specs.declared.How.TheVariants.{Inner, Left, Right, Outer}
 use Rattle.meaning_join.specs.Pairs.{Pair, pair, exchanged, pairs_from}
@@ -52,9 +52,9 @@ counted_by_row stays left right = sum_by (λ code. count_with stays (rows_of_cod
 abbrev pub counted_by_key : ℕ → List ℕ → List ℕ → ℕ
 counted_by_key count left right = sum_by (λ code. count_of (rows_of_code code left) (rows_of_code code right)) (range_with_len 0 count)
 
--- a table may have as many rows
-abbrev pub IsCount : ℕ → ℕ → Type 0
-IsCount counted count = (count ≡ counted) × (counted ≤ most_rows)
+-- they are so many at most
+abbrev pub IsCount : ℕ → ℕ → ℕ → Type 0
+IsCount most counted count = (count ≡ counted) × (counted ≤ most)
 
 -- the rows whose keys have equal numbers
 abbrev pub code_pairs : How → ℕ → List ℕ → List ℕ → List Pair

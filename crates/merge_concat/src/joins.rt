@@ -1,7 +1,7 @@
 // Rows of two sides whose keys are equal.
 ghost use Rattle.std.specs.Prelude.{◌≡◌, ◌≤◌, ◌++◌, IfOk};
 ghost use Rattle.multi_index.specs.Axes.{HaveLevels};
-ghost use Rattle.meaning_join.specs.Pairs.{joined};
+ghost use Rattle.meaning_join.specs.Pairs.{joined, joined_within};
 ghost use Rattle.row_keys.specs.Keys.{same_tuple};
 ghost use Rattle.label_align.specs.Tuples.{tuple_less};
 ghost use Rattle.factorize.specs.Keys.{levels_of};
@@ -19,6 +19,9 @@ use factorize::{KeyLevels, KeyTuples};
 use meaning_join::{How, Validate};
 use std::alloc::Global;
 
+// As many rows as a table may have.
+const MOST_ROWS: usize = 67108864;
+
 // Whether the rows of both sides stay, and the keys are sorted.
 fn is_outer(how: How) -> bool
     ensures { result ≡ is_outer how }
@@ -29,13 +32,13 @@ fn is_outer(how: How) -> bool
 /// The rows of two sides that have equal keys, NA with NA, and as `how` says the rows without such a row on the
 /// other side, with a gap there: by left row, then right row; with the sides exchanged for `Right`; and by the order
 /// of the keys for `Outer` ("Merge, join, concatenate and compare" in the pandas user guide). The pairs are counted
-/// before one is made, in time that grows with the rows of both sides alone. Texts are told apart by their numbers
+/// before one is made, in time that grows with the rows of both sides alone: the caller has room for `most` of them. Texts are told apart by their numbers
 /// and ordered by what they say. No tuple is made for a row. A key has as many labels as each other one, four at most.
 ///
 /// # Errors
 ///
 /// `NotOneToOne` exactly where a key stands twice on a side on which `once` lets none stand twice, the left side
-/// first, with the key of the first row whose key does. Else `TooLarge` exactly where there are more than 2^26 pairs.
+/// first, with the key of the first row whose key does. Else `TooLarge` exactly where there are more pairs than `most`.
 /// `NoMemory` may come in place of any answer, and `DuplicateLabels` and `MixedKinds` never come.
 #[tactic(auto, using(crate::proofs::Hints::join_rows))]
 pub fn join_rows<L: KeyLevels, R: KeyLevels>(
@@ -45,12 +48,13 @@ pub fn join_rows<L: KeyLevels, R: KeyLevels>(
     right: &R,
     how: How,
     once: Validate,
+    most: usize,
 ) -> Result<Pairs, MergeFault>
     requires alike { let keys = L.keys left.now ++ R.keys right.now in
         HaveLevels (levels_of keys) keys }
     requires few { levels_of (L.keys left.now ++ R.keys right.now) ≤ 4 }
-    ensures pairs { JoinsBy result
-        (joined same_tuple (tuple_less dict.now) how once (L.keys left.now) (R.keys right.now)) }
+    ensures pairs { JoinsBy result (joined_within most
+        same_tuple (tuple_less dict.now) how once (L.keys left.now) (R.keys right.now)) }
     ensures law { IfOk result (IsJoinOf same_tuple how (L.keys left.now) (R.keys right.now)) }
 {
     let numbers = numbers_of_both(alloc, dict, left, right, is_outer(how))?;
@@ -66,7 +70,7 @@ pub fn join_rows<L: KeyLevels, R: KeyLevels>(
     if let Some(key) = on_right {
         return Err(MergeFault::NotOneToOne(Side::Right, key));
     }
-    joined_by_code(alloc, how, &lefts, &rights)
+    joined_by_code(alloc, how, &lefts, &rights, most)
 }
 
 // How many labels the tuples of two sides have.
@@ -83,11 +87,12 @@ fn levels_of_both(left: &Tuples, right: &Tuples) -> usize
     }
 }
 
-/// The tuples of two sides that are equal, joined as [`join_rows`] joins the rows of tables.
+/// The tuples of two sides that are equal, joined as [`join_rows`] joins the rows of tables, with as many pairs as a
+/// table may have rows.
 ///
 /// # Errors
 ///
-/// Those of [`join_rows`], exactly where it has them.
+/// Those of [`join_rows`], exactly where it has them for 2^26 pairs at most.
 pub fn join_pairs(
     alloc: Global,
     dict: &TextDict,
@@ -104,5 +109,5 @@ pub fn join_pairs(
     // No tuple has more than four labels.
     let _ = levels_of_both(left, right);
     let (lefts, rights) = (KeyTuples::of(left), KeyTuples::of(right));
-    join_rows(alloc, dict, &lefts, &rights, how, once)
+    join_rows(alloc, dict, &lefts, &rights, how, once, MOST_ROWS)
 }

@@ -3,7 +3,8 @@
 //! [`join_rows`] joins the rows of two sides by their keys, as the cells of some columns ([`factorize::KeyColumns`]), and
 //! [`join_pairs`] tuples of labels. [`concat_rows`] and [`concat_parts`] put columns one below the other, where a part may
 //! lack the column; [`axis_below`] puts labels of rows so, with a label for each part if there are such.
-//! [`concat_columns`] has the labels of axes that are put side by side. What is answered is defined in `meaning_join`.
+//! [`concat_columns`] has the labels of axes that are put side by side. [`first_repeated_row`] finds a key that stands twice
+//! by the numbers of keys, and [`key_of_row`] makes it a tuple. What is answered is defined in `meaning_join`.
 //!
 //! ```text
 //! let once = Validate { left: true, right: false };
@@ -33,3 +34,4 @@ pub use fault::MergeFault;
 pub use joins::{join_pairs, join_rows};
 pub use pairs::Pairs;
 pub use parts::Part;
+pub use repeats::{first_repeated_row, key_of_row};

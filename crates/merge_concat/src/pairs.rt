@@ -1,7 +1,6 @@
 // Pairs of rows.
 ghost use Rattle.std.specs.Prelude.{◌≡◌, ◌∷◌, ◌<◌, [], map, nat_eq, Some, OnOk, IfOk, MatchOption};
-ghost use Rattle.meaning_join.specs.align.Joins.{most_rows};
-ghost use Rattle.meaning_join.specs.Pairs.{pair, partners, pairs_from, within_limit};
+ghost use Rattle.meaning_join.specs.Pairs.{pair, partners, pairs_from, within};
 ghost use Rattle.merge_concat.specs.Codes.{pairs_with, pairs_of, outer_pairs, code_pairs};
 ghost use Rattle.merge_concat.specs.Codes.{counted_by_row, counted_by_key, IsCount};
 ghost use Rattle.merge_concat.specs.Pairs.{ArePairs, AreListed, HasMore, JoinsBy};
@@ -20,9 +19,6 @@ pub struct Pairs {
     /// The row of the right side.
     pub right: Gaps,
 }
-
-// As many rows as a table may have.
-const MOST_ROWS: usize = 67108864;
 
 // Pairs while they are made.
 #[derive(Drop)]
@@ -117,17 +113,22 @@ fn pairs_by_row(
     Ok(pairs_made(out))
 }
 
-// How many pairs these are, if a table may have as many rows.
-fn count_by_row(stays: bool, left: &SideCodes<'_>, right: &CodedRows<'_>) -> Option<usize>
+// How many pairs these are, if they are so many at most.
+fn count_by_row(
+    stays: bool,
+    left: &SideCodes<'_>,
+    right: &CodedRows<'_>,
+    most: usize,
+) -> Option<usize>
     requires { left.now.count ≡ right.now.count }
     ensures { let counted = counted_by_row stays left.now.codes.now right.now.codes.now in
-        MatchOption result (most_rows < counted) (λ count. IsCount counted count) }
+        MatchOption result (most < counted) (λ count. IsCount most counted count) }
 {
     let mut total = 0usize;
     for row in 0..left.codes.len() {
         let rights = right.rows_of(left.code(row)).len();
         let size = if stays { rights.max(1) } else { rights };
-        if size > MOST_ROWS - total {
+        if size > most - total {
             return None;
         }
         total += size;
@@ -153,19 +154,19 @@ fn pairs_by_key(
     Ok(pairs_made(out))
 }
 
-// How many pairs these are, if a table may have as many rows.
+// How many pairs these are, if they are so many at most.
 #[tactic(auto, using(crate::proofs::CountLaws::counted_more))]
-fn count_by_key(left: &CodedRows<'_>, right: &CodedRows<'_>) -> Option<usize>
+fn count_by_key(left: &CodedRows<'_>, right: &CodedRows<'_>, most: usize) -> Option<usize>
     requires { left.now.count ≡ right.now.count }
     ensures { let counted = counted_by_key left.now.count left.now.codes.now right.now.codes.now in
-        MatchOption result (most_rows < counted) (λ count. IsCount counted count) }
+        MatchOption result (most < counted) (λ count. IsCount most counted count) }
 {
     let mut total = 0usize;
     for code in 0..left.count {
         let lefts = left.rows_of(code).len().max(1);
         let rights = right.rows_of(code).len().max(1);
         match lefts.checked_mul(rights) {
-            Some(size) if size <= MOST_ROWS - total => total += size,
+            Some(size) if size <= most - total => total += size,
             _ => return None,
         }
     }
@@ -179,13 +180,14 @@ fn joined_by_row(
     stays: bool,
     left: &SideCodes<'_>,
     right: &SideCodes<'_>,
+    most: usize,
 ) -> Result<Pairs, MergeFault>
     requires { left.now.count ≡ right.now.count }
     ensures { JoinsBy result
-        (within_limit (pairs_from nat_eq stays 0 left.now.codes.now right.now.codes.now)) }
+        (within most (pairs_from nat_eq stays 0 left.now.codes.now right.now.codes.now)) }
 {
     let rights = coded_rows(alloc, right)?;
-    match count_by_row(stays, left, &rights) {
+    match count_by_row(stays, left, &rights, most) {
         Some(count) => Ok(pairs_by_row(alloc, count, stays, left, &rights)?),
         None => Err(MergeFault::TooLarge),
     }
@@ -197,14 +199,15 @@ fn joined_by_key(
     alloc: Global,
     left: &SideCodes<'_>,
     right: &SideCodes<'_>,
+    most: usize,
 ) -> Result<Pairs, MergeFault>
     requires { left.now.count ≡ right.now.count }
     ensures { JoinsBy result
-        (within_limit (outer_pairs left.now.count left.now.codes.now right.now.codes.now)) }
+        (within most (outer_pairs left.now.count left.now.codes.now right.now.codes.now)) }
 {
     let lefts = coded_rows(alloc, left)?;
     let rights = coded_rows(alloc, right)?;
-    match count_by_key(&lefts, &rights) {
+    match count_by_key(&lefts, &rights, most) {
         Some(count) => Ok(pairs_by_key(alloc, count, &lefts, &rights)?),
         None => Err(MergeFault::TooLarge),
     }
@@ -228,15 +231,16 @@ pub(crate) fn joined_by_code(
     how: How,
     left: &SideCodes<'_>,
     right: &SideCodes<'_>,
+    most: usize,
 ) -> Result<Pairs, MergeFault>
     requires { left.now.count ≡ right.now.count }
     ensures { JoinsBy result
-        (within_limit (code_pairs how left.now.count left.now.codes.now right.now.codes.now)) }
+        (within most (code_pairs how left.now.count left.now.codes.now right.now.codes.now)) }
 {
     match how {
-        How::Inner => joined_by_row(alloc, false, left, right),
-        How::Left => joined_by_row(alloc, true, left, right),
-        How::Right => Ok(exchanged(joined_by_row(alloc, true, right, left)?)),
-        How::Outer => joined_by_key(alloc, left, right),
+        How::Inner => joined_by_row(alloc, false, left, right, most),
+        How::Left => joined_by_row(alloc, true, left, right, most),
+        How::Right => Ok(exchanged(joined_by_row(alloc, true, right, left, most)?)),
+        How::Outer => joined_by_key(alloc, left, right, most),
     }
 }

@@ -43,8 +43,24 @@ fn first_repeat(side: &SideCodes<'_>, counts: &[u8]) -> Option<usize>
     None
 }
 
-// The key of a row.
-fn key_of_row<R: KeyLevels>(alloc: Global, rows: &R, row: usize) -> Tuple
+/// The first row whose number stands on more than one row, if there is one: each number is below the count. It takes time
+/// that grows with the rows and the numbers. `NoMemory` is the only refusal.
+pub fn first_repeated_row(
+    alloc: Global,
+    count: usize,
+    codes: &[usize],
+) -> Result<Option<usize>, NoMemory>
+    requires { All (λ code. code < count) codes.now }
+    ensures row { IfOk result (λ found. found ≡ repeated_from codes.now 0 codes.now) }
+    ensures below { IfOk result (λ found. IfSome found (λ row. row < length codes.now)) }
+{
+    let side = SideCodes::of(count, codes);
+    let counts = counted_rows(alloc, &side)?;
+    Ok(first_repeat(&side, &counts))
+}
+
+/// The key of a row as a tuple, where it has four labels at most. Takes no memory.
+pub fn key_of_row<R: KeyLevels>(alloc: Global, rows: &R, row: usize) -> Tuple
     requires row { row < length (R.keys rows.now) }
     requires few { length (slice_index_or (R.keys rows.now) row []) ≤ 4 }
     ensures { result ≡ slice_index_or (R.keys rows.now) row [] }
@@ -72,8 +88,7 @@ pub(crate) fn repeated_key<R: KeyLevels>(
     if !once {
         return Ok(None);
     }
-    let counts = counted_rows(alloc, side)?;
-    match first_repeat(side, &counts) {
+    match first_repeated_row(alloc, side.count, side.codes)? {
         Some(row) => Ok(Some(key_of_row(alloc, rows, row))),
         None => Ok(None),
     }

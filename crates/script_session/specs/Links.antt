@@ -3,7 +3,7 @@ use Rattle.std.specs.Prelude.{List, Option, codes}
 use Rattle.script_state.specs.cells.Text.{Text}
 use Rattle.script_state.specs.tables.Value.{Entry, Given, NamedGiven}
 use Rattle.script_state.specs.language.Tree.{parts}
-use Rattle.script_state.specs.method.Calls.{has_method, ChainValue, grouped, through, call_result}
+use Rattle.script_state.specs.method.Calls.{has_method, ChainValue, grouped, rolling, expanding, call_result}
 use Rattle.script_state.specs.script.Reading.{Files, Reads, at_once, then_read}
 use Rattle.script_state.specs.script.State.{State}
 use Rattle.script_state.specs.script.Expression.{where_named, named_of, brackets_of}
@@ -28,11 +28,11 @@ chain_behind Groupby args by name = chain.Group args by name
 chain_behind Rolling args by name = chain.Rolling args name
 chain_behind Expanding args by name = chain.Expanding args name
 
--- the same with plain values; windows have no brackets, and aren't built
+-- the same with plain values; windows have no brackets
 abbrev pub chain_meant : Link → List NamedGiven → Option Given → Text → ChainValue
 chain_meant Groupby args by name = grouped args by name
-chain_meant Rolling args by name = through (codes "rolling")
-chain_meant Expanding args by name = through (codes "expanding")
+chain_meant Rolling args by name = rolling args name
+chain_meant Expanding args by name = expanding args name
 
 -- what follows the arguments of the link, and what follows the brackets
 abbrev pub after_brackets : Files → State → Entry → Linked → List NamedGiven → Option Given → Reads Entry

@@ -164,7 +164,7 @@ impl Work {
     }
 
     /// What a method gives, alone or behind `groupby`, `rolling` or `expanding`: a new object, or a scalar.
-    /// The refusals are those of the method, in its order; a chain that isn't built is a `NotBuiltError`.
+    /// The refusals are those of the method, in its order.
     pub fn method(&mut self, on: Value, chain: &Chain, args: &NamedList) -> Result<Value, OpFault>
         requires on { IsKnownValue (world_of self.old) on }
         requires before { IsKnownChain (world_of self.old) chain.now }
@@ -328,7 +328,7 @@ fn chain_call(
         Chain::Plain(_) => frame_merge::method(alloc, store, dict, on, chain, args),
         Chain::Group(_, _, _) => frame_groups::method(alloc, store, dict, on, chain, args),
         Chain::Rolling(_, _) | Chain::Expanding(_, _) => {
-            frame_methods::method(alloc, store, dict, on, chain, args)
+            frame_windows::method(alloc, store, dict, on, chain, args)
         }
     }
 }

@@ -33,7 +33,7 @@ pub(crate) fn has_cells(found: ColRef<'_>, wanted: &[Option<i64>]) -> bool {
     true
 }
 
-fn have_rows(columns: &[ColRef<'_>], rows: usize) -> bool
+pub(crate) fn have_rows(columns: &[ColRef<'_>], rows: usize) -> bool
     ensures { result ≡ true → All (λ column. length column.cells ≡ rows) columns.now }
 {
     for column in columns {

@@ -36,7 +36,7 @@ fn joined(alloc: Global, how: How, once: Validate) -> Result<Pairs, MergeFault> 
     join_pairs(alloc, &dict, &left, &right, how, once)
 }
 
-fn are(rows: &Gaps, wanted: &[Option<usize>]) -> bool {
+pub(crate) fn are(rows: &Gaps, wanted: &[Option<usize>]) -> bool {
     if rows.len() != wanted.len() {
         return false;
     }
@@ -102,7 +102,10 @@ fn a_key_stands_twice(rt: HostRuntime) {
     }
 }
 
-fn borrowed<'a>(alloc: Global, columns: &'a [Column]) -> Result<Vec<ColRef<'a>>, NoMemory> {
+pub(crate) fn borrowed<'a>(
+    alloc: Global,
+    columns: &'a [Column],
+) -> Result<Vec<ColRef<'a>>, NoMemory> {
     let mut parts = Vec::new(alloc);
     for column in columns {
         parts.push(column.as_ref())?;

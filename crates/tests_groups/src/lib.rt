@@ -1,4 +1,5 @@
-//! Tests of groups, joins and concatenations, with values from pandas, and of the numbers of keys on which they rest.
+//! Tests of groups, joins, concatenations, reshaping and windows, with values from pandas, and of the numbers of keys
+//! on which they rest.
 #![tactic(auto)]
 
 #[cfg(test)]
@@ -7,3 +8,7 @@ mod codes;
 mod groups;
 #[cfg(test)]
 mod joins;
+#[cfg(test)]
+mod reshapes;
+#[cfg(test)]
+mod windows;

@@ -1,8 +1,4 @@
-use Rattle.{
-  frame_parts.proofs.Common.{arith, ◌≡◌, ap, refl, table_value, on, tables, table_at, world, object_settled},
-  frame_labels.{specs.method.Levels.{set_index_result}, proofs.{LevelNameLaws.{names_given}, LevelMoveLaws.{option_given}}},
-  frame_methods.proofs.{AnswerLaws.{answer_by, makes_by}, RowLaws.{makes_so}, ShapeLaws.{set_index_of_frame}},
-}
+use Rattle.{frame_parts.proofs.Common.{arith, ◌≡◌, ap, refl, table_value, table_at, world, object_settled}, frame_labels.{specs.method.Levels.{set_index_result}, proofs.{LevelNameLaws.{names_given}, LevelMoveLaws.{option_given}}}, frame_methods.proofs.{AnswerLaws.{answer_by, makes_by}, RowLaws.{makes_so}, ShapeLaws.{set_index_of_frame}}}
 use Rattle.meaning_call.specs.declared.Method.TheVariants as method
 use Rattle.frame_methods.proofs.calling.levels_made.Goals as goal
 

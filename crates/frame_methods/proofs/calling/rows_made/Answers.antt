@@ -1,9 +1,4 @@
-use Rattle.{
-  frame_parts.{proofs.Common.{arith, ◌≡◌, ◌∙◌, ap, sym, refl, then_value, table_value, on, tables, table_at, world, object_settled}, specs.form.Select.{column_places}},
-  meaning_call.specs.Binding.{truth_in},
-  frame_labels.{specs.{method.Rows.{dropna_result, sort_values_result, sort_by_result, all_places, labels_in}, Named.{first_in}}, proofs.NamedLaws.{all_are}},
-  frame_methods.proofs.AnswerLaws.{makes_by},
-}
+use Rattle.{frame_parts.{proofs.Common.{arith, ◌≡◌, ◌∙◌, ap, sym, refl, then_value, table_value, on, table_at, world, object_settled}, specs.form.Select.{column_places}}, meaning_call.specs.Binding.{truth_in}, frame_labels.{specs.{method.Rows.{dropna_result, sort_values_result, sort_by_result, all_places, labels_in}, Named.{first_in}}, proofs.NamedLaws.{all_are}}, frame_methods.proofs.AnswerLaws.{makes_by}}
 use Rattle.meaning_call.specs.declared.Method.TheVariants as method
 use Rattle.frame_methods.proofs.calling.rows_made.Goals as goal
 

@@ -1,10 +1,4 @@
-use Rattle.{
-  frame_parts.proofs.Common.{arith, ◌∙◌, ap, refl, rules, to_z-of_z, cell_label, table_value, scalar_in, limited, on, tables, table_at, world, longer_self},
-  column_core.proofs.cells.Common.{option_map, w64, FitsSigned},
-  frame_labels.{specs.method.Methods.{renamed_series}, proofs.AnswerLaws.{forms_so}},
-  frame_signatures.proofs.ToldLaws.{name_given},
-  frame_methods.proofs.{AnswerLaws.{answer_by}, RenameLaws.{pairs_settled}},
-}
+use Rattle.{frame_parts.proofs.Common.{arith, ◌∙◌, ap, refl, rules, to_z-of_z, cell_label, table_value, scalar_in, limited, tables, table_at, world}, column_core.proofs.cells.Common.{option_map, w64, FitsSigned}, frame_labels.{specs.method.Methods.{renamed_series}, proofs.AnswerLaws.{forms_so}}, frame_signatures.proofs.ToldLaws.{name_given}, frame_methods.proofs.{AnswerLaws.{answer_by}, RenameLaws.{pairs_settled}}}
 use Rattle.meaning_call.specs.declared.Method.TheVariants as method
 use Rattle.frame_methods.proofs.calling.table_answer.Goals as goal
 

@@ -8,5 +8,5 @@ use Rattle.label_align.proofs.runs.size_of_runs.Given as goal
 abbrev pub invariant-loop-run : goal.invariant-loop-run
 invariant-loop-run l = record {
   total : l.total ≡ counted (take l.run-index l.parts);
-  fits : l.total ≤ 67108864;
+  fits : l.total ≤ l.most;
 }

@@ -14,4 +14,4 @@ pub returns-clause-pairs : goal.returns-clause-pairs
 returns-clause-pairs g c = grind (arith, allowed)
 
 pub returns-clause-law : goal.returns-clause-law
-returns-clause-law g c = law_of _ _ _ _ _ _ (returns-clause-pairs g c)
+returns-clause-law g c = law_of _ _ _ _ _ _ _ (returns-clause-pairs g c)

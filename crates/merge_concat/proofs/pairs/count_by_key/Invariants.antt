@@ -8,5 +8,5 @@ use Rattle.merge_concat.proofs.pairs.count_by_key.Given as goal
 abbrev pub invariant-loop-code : goal.invariant-loop-code
 invariant-loop-code l = record {
   total : l.total ≡ counted_by_key l.code l.left.codes.now l.right.codes.now;
-  fits : l.total ≤ 67108864;
+  fits : l.total ≤ l.most;
 }

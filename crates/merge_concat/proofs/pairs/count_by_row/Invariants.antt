@@ -8,5 +8,5 @@ use Rattle.merge_concat.proofs.pairs.count_by_row.Given as goal
 abbrev pub invariant-loop-row : goal.invariant-loop-row
 invariant-loop-row l = record {
   total : l.total ≡ counted_by_row l.stays (take l.row l.left.codes.now) l.right.codes.now;
-  fits : l.total ≤ 67108864;
+  fits : l.total ≤ l.most;
 }

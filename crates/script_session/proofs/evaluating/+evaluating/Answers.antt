@@ -143,8 +143,8 @@ chain_known : (w : World) (link : Link) (args : List Named) (by : Option Argumen
 chain_known = grind arith
 
 -- a call without brackets reads nothing in their place
-no_brackets : (v : Entry) (n : Text) (args more : Reads (List NamedGiven)) → where_named (has_method v n) n (then_read args (λ g. then_read more (λ gs. at_once (call_result v (calls.through n) gs))))
-    ≡ where_named (has_method v n) n (then_read args (λ g. then_read (gives None) (λ (h : Option Given). then_read more (λ gs. at_once (call_result v (calls.through n) gs)))))
+no_brackets : (v : Entry) (n : Text) (chain : List NamedGiven → calls.ChainValue) (args more : Reads (List NamedGiven)) → where_named (has_method v n) n (then_read args (λ g. then_read more (λ gs. at_once (call_result v (chain g) gs))))
+    ≡ where_named (has_method v n) n (then_read args (λ g. then_read (gives None) (λ (h : Option Given). then_read more (λ gs. at_once (call_result v (chain g) gs)))))
 no_brackets = search then_gives
 
 pub after-through-requires : goal.after-through-requires
@@ -167,11 +167,11 @@ after-returns-in-Group g t c = rw (ap step_of c.in-Group.is ∙ step_of-Group _ 
 
 pub after-returns-in-Rolling : goal.after-returns-in-Rolling
 after-returns-in-Rolling g t c =
-    rw (ap step_of c.in-Rolling.is ∙ step_of-Rolling _ _ _) (evaluates_by (rw c.linked-call-in-Rolling.ensures at c.through-in-Rolling.ensures) (λ fs. no_brackets _ _ _ _))
+    rw (ap step_of c.in-Rolling.is ∙ step_of-Rolling _ _ _) (evaluates_by (rw c.linked-call-in-Rolling.ensures at c.through-in-Rolling.ensures) (λ fs. no_brackets _ _ (λ (before : List NamedGiven). calls.rolling before _) _ _))
 
 pub after-returns-in-Expanding : goal.after-returns-in-Expanding
 after-returns-in-Expanding g t c =
-    rw (ap step_of c.in-Expanding.is ∙ step_of-Expanding _ _ _) (evaluates_by (rw c.linked-call-in-Expanding.ensures at c.through-in-Expanding.ensures) (λ fs. no_brackets _ _ _ _))
+    rw (ap step_of c.in-Expanding.is ∙ step_of-Expanding _ _ _) (evaluates_by (rw c.linked-call-in-Expanding.ensures at c.through-in-Expanding.ensures) (λ fs. no_brackets _ _ (λ (before : List NamedGiven). calls.expanding before _) _ _))
 
 pub through-returns-in_err-expect_method : goal.through-returns-in_err-expect_method
 through-returns-in_err-expect_method g t c =

@@ -1,0 +1,16 @@
+mod SpreadSeen
+mod ItemLaws
+mod KindLaws
+mod LevelKeyLaws
+mod SpreadLoops
+mod SpreadTableLaws
+mod UnstackLaws
+mod StackLaws
+mod MeltCells
+mod MeltNames
+mod MeltTable
+mod MeltTold
+mod GroupKeys
+mod GroupCells
+mod PivotLaws
+mod CallLaws

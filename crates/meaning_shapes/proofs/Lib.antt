@@ -1,0 +1,3 @@
+pub mod GridLaws
+pub mod EntryLaws
+pub mod StackLaws

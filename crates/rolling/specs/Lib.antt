@@ -1,0 +1,5 @@
+pub mod Answers
+pub mod Candidates
+pub mod Expandings
+pub mod Running
+pub mod Windows
