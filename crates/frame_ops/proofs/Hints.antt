@@ -1,7 +1,7 @@
 -- Laws that the goals of functions want, by the name of the first that does.
 use Rattle.{
   frame_parts.proofs.Common.{labels_part, length-map, nat_tests, single_on},
-  frame_ops.proofs.{MeetingLaws.{columns_seen}, HeadingLaws.{other_rows, label_settled, counted_by, fits_by}, JoinLaws.{sides_beyond, meant_of}, WideLaws.{one_unfit, one_more_fits, one_more_spread, spread_refused, spread_beyond, spread_made, known_wide, widened_seen}, InfixLaws.{joined_tests, makes_as}},
+  frame_ops.proofs.{MeetingLaws.{columns_seen}, HeadingLaws.{other_rows, label_settled, counted_by, fits_by}, JoinLaws.{sides_beyond, meant_of}, WideLaws.{one_unfit, one_more_fits, one_more_spread, spread_refused, spread_beyond, spread_made, known_wide, widened_seen, places_inside}, InfixLaws.{joined_tests, makes_as}, WideTestLaws.{wide_untaken, wide_levels, wide_compared, wide_common, wide_beyond}},
 }
 
 pub ruleset infix_columns = columns_seen
@@ -19,5 +19,7 @@ pub ruleset spread_columns = (one_more_spread, single_on)
 pub ruleset spread_frame = (spread_refused, spread_beyond, spread_made)
 
 pub ruleset expect_joined = (joined_tests, nat_tests)
+
+pub ruleset expect_wide = (wide_untaken, wide_levels, wide_compared, wide_common, wide_beyond, places_inside)
 
 pub ruleset wide_infix = (known_wide, makes_as, widened_seen)

@@ -1,10 +1,11 @@
 -- Frames under joined labels of columns, and a Series in each row of a frame.
 use Rattle.{
-  frame_parts.{proofs.Common.{◌≢◌, ◌≡◌, ◌∙◌, ◌<◌, ◌+◌, ◌++◌, ℕ, zero, suc, pos, List, [], ◌∷◌, length, map, take, replicate, refl, ap, sym, arith, add-one, All, Option, Some, None, Result, slice_index_or, Bool, true, false, Ok, Err, if◌then◌else◌, ◌&&◌, ◌||◌, nat_eq, drop, map_more, length-map, length-replicate, map-append, All-nil, All-cons, All-head, All-tail, All-map, All-replicate, list_all-map, get_or_from_slice_get, nat_tests, drop-cons, slice_get, IsSome, unwrap_or, list_any, single_block, HeadingList, block_column, table_column, labels_value, headings_value, columns_value, IsKnownTable, OpFault, Refused, NoMemory, settled_by, table_settled, columns_settled, columns_given, columns_name_part, level_names_part, labels_part, headings_part, columns_part, Cell, Na, Label, Kind, Shape, Frame, Series, AreGiven, IsGiven, AreDistinct, Text, LabelValue, int, na_cell, datum, limit, FaultValue, wrong_kind, bad_value, not_aligned, then_value, fault_of, Binary, CellBlock, CellColumn, IsPlaceOf, AxisValue, HaveLevels, IsSettled, ColumnOf, NumberedTable, column_at, column_value, table_value, Table, heading_value, tuple_value, AreHeadings, IsWhole, within_limits, Entry, column_labels, unless_repeated, limited_table, column_of_value, same_kind, tuple_heading, columns_or_missing, spread, same_tuple, on_levels, compares, labels_fit, MakesBy, tuple_by_number, tuples_settled}, specs.form.Infix.{column_or_missing, on_columns, spread_series, spread_frame, takes_each, joined_turned, across_unequal}},
-  column_core.proofs.cells.Common.{get_or-map},
+  frame_parts.{proofs.Common.{◌≢◌, ◌≡◌, ◌∙◌, ◌<◌, ◌+◌, ◌++◌, ℕ, zero, suc, pos, List, [], ◌∷◌, length, map, take, replicate, refl, ap, sym, arith, add-one, All, Option, Some, None, Result, slice_index_or, Bool, true, false, Ok, Err, if◌then◌else◌, ◌&&◌, ◌||◌, nat_eq, drop, map_more, length-map, length-replicate, map-append, All-nil, All-cons, All-head, All-tail, All-map, All-replicate, list_all-map, get_or_from_slice_get, nat_tests, drop-cons, slice_get, IsSome, unwrap_or, list_any, list_all, meets, beside, single_block, HeadingList, block_column, table_column, labels_value, headings_value, columns_value, IsKnownTable, OpFault, Refused, NoMemory, settled_by, table_settled, columns_settled, columns_given, columns_name_part, level_names_part, labels_part, headings_part, columns_part, Cell, Na, Label, Kind, Shape, Frame, Series, AreGiven, IsGiven, AreDistinct, Text, LabelValue, int, na_cell, datum, limit, FaultValue, wrong_kind, bad_value, not_aligned, then_value, fault_of, Binary, CellBlock, CellColumn, IsPlaceOf, AxisValue, HaveLevels, IsSettled, ColumnOf, NumberedTable, column_at, column_value, table_value, Table, heading_value, tuple_value, AreHeadings, IsWhole, within_limits, Entry, column_labels, unless_repeated, limited_table, column_of_value, same_kind, tuple_heading, columns_or_missing, spread, same_tuple, on_levels, compares, labels_fit, MakesBy, tuple_by_number, tuples_settled}, specs.form.Infix.{column_or_missing, on_columns, spread_series, spread_frame, takes_each, joined_turned, across_unequal}},
+  std.specs.Prelude.{is_some},
+  column_core.{proofs.cells.Common.{get_or-map}, specs.cells.Operator.{operator_kind}},
   frame_store.specs.Parts.{with_heading},
   frame_select.{proofs.{AnswerLaws.{column_seen}, HeadingLaws.{different, repeated_seen}, RefusalLaws.{repeated_settled}}, specs.Headings.{repeated_heading, NamesRepeated}},
-  frame_ops.{proofs.{MeetingLaws.{map-replicate, levels_one}, HeadingLaws.{one_label, heading_at}, InfixLaws.{series_given}}, specs.{Joining.{AreApart, AreSideRows}, Widening.{heading_tuple, labels_axis, headings_of_keys, widened, AreColumnKeys, spread_table}, Pairs.{repeated}}},
+  frame_ops.{proofs.{MeetingLaws.{map-replicate, levels_one}, HeadingLaws.{one_label, heading_at}, InfixLaws.{series_given}}, specs.{Joining.{AreApart, AreSideRows}, Widening.{heading_tuple, labels_axis, headings_of_keys, widened, AreColumnKeys, spread_table, kind_or, takes_wide}, Pairs.{repeated}}},
   label_align.specs.pick.Rows.{rows_where, are_some},
   row_keys.specs.{Keys.{same_tuple as same_numbers}, Partners.{rows_with}},
 }
@@ -80,6 +81,47 @@ module _ (count : ℕ) (own other : List (ColumnOf Cell)) where
     wide_seen (p ∷ ps) (o ∷ os) = λ i. wide_column_seen p o i ∷ wide_seen ps os i
     wide_seen [] os = refl
     wide_seen (p ∷ ps) [] = refl
+
+-- what is left of a list from an item on
+dropped : {X : Type 0} (xs : List X) (k : ℕ) (x : X) → k < length xs → slice_get xs k ≡ Some x → drop k xs ≡ x ∷ drop (k + 1) xs
+dropped xs k x lt at = grind (arith, drop-cons xs k x lt, get_or_from_slice_get xs k x x at, add-one)
+
+-- the kinds of columns that joined labels bring together
+module _ (op : Binary) (own other : List (ColumnOf Cell)) where
+  abbrev taken_at : Option ℕ → Option ℕ → Bool
+  taken_at p o = is_some (operator_kind op (kind_or own other p o) (kind_or other own o p))
+
+  taken_first : (p o : Option ℕ) (ps os rest rest' : List (Option ℕ)) → ps ≡ p ∷ rest → os ≡ o ∷ rest' → takes_wide op own other ps os ≡ (taken_at p o && takes_wide op own other rest rest')
+  taken_first _ _ _ _ _ _ is is' = rw (is, is') refl
+
+  module _ (k : ℕ) (ps os : List (Option ℕ)) (p o : Option ℕ) (lt : k < length ps) (same : length os ≡ length ps) (at : slice_get ps k ≡ Some p) (at' : slice_get os k ≡ Some o) where
+    taken_from : takes_wide op own other (drop k ps) (drop k os) ≡ (taken_at p o && takes_wide op own other (drop (k + 1) ps) (drop (k + 1) os))
+    taken_from = taken_first p o _ _ _ _ (dropped ps k p lt at) (dropped os k o (omega (arith, lt, same)) at')
+
+    pub one_more_taken : (whole : Bool) → taken_at p o ≡ true → takes_wide op own other (drop k ps) (drop k os) ≡ whole → takes_wide op own other (drop (k + 1) ps) (drop (k + 1) os) ≡ whole
+    one_more_taken _ taken before = cc taken_from
+
+    pub one_not_taken : (whole : Bool) → taken_at p o ≡ false → takes_wide op own other (drop k ps) (drop k os) ≡ whole → false ≡ whole
+    one_not_taken _ not before = cc taken_from
+
+kind_seen : (texts : List Text) (own other : List (ColumnOf Cell)) (count : ℕ) (p o : Option ℕ) → (column_or_missing na_cell count (columns_value texts own) (columns_value texts other) p o).kind ≡ kind_or own other p o
+kind_seen texts own other _ (Some p) o = grind (arith, column_seen texts own p)
+kind_seen texts own other _ None (Some o) = grind (arith, column_seen texts other o)
+kind_seen _ _ _ _ None None = refl
+
+-- with texts
+pub meets_wide : (op : Binary) (texts : List Text) (own other : List (ColumnOf Cell)) (m n : ℕ) (ps os : List (Option ℕ)) → length os ≡ length ps
+    → list_all (meets op) (beside (columns_or_missing na_cell m (columns_value texts own) (columns_value texts other) ps os) (columns_or_missing na_cell n (columns_value texts other) (columns_value texts own) os ps))
+    ≡ takes_wide op own other ps os
+meets_wide _ _ _ _ _ _ [] [] _ = refl
+meets_wide _ _ _ _ _ _ [] (o ∷ os) same = search
+meets_wide _ _ _ _ _ _ (p ∷ ps) [] same = search
+meets_wide op texts own other m n (p ∷ ps) (o ∷ os) same =
+    grind (arith, kind_seen texts own other m p o, kind_seen texts other own n o p, meets_wide op texts own other m n ps os)
+
+-- rows of the labels of columns are places of columns
+pub places_inside : (t : NumberedTable) (count : ℕ) (places : List (Option ℕ)) → AreSideRows count (labels_axis t) places → IsWhole t → All (IsPlaceOf (length t.columns)) places
+places_inside = grind (arith, length-map)
 
 heading_apart : (s t : List Label) → length s ≡ 1 → length t ≡ 1 → s ≢ t → tuple_heading s ≢ tuple_heading t
 heading_apart s t one one' = grind (arith, one_label s one, one_label t one')

@@ -1,10 +1,15 @@
 -- Frames under joined labels of columns, with texts by number.
-use Rattle.std.specs.Prelude.{ℕ, pos, List, [], ◌∷◌, length, map, Option, Some, None}
+use Rattle.std.specs.Prelude.{ℕ, pos, Bool, true, ◌&&◌, is_some, List, [], ◌∷◌, length, map, Option, Some, None}
+use Rattle.cell_core.specs.declared.cell.Cell.{Cell}
+use Rattle.cell_core.specs.declared.cell.Kind.{Kind}
+use Rattle.cell_core.specs.declared.cell.Kind.TheVariants.{Int64}
 use Rattle.cell_core.specs.declared.cell.Cell.TheVariants.{Na}
 use Rattle.cell_core.specs.declared.cell.Label.{Label}
 use Rattle.cell_core.specs.declared.cell.Label.TheVariants.{Int}
 use Rattle.multi_index.specs.Axes.{AxisValue, HaveLevels, nameless_axis}
-use Rattle.frame_store.specs.tables.Table.{NumberedTable, column_at}
+use Rattle.column_core.specs.cells.Operator.{operator_kind}
+use Rattle.column_core.specs.cells.Symbol.{Binary}
+use Rattle.frame_store.specs.tables.Table.{ColumnOf, NumberedTable, column_at}
 use Rattle.frame_parts.specs.form.Infix.{tuple_heading, columns_or_missing}
 use Rattle.frame_store.specs.Parts.{HeadingList, table_with, axis_of}
 use Rattle.frame_ops.specs.Joining.{AreApart}
@@ -37,3 +42,15 @@ widened own other keys places opposites =
 abbrev pub spread_table : NumberedTable → NumberedTable → NumberedTable
 spread_table f s =
     table_with f.shape (axis_of f) (headings_of_keys f.columns_name s.labels) (map (repeated (column_at s.columns 0).kind (length f.labels)) (column_at s.columns 0).cells)
+
+-- the kind of a side's column at a place, or of the one that stands opposite
+abbrev pub kind_or : List (ColumnOf Cell) → List (ColumnOf Cell) → Option ℕ → Option ℕ → Kind
+kind_or own other (Some place) opposite = (column_at own place).kind
+kind_or own other None (Some place) = (column_at other place).kind
+kind_or own other None None = Int64
+
+-- the operator takes the columns at these places of a side with those at the places of the other
+abbrev pub takes_wide : Binary → List (ColumnOf Cell) → List (ColumnOf Cell) → List (Option ℕ) → List (Option ℕ) → Bool
+takes_wide op own other (place ∷ places) (opposite ∷ opposites) =
+    is_some (operator_kind op (kind_or own other place opposite) (kind_or other own opposite place)) && takes_wide op own other places opposites
+takes_wide op own other places opposites = true

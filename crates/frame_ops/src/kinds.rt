@@ -34,7 +34,7 @@ fn takes_kind(op: Operator, kind: Kind) -> bool
 }
 
 // Whether it takes columns of these kinds, whichever is on the left: never of two.
-fn takes(op: Operator, a: Kind, b: Kind) -> bool
+pub(crate) fn takes(op: Operator, a: Kind, b: Kind) -> bool
     ensures straight { result ≡ is_some (operator_kind (operator_of op) a b) }
     ensures turned { result ≡ is_some (operator_kind (operator_of op) b a) }
 {

@@ -7,17 +7,19 @@ ghost use Rattle.column_core.specs.cells.Fault.{FaultValue, then_value};
 ghost use Rattle.multi_index.specs.Axes.{HaveLevels};
 ghost use Rattle.column_operators.specs.Tasks.{operator_of};
 ghost use Rattle.frame_store.specs.tables.Table.{table_value};
+ghost use Rattle.frame_store.specs.tables.Valid.{IsWhole};
 ghost use Rattle.frame_store.specs.tables.Value as value;
 ghost use Rattle.frame_store.specs.tables.Value.{Entry};
 ghost use Rattle.frame_parts.specs.form.Finish.{with_columns};
 ghost use Rattle.frame_parts.specs.form.Infix as meant;
-ghost use Rattle.frame_parts.specs.form.Infix.{same_tuples};
+ghost use Rattle.frame_parts.specs.form.Infix.{on_columns, same_tuples};
 ghost use Rattle.frame_store.specs.Shown.{Makes, labels_value};
 ghost use Rattle.frame_store.specs.World.{IsKnownTable};
 ghost use Rattle.frame_parts.specs.Makes.{Passes};
-ghost use Rattle.frame_ops.specs.Joining.{joined_after, MayJoin};
+ghost use Rattle.frame_ops.specs.Joining.{joined_after, joined_value, AreSideRows, MayJoin};
 ghost use Rattle.frame_ops.specs.Pairs.{columns_for, IsOpposite, IsGivenOther};
 ghost use Rattle.frame_ops.specs.Namings.{named_by, IsNaming, IsSettledNaming};
+ghost use Rattle.frame_ops.specs.Widening.{labels_axis};
 
 use crate::columns::infix_columns;
 use crate::headings::{are_headings, same_headings};
@@ -26,11 +28,12 @@ use crate::kinds::{columns_fit, compares, takes_each};
 use crate::naming::{Naming, headings_by};
 use crate::other::Other;
 use crate::spreading::{labels_fit, spread_frame};
-use crate::widening::{joined_labels, widened};
+use crate::widening::{joined_labels, takes_wide, widened};
 use cell_core::{Cell, Code, Grid, Reason, Shape, TextDict};
 use column_operators::Operator;
-use frame_parts::{common_name, same_rows};
+use frame_parts::{common_name, same_rows, within_limits};
 use frame_store::{ObjRef, OpFault, Table, table_under};
+use label_align::Joined;
 use std::alloc::Global;
 
 // The table of what the operator makes of each column and what it meets.
@@ -194,24 +197,38 @@ fn common_infix(
     rows_infix(alloc, dict, op, a, b, Naming::ColumnsName(name))
 }
 
-// Two frames under joined labels of columns.
-fn unequal_columns(
-    alloc: Global,
-    dict: &mut TextDict,
-    op: Operator,
-    a: &ObjRef<'_>,
-    b: ObjRef<'_>,
-) -> Result<Table, OpFault>
-    requires known_a { IsKnownTable dict.old a.now }
-    requires known_b { IsKnownTable dict.old b }
-    requires frame { a.now.shape ≡ columns }
-    requires columns { length b.columns ≡ length a.now.columns }
-    ensures longer { IsLonger dict.old dict.new }
-    ensures makes { Makes dict.new result (meant.unequal_columns (operator_of op)
-        (table_value dict.old a.now) (table_value dict.old b.entry)) }
+// Tests what frames must have whose columns are joined by their labels, before a column is made: columns that the
+// operator takes, as many levels, and room for the rows of either, each of which is a row of the answer. None are
+// compared.
+#[tactic(auto, using(crate::proofs::Hints::expect_wide))]
+fn expect_wide(op: Operator, a: &ObjRef<'_>, b: &ObjRef<'_>, joined: &Joined) -> Result<(), OpFault>
+    requires whole_a { IsWhole a.now }
+    requires whole_b { IsWhole b.now }
+    requires left { AreSideRows (length joined.now.axis.tuples)
+        (labels_axis a.now) joined.now.left }
+    requires right { AreSideRows (length joined.now.axis.tuples)
+        (labels_axis b.now) joined.now.right }
+    ensures passes { (texts : List Text) → let v = table_value texts a.now in
+        let w = table_value texts b.now in
+        let keys = labels_value texts joined.now.axis.tuples in
+        Passes texts result (meant.common_infix (operator_of op)
+        (on_columns v w keys joined.now.left joined.now.right)
+        (on_columns w v keys joined.now.right joined.now.left))
+        (meant.wide_infix (operator_of op) v w (joined_value texts joined.now)) }
 {
-    expect_joined(op, a, &b)?;
-    common_infix(alloc, dict, op, a, b)
+    if !takes_wide(op, a, b, &joined.left, &joined.right) {
+        return Err(OpFault::Refused(Code::WrongKind));
+    }
+    if a.levels() != b.levels() {
+        return Err(OpFault::Refused(Code::BadValue(Reason::Levels)));
+    }
+    if compares(op) {
+        return Err(OpFault::Refused(Code::BadValue(Reason::NotAligned)));
+    }
+    if !within_limits(a.rows().max(b.rows()), joined.axis.len()) {
+        return Err(OpFault::Refused(Code::Limit));
+    }
+    Ok(())
 }
 
 // Two frames by the labels of columns that either has.
@@ -232,10 +249,11 @@ fn wide_infix(
         (table_value dict.old a.now) (table_value dict.old b.now)) }
 {
     let joined = joined_labels(alloc, dict, a, b)?;
+    expect_wide(op, a, b, &joined)?;
     let left = widened(alloc, a, b, &joined.axis, &joined.left, &joined.right)?;
     let right = widened(alloc, b, a, &joined.axis, &joined.right, &joined.left)?;
     let on = left.read();
-    unequal_columns(alloc, dict, op, &on, right.read())
+    common_infix(alloc, dict, op, &on, right.read())
 }
 
 // Two frames.

@@ -1,9 +1,10 @@
 -- What a run means by the file that its path holds.
 use Rattle.{
-  script_session.{proofs.cells.Common.{◌≡◌, ◌≤◌, ◌<◌, ℕ, List, [], ◌∷◌, length, Option, Some, None, refl, arith, codes, ◌⊎◌, IfSome, get, Text, Contents}, specs.{language.{Tree.{Statement}, Script.{most_bytes}}, script.{Reading.{Files}, State.{no_names}, Run.{RunResult, RunWords, IsScriptResult, IsFileResult, IsWordsResult, fetched, statements_result, with_line, too_large_line, syntax_line, not_found_line, syntax, usage}}, script_state.Reads.{count_after}}},
+  script_session.{proofs.cells.Common.{◌≡◌, ◌≢◌, ◌≤◌, ◌<◌, ℕ, List, [], ◌∷◌, length, Option, Some, None, refl, arith, codes, ◌⊎◌, IfSome, get, Text, Contents}, specs.{language.{Tree.{Statement}, Script.{most_bytes}}, script.{Reading.{Files}, State.{no_names}, Run.{RunResult, RunWords, IsScriptResult, IsFileResult, fetched, statements_result, with_line, too_large_line, syntax_line, not_found_line, syntax, usage}}, script_state.Reads.{count_after}}},
   outside_io.{specs.{Count.{HasRisen}, Sink.{appended, AppendsFront}}, proofs.Appended.{appended-nil}},
+  meaning_run.specs.Result.{IsPathResult},
   script_syntax.specs.Parsed.{IsTheScript, IsTheSyntaxLine},
-  script_run.{specs.{Ends.{Outside, Ends, EndsByMeaning, EndsWithLine, Is}, Steps.{Does}, declared.status.Status.{Status, TheVariants.{Usage, Input, Output, Memory}}, OneResult.{IsOne}}, proofs.{StepLaws.{does_one}, RunLaws.{early_none, ends_after, ends_other, unread_first}, Options.{some-weaker}, OneResult.{file_one}}},
+  script_run.{specs.{Ends.{Outside, Ends, EndsByMeaning, EndsWithLine, Is}, Steps.{Does}, declared.status.Status.{Status, TheVariants.{Input, Output, Memory}}, OneResult.{IsOne}}, proofs.{StepLaws.{does_one}, RunLaws.{early_none, ends_after, ends_other, unread_first}, Options.{some-weaker}, OneResult.{file_one}}},
 }
 
 module _ (files : Files) (status : Status) (old new : Outside) where
@@ -25,27 +26,27 @@ ends_unbegun _ _ _ one out err = search early_none
 
 -- the script was fetched, before a run of what it means
 pub ends_fetched : (words : RunWords) (held : Contents) (status : Status) (old mid new : Outside) → Does (fetched ∷ []) old mid
-    → Ends (IsFileResult (record { paths = words.paths; held = held }) words.script (get held words.script)) status mid new → Ends (IsWordsResult (Some words) held) status old new
+    → Ends (IsFileResult (record { paths = words.paths; held = held }) words.script (get held words.script)) status mid new → Ends (IsPathResult words held) status old new
 ends_fetched _ _ status _ _ _ does t =
     ends_after _ _ _ _ _ does status t
 
 -- the path of the script holds these bytes, or nothing
 pub ends_held : (words : RunWords) (held : Contents) (bytes : List ℕ) (status : Status) (old mid new : Outside) → Does (fetched ∷ []) old mid → get held words.script ≡ Some bytes
-    → Ends (IsScriptResult (record { paths = words.paths; held = held }) bytes) status mid new → Ends (IsWordsResult (Some words) held) status old new
+    → Ends (IsScriptResult (record { paths = words.paths; held = held }) bytes) status mid new → Ends (IsPathResult words held) status old new
 ends_held _ _ _ _ _ _ _ does is t =
     ends_fetched _ _ _ _ _ _ does (rw is t)
 
 pub ends_absent : (words : RunWords) (held : Contents) (status : Status) (old mid new : Outside) → Does (fetched ∷ []) old mid → get held words.script ≡ None
-    → Ends (Is (with_line (not_found_line words.script) usage)) status mid new → Ends (IsWordsResult (Some words) held) status old new
+    → Ends (Is (with_line (not_found_line words.script) usage)) status mid new → Ends (IsPathResult words held) status old new
 ends_absent _ _ _ _ _ _ does is t =
     ends_fetched _ _ _ _ _ _ does (rw is t)
 
 -- the script was fetched, and could not be read
 pub ends_unread : (words : RunWords) (held : Contents) (old new : Outside) → new.files.fetches ≡ count_after old.files.fetches 1 → new.out ≡ old.out → AppendsFront old.err new.err (codes "input failed\n")
-    → (¬ (HasRisen old.err_faults new.err_faults) → new.err ≡ appended old.err (codes "input failed\n")) → Ends (IsWordsResult (Some words) held) Input old new
+    → (¬ (HasRisen old.err_faults new.err_faults) → new.err ≡ appended old.err (codes "input failed\n")) → Ends (IsPathResult words held) Input old new
 ends_unread words held old new fetches out front whole =
     let (rest, is, other) = file_one _ _ _ in
-    unread_first old new (IsWordsResult (Some words) held) _ (rest, is, refl) fetched rest.steps refl 1 (omega arith) (omega arith) fetches out front whole
+    unread_first old new (IsPathResult words held) _ (rest, is, refl) fetched rest.steps refl 1 (omega arith) (omega arith) fetches out front whole
 
 -- the script was fetched, and nothing else was done
 pub does_fetch : (old mid : Outside) → mid.out ≡ old.out → mid.err ≡ old.err → mid.files.fetches ≡ count_after old.files.fetches 1 → old.out_faults ≤ mid.out_faults → old.err_faults ≤ mid.err_faults → Does (fetched ∷ []) old mid
@@ -61,5 +62,5 @@ pub complete_run : (contents : Option Contents) (means : Contents → RunResult 
 complete_run _ _ _ _ _ A B C = grind (arith, some-weaker, by_meaning)
 
 -- a run that ends with one line didn't fail to read
-pub not_unread : (line : Text) (result : Status) (err err' : Option (List ℕ)) → EndsWithLine line Usage result err err' → result ≡ Input → ⊥
+pub not_unread : (line : Text) (status result : Status) (err err' : Option (List ℕ)) → status ≢ Input → EndsWithLine line status result err err' → result ≡ Input → ⊥
 not_unread = grind arith

@@ -3,5 +3,7 @@ pub mod StepLaws
 pub mod RunLaws
 pub mod ErrorLaws
 pub mod Hints
+pub mod DemoLaws
 pub mod OneResult
 pub mod FileLaws
+pub mod AskedLaws

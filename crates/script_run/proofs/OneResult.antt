@@ -1,8 +1,9 @@
 -- A run has exactly one result.
 use Rattle.{
-  script_session.{proofs.cells.Common.{◌≡◌, ◌≤◌, ◌<◌, ◌⊎◌, ℕ, zero, suc, List, length, Option, Some, None, refl, arith, inl, inr, get, Text, Contents}, specs.{language.Script.{most_bytes}, script.{Reading.{Files}, State.{no_names}, Run.{RunResult, RunWords, IsScriptResult, IsFileResult, IsWordsResult, statements_result, after_step, fetched, with_line, syntax_line, too_large_line, syntax}}}},
+  script_session.{proofs.cells.Common.{◌≡◌, ◌≤◌, ◌<◌, ◌⊎◌, ℕ, zero, suc, List, length, Option, Some, None, refl, ap, ◌∙◌, arith, inl, inr, get, Text, Contents}, specs.{language.Script.{most_bytes}, script.{Reading.{Files}, State.{no_names}, Run.{RunResult, RunWords, IsScriptResult, IsFileResult, statements_result, after_step, fetched, with_line, syntax_line, too_large_line, syntax}}}},
+  meaning_run.specs.{Asked.{Fixed, usage_help, wrong_words, demonstration, Asked, fixed, script}, Result.{help_result, without_fetches, demo_files, IsPathResult, IsFixedResult, IsAskedResult}, words.Demonstration.{demo_script}},
   script_syntax.{specs.OneReading.{HasOneReading}, proofs.OneReading.{one_reading}},
-  script_run.specs.OneResult.{IsOne, HasOneResult},
+  script_run.{specs.OneResult.{IsOne, HasOneResult}, proofs.DemoLaws.{Unfetched}},
 }
 
 few_or_more : (n m : ℕ) → (n < m) ⊎ (m ≤ n)
@@ -41,12 +42,25 @@ pub file_one : (files : Files) (path : Text) (bytes : Option (List ℕ)) → IsO
 file_one _ _ None = grind arith
 file_one _ _ (Some bytes) = script_one _ _
 
-pub words_one : (run : Option RunWords) (held : Contents) → IsOne (IsWordsResult run held)
-words_one None _ = grind arith
-words_one (Some words) held =
-    let one = file_one (record { paths = words.paths; held = held }) words.script (get held words.script) in
+pub path_one : (run : RunWords) (held : Contents) → IsOne (IsPathResult run held)
+path_one run held =
+    let one = file_one (record { paths = run.paths; held = held }) run.script (get held run.script) in
     (after_step fetched one.0, search, grind arith)
+
+-- what has one result has one without fetches
+unfetched_one : (means : RunResult → Type 0) → IsOne means → IsOne (Unfetched means)
+unfetched_one means (one, is, other) =
+    (without_fetches one, (one, is, refl), λ _ (rest, means, same). same ∙ ap without_fetches (other rest means))
+
+pub fixed_one : (asks : Fixed) → IsOne (IsFixedResult asks)
+fixed_one usage_help = (help_result, refl, λ _ is. is)
+fixed_one wrong_words = grind arith
+fixed_one (demonstration orders) = unfetched_one _ (script_one (demo_files orders) demo_script)
+
+pub asked_one : (asks : Asked) (held : Contents) → IsOne (IsAskedResult asks held)
+asked_one (fixed asks) _ = fixed_one asks
+asked_one (script run) _ = path_one run _
 
 -- all words have one result in all contents
 pub run_one : (words : List Text) (held : Contents) → HasOneResult words held
-run_one _ _ = words_one _ _
+run_one _ _ = asked_one _ _

@@ -77,6 +77,13 @@ module _ (old new : Outside) where
   pub ends_with_line : (ending : Ending) (line : Text) (result : Status) → new.out ≡ old.out → new.files.fetches ≡ old.files.fetches → EndsWithLine line (status_of ending) result old.err new.err → Ends (Is (with_line line ending)) result old new
   ends_with_line = search (rules, ends_with_lines, appended-nil)
 
+  -- a run that ends with one line on the output
+  pub ends_with_output : (ending : Ending) (line : Text) (result : Status) → new.err ≡ old.err → new.files.fetches ≡ old.files.fetches → EndsWithLine line (status_of ending) result old.out new.out
+      → Ends (Is (first_then (record { output = line; errors = []; fetches = 0 }) [] ending)) result old new
+  ends_with_output ending _ _ err count (inl last) = rw last.0 (ends_as ending _ (_, refl, refl, rw append-nil last.1, err ∙ sym (appended-nil _), count))
+  ends_with_output _ _ _ err count (inr (inl last)) = rw last.0 (_, refl, front_of _ _ _ [] last.1, ([], [], refl, err ∙ sym (appended-nil _), λ _ some. absurd (some refl)))
+  ends_with_output _ _ _ err count (inr (inr last)) = rw last.0 (early_none _ _ refl last.1 err)
+
 -- a meaning after some steps
 abbrev pub After : List RunStep → (RunResult → Type 0) → RunResult → Type 0
 After steps means result = (rest : RunResult) × means rest × (result ≡ after_steps steps rest)

@@ -3,4 +3,4 @@ pub mod Errors
 pub mod Exit
 pub mod Steps
 pub mod OneResult
-pub mod Names
+pub mod Words

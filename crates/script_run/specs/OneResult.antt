@@ -1,7 +1,7 @@
 -- That a run has one result.
 use Rattle.std.specs.Prelude.{◌≡◌, List}
 use Rattle.script_session.specs.cells.Text.{Text, Contents}
-use Rattle.script_session.specs.script.Run.{IsRunResult}
+use Rattle.meaning_run.specs.Result.{IsRunResult}
 
 -- one value is so, and no other
 abbrev pub IsOne : {A : Type 0} → (A → Type 0) → Type 0

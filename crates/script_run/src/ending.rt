@@ -9,11 +9,11 @@ use outside_io::{Sink, write_piece};
 
 /// Writes the line with which a run ends, and answers its status: the given one, or `Output` where the sink failed.
 /// That one is not to be given.
-pub fn end_with<E: Sink>(err: &mut E, status: Status, line: &str) -> Status
+pub fn end_with<S: Sink>(sink: &mut S, status: Status, line: &str) -> Status
     requires { status ≢ Status.Output }
-    ensures { EndsWith line.now status result (E.seen err.old) (E.seen err.new) }
+    ensures { EndsWith line.now status result (S.seen sink.old) (S.seen sink.new) }
 {
-    match write_piece(err, line.as_bytes()) {
+    match write_piece(sink, line.as_bytes()) {
         Ok(()) => status,
         Err(_) => Status::Output,
     }

@@ -1,8 +1,8 @@
-//! Runs: what a run of a script prints.
+//! Runs: what the words of a command line ask for is done and printed.
 //!
-//! [`run`] reads the script that the words of a command line name, does its statements in order with a
-//! [`Session`], and writes what they print on one sink, warnings and the first fault on another. The words
-//! may also name files, each as `NAME=PATH`, which the statements read by these names.
+//! [`run`] finds what they ask for (`words`): help, the demonstration, or a script by its path, with files that it may read,
+//! each as `NAME=PATH`. It does the statements of the script in order with a [`Session`], and writes what they print on one
+//! sink, warnings and the first fault on another.
 //!
 //! A run goes statement by statement: `advance` does one in the session, writes what it prints on the one sink and its
 //! warning or its fault on the other (`advancing`, `ending`), and says with which [`Status`] the run ends, if it ends.

@@ -1,9 +1,13 @@
 // A run, from the words to the bytes written.
-ghost use Rattle.std.specs.Prelude.{◌≡◌, ◌≢◌, IfNone, IfSome, map, string_bytes};
+ghost use Rattle.std.specs.Prelude.{◌≡◌, ◌≢◌, [], ◌∷◌, IfOk, IfSome, map, string_bytes};
 ghost use Rattle.outside_io.specs.Count.{HasRisen};
+ghost use Rattle.outside_io.specs.Files.{FilesValue};
 ghost use Rattle.outside_io.specs.Sink.{appended};
+ghost use Rattle.meaning_run.specs.Asked.{asked, IfFixed, IfScript};
+ghost use Rattle.meaning_run.specs.Result.{IsDemoResult, IsFixedResult, IsPathResult, IsRunResult};
+ghost use Rattle.meaning_run.specs.words.Demonstration.{orders_name};
 ghost use Rattle.script_session.specs.script.State.{no_names};
-ghost use Rattle.script_session.specs.script.Run.{not_found_line, run_in, statements_result, syntax_line, too_large_line, usage, usage_line, with_line, IsRunResult, IsScriptResult, IsWordsResult};
+ghost use Rattle.script_session.specs.script.Run.{not_found_line, statements_result, syntax_line, too_large_line, usage_line, IsScriptResult};
 ghost use Rattle.script_tree.specs.ScriptView.{statements_of};
 ghost use Rattle.script_session.specs.script_state.Reads.{files_in, paths_of};
 ghost use Rattle.script_run.specs.Errors.{RunLeaves, StatementsLeave};
@@ -12,8 +16,10 @@ ghost use Rattle.script_run.specs.Ends.{outside, Ends, EndsByMeaning, EndsWith, 
 use crate::advancing::advance;
 use crate::ending::{end_with, say_unread};
 use crate::status::Status;
-use crate::words::{WordsFault, names_in, script_in};
+use crate::words::{Asked, asked_in};
+use cell_core::{NoMemory, Words};
 use outside_io::{Files, ReadFault, Sink, read_whole};
+use script_demo::{DemoFiles, demo_script, orders_name};
 use script_faults::{line_of_absence, line_of_syntax};
 use script_session::{FileNames, Session};
 use script_syntax::{ParseFault, Script, parse};
@@ -21,29 +27,37 @@ use std::alloc::Global;
 
 const MOST_BYTES: usize = 1 << 20;
 
-/// Runs the script that the words name, of which the first is the program's name: prints what its
-/// statements print on `out`, and the line of its first fault on `err`.
+/// Runs what the words of a command line ask for, of which the first is the program's name: prints what the
+/// statements of a script print on `out`, and the line of its first fault on `err`.
 ///
-/// The words are a run where the second is the path of the script and each further one is `NAME=PATH`,
-/// by which the script may read the file under PATH as NAME. A pair is cut at its first `=`, neither
-/// part is empty, and no name stands twice. Neither the script's path nor a pair begins with `-`, but
-/// the path, which isn't empty, may be `-` alone.
+/// The words are read from left to right, and the first that asks for help or is wrong decides:
+///
+/// - `--help`, and a word that begins with `-h`, asks for help: the usage line on `out`, with `Done`.
+/// - `--demo N` or `--demo=N` asks for the demonstration with N orders: a script and a file that are the program's own.
+///   It stands once, has a value, and no plain word stands beside it. N is one to six digits, from 1 to 100,000.
+/// - Behind `--` each word is plain.
+/// - Any other word that begins with `-` and isn't `-` alone is wrong, also as a value of its own.
+///
+/// The other words are plain: the path of the script, which isn't empty, and then words `NAME=PATH`, by which the
+/// script may read the file under PATH as NAME. Such a word is cut at its first `=`, neither part is empty, and no
+/// name stands twice. Wrong words get the usage line on `err`, with `Usage`.
 ///
 /// The script is fetched once, before its first statement. A statement fetches the file of a name each
-/// time that it reads it, and no file is fetched before.
+/// time that it reads it, and no file is fetched before. Without a script `files` isn't called.
 ///
-/// The status is `Done` after the last statement, and `Fault` at the first one that is refused. It is
-/// `Usage` where the words are no run, or the files don't hold the script, and `Syntax` where its bytes
-/// are no script. `Input` comes only where a count of failed reads rose, `Output` only where a count of
+/// The status is `Done` after the last statement and after help, and `Fault` at the first statement that is
+/// refused. It is `Usage` where the words are wrong, or the files don't hold the script, and `Syntax` where its
+/// bytes are no script. `Input` comes only where a count of failed reads rose, `Output` only where a count of
 /// failed writes did.
 ///
 /// Where the files tell what they hold, the run has one result ([`one_result`](crate::one_result)). With
 /// `Done`, `Fault`, `Usage` and `Syntax` its status is that of the result and all of it was written; with
 /// the others a front of it was. After a failed read that is all that the statements before it print, and
 /// then the line `input failed`, unless a write failed too. Where only a write on `err` failed, what the
-/// statements before that line print was written.
+/// statements before that line print was written. Help, wrong words and the demonstration have one result
+/// whatever the files tell.
 ///
-/// Whatever the files tell, `err` gets by the end, in words that are a run:
+/// Whatever the files tell, `err` gets by the end, where the words ask for a script:
 ///
 /// - `Done` and `Memory`: lines that warn of settings, or none, and nothing else;
 /// - `Fault`: such lines, and then the line of a fault. Only where a count of absences rose may it be that
@@ -52,8 +66,7 @@ const MOST_BYTES: usize = 1 << 20;
 /// - `Syntax`: the line that the script is too large, or that of a syntax error;
 /// - `Input`: lines that warn, and then a front of the line `input failed`.
 ///
-/// Of `Output` this says nothing. For words that are no run `err` gets the usage line, or with `Output` and
-/// `Memory` a front of it. Where `err` doesn't tell what it took, as the error stream of a machine, nothing
+/// Of `Output` this says nothing. Where `err` doesn't tell what it took, as the error stream of a machine, nothing
 /// is said of its bytes.
 #[tactic(auto, using(crate::proofs::Hints::run))]
 pub fn run<F: Files, O: Sink, E: Sink>(
@@ -78,46 +91,76 @@ pub fn run<F: Files, O: Sink, E: Sink>(
         EndsByMeaning (IsRunResult (map string_bytes words.now.items) held) result
         (at files.old out.old err.old) (at files.new out.new err.new)) }
 
-    // Words that are no run have one meaning, whatever the files tell, and fetch nothing.
+    // Words that ask for no script have one meaning, whatever the files tell, and leave the files as they were.
     ensures words { let at = outside F.seen O.seen E.seen in
-        IfNone (run_in (map string_bytes words.now.items)) (
-        Ends (Is (with_line usage_line usage)) result
+        IfFixed (asked (map string_bytes words.now.items)) (λ fixed.
+        Ends (IsFixedResult fixed) result
         (at files.old out.old err.old) (at files.new out.new err.new)) }
-    ensures fetches { IfNone (run_in (map string_bytes words.now.items)) (
-        (F.seen files.new).fetches ≡ (F.seen files.old).fetches) }
+    ensures uncalled { IfFixed (asked (map string_bytes words.now.items)) (λ _.
+        F.seen files.new ≡ F.seen files.old) }
 
-    // What it leaves on the errors, whatever the files tell.
-    ensures errors { IfSome (run_in (map string_bytes words.now.items)) (λ run.
+    // What a script leaves on the errors, whatever the files tell.
+    ensures errors { IfScript (asked (map string_bytes words.now.items)) (λ run.
         RunLeaves run.paths (F.seen files.old).absences (F.seen files.new).absences
         result (E.seen err.old).written (E.seen err.new).written) }
 
     // The causes of the other answers.
-    ensures usage { IfSome (run_in (map string_bytes words.now.items)) (λ run.
+    ensures usage { IfScript (asked (map string_bytes words.now.items)) (λ run.
         result ≡ Status.Usage → HasRisen (F.seen files.old).absences (F.seen files.new).absences
         × ((E.seen err.new).written ≡
         appended (E.seen err.old).written (not_found_line run.script))) }
     ensures cause { let at = outside F.seen O.seen E.seen in
         HasCause result (at files.old out.old err.old) (at files.new out.new err.new) }
 {
-    let Some((script, more)) = script_in(words) else {
-        return end_usage(err);
+    let Ok(asks) = asked_in(alloc, words) else {
+        return Status::Memory;
     };
-    match names_in(alloc, more) {
-        Ok(names) => run_file(alloc, script, &names, files, out, err),
-        Err(WordsFault::Usage) => end_usage(err),
-        Err(WordsFault::NoMemory) => Status::Memory,
+    match asks {
+        Asked::Help => end_usage(out, Status::Done),
+        Asked::Wrong => end_usage(err, Status::Usage),
+        Asked::Demo(orders) => run_demo(alloc, orders, out, err),
+        Asked::Script(path, names) => run_file(alloc, path, &names, files, out, err),
     }
 }
 
-// Ends a run whose words are none.
-fn end_usage<E: Sink>(err: &mut E) -> Status
-    ensures { EndsWith usage_line Status.Usage result (E.seen err.old) (E.seen err.new) }
+// Ends a run by the usage line.
+fn end_usage<S: Sink>(sink: &mut S, status: Status) -> Status
+    requires { status ≢ Status.Output }
+    ensures { EndsWith usage_line status result (S.seen sink.old) (S.seen sink.new) }
 {
     end_with(
-        err,
-        Status::Usage,
+        sink,
+        status,
         "usage: pdscript [--stats] [--demo N | SCRIPT] [NAME=PATH ..]\n",
     )
+}
+
+// Runs the demonstration with so many orders. Its file is its own, so any other files are left alone.
+fn run_demo<O: Sink, E: Sink>(alloc: Global, orders: u32, out: &mut O, err: &mut E) -> Status
+    ensures told { (files : FilesValue) → let at = outside (λ (f : FilesValue). f) O.seen E.seen in
+        Ends (IsDemoResult orders) result (at files out.old err.old) (at files out.new err.new) }
+    ensures cause { (files : FilesValue) → let at = outside (λ (f : FilesValue). f) O.seen E.seen in
+        HasCause result (at files out.old err.old) (at files out.new err.new) }
+{
+    let Ok(mut files) = DemoFiles::with_orders(alloc, orders) else {
+        return Status::Memory;
+    };
+    let Ok(names) = demo_names(alloc) else {
+        return Status::Memory;
+    };
+    let script = demo_script().as_bytes();
+    run_bytes(alloc, script, &names, &mut files, out, err)
+}
+
+// The name of the demonstration's file, with its path.
+fn demo_names(alloc: Global) -> Result<FileNames, NoMemory>
+    ensures { IfOk result (λ names. paths_of names ≡ (orders_name, orders_name) ∷ []) }
+{
+    let mut names = FileNames::new(alloc);
+    let name = Words::from_text(alloc, orders_name())?;
+    let path = Words::from_text(alloc, orders_name())?;
+    names.push(name, path)?;
+    Ok(names)
 }
 
 // Runs the script that the path holds.
@@ -132,8 +175,7 @@ fn run_file<F: Files, O: Sink, E: Sink>(
 ) -> Status
     ensures told { let at = outside F.seen O.seen E.seen in
         IfSome (F.seen files.old).contents (λ held.
-        Ends (IsWordsResult (Some record { script = path.now; paths = paths_of names.now }) held)
-        result
+        Ends (IsPathResult record { script = path.now; paths = paths_of names.now } held) result
         (at files.old out.old err.old) (at files.new out.new err.new)) }
 
     ensures errors { RunLeaves (paths_of names.now)

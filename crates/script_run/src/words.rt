@@ -1,72 +1,127 @@
-// The words of the command line.
-ghost use Rattle.std.specs.Prelude.{◌≡◌, [], ◌∷◌, ◌++◌, true, false, None, Some, IfOk, IsErrOf, MatchOption, OnOk, map, string_bytes};
-ghost use Rattle.script_session.specs.script.Run.{is_pair, is_path, pair_in, pairs_after, run_in, with_script};
+// What the words of the command line ask for.
+ghost use Rattle.std.specs.Prelude.{◌≡◌, [], ◌∷◌, ◌++◌, true, false, None, Some, IfOk, IsErrOf, MatchOption, OnOk, map, option_map, string_bytes};
+ghost use Rattle.script_session.specs.script.Run.{pair_in};
 ghost use Rattle.script_session.specs.script_state.Reads.{paths_of};
-ghost use Rattle.script_run.specs.Names.{may_follow};
+ghost use Rattle.meaning_run.specs.Asked.{asked, is_named_path, may_follow, names_after, of_plain, of_words};
+ghost use Rattle.script_run.specs.Words.{asked_of};
 
 use cell_core::{NoMemory, Words};
+use script_demo::demo_size;
 use script_session::FileNames;
+use script_words::{WordsRead, read_words};
 use std::alloc::Global;
 
-/// Why the words give no names of files.
+/// What the words of a command line ask for.
+#[derive(Drop)]
+pub(crate) enum Asked<'a> {
+    /// The usage line.
+    Help,
+    /// Nothing, since they are wrong.
+    Wrong,
+    /// The demonstration with so many orders.
+    Demo(u32),
+    /// The script under a path, for which files have names.
+    Script(&'a str, FileNames),
+}
+
+/// Why words give no names of files.
 #[derive(Clone, Copy, Debug, PartialEq, Eq)]
-pub(crate) enum WordsFault {
+pub(crate) enum NamesFault {
     /// One of them is no name with a path, or its name stands twice.
-    Usage,
+    Wrong,
     /// Memory was refused.
     NoMemory,
 }
 
-impl From<NoMemory> for WordsFault {
+impl From<NoMemory> for NamesFault {
     ghost use Rattle.std.specs.Prelude.{◌≡◌};
-    ghost use Rattle.script_run.specs.declared.words.WordsFault.TheVariants.{NoMemory as OutOfMemory};
+    ghost use Rattle.script_run.specs.declared.words.NamesFault.TheVariants.{NoMemory as OutOfMemory};
 
     ghost from_gives = { λ _ fault. fault ≡ OutOfMemory };
 
     fn from(_: NoMemory) -> Self {
-        WordsFault::NoMemory
+        NamesFault::NoMemory
     }
 }
 
-/// The script's path in the words, of which the first is the program's name, and the words after it.
-pub(crate) fn script_in(words: &Vec<String>) -> Option<(&str, &[String])>
-    ensures { let run = run_in (map string_bytes words.now.items) in
-        MatchOption result (run ≡ None)
-        (λ r. run ≡ with_script r.0.now (pairs_after [] (map string_bytes r.1.now))) }
+/// What the words ask for, of which the first is the program's name.
+pub(crate) fn asked_in(alloc: Global, words: &[String]) -> Result<Asked<'_>, NoMemory>
+    ensures { IfOk result (λ asks. asked_of asks ≡ asked (map string_bytes words.now)) }
 {
-    match words.as_slice() {
-        [_, script, more @ ..] if names_path(script.as_str()) => Some((script.as_str(), more)),
-        _ => None,
+    match read_words(alloc, words)? {
+        WordsRead::Help => Ok(Asked::Help),
+        WordsRead::Wrong => Ok(Asked::Wrong),
+        WordsRead::Words { demo, plain } => asked_by(alloc, demo, &plain),
     }
 }
 
-/// The names that the words give, each with its path. A word is a name, `=` and a path, cut at its
-/// first `=`; neither is empty, the word doesn't begin with `-`, and no name stands twice.
-pub(crate) fn names_in(alloc: Global, words: &[String]) -> Result<FileNames, WordsFault>
+// What the value of `--demo` and the plain words ask for.
+fn asked_by<'a>(alloc: Global, demo: Option<&str>, plain: &[&'a str]) -> Result<Asked<'a>, NoMemory>
+    ensures { IfOk result (λ asks. asked_of asks ≡
+        of_words (option_map (λ value. value.now) demo.entry) (map (λ word. word.now) plain.now)) }
+{
+    match demo {
+        Some(value) => Ok(demo_asked(value, plain)),
+        None => script_asked(alloc, plain),
+    }
+}
+
+// The demonstration, beside which no plain word stands.
+fn demo_asked<'a>(value: &str, plain: &[&'a str]) -> Asked<'a>
+    ensures { asked_of result ≡ of_words (Some value.now) (map (λ word. word.now) plain.now) }
+{
+    if !plain.is_empty() {
+        return Asked::Wrong;
+    }
+    match demo_size(value) {
+        Some(orders) => Asked::Demo(orders),
+        None => Asked::Wrong,
+    }
+}
+
+// The script under the first word, with the names in the others.
+fn script_asked<'a>(alloc: Global, plain: &[&'a str]) -> Result<Asked<'a>, NoMemory>
+    ensures { IfOk result (λ asks. asked_of asks ≡ of_plain (map (λ word. word.now) plain.now)) }
+{
+    let [path, more @ ..] = plain else {
+        return Ok(Asked::Wrong);
+    };
+    if path.is_empty() {
+        return Ok(Asked::Wrong);
+    }
+    match names_in(alloc, more) {
+        Ok(names) => Ok(Asked::Script(*path, names)),
+        Err(NamesFault::Wrong) => Ok(Asked::Wrong),
+        Err(NamesFault::NoMemory) => Err(NoMemory),
+    }
+}
+
+// The names that the words give, each with its path.
+fn names_in(alloc: Global, words: &[&str]) -> Result<FileNames, NamesFault>
     ensures names { IfOk result
-        (λ names. pairs_after [] (map string_bytes words.now) ≡ Some (paths_of names)) }
-    ensures usage { IsErrOf result WordsFault.Usage
-        → pairs_after [] (map string_bytes words.now) ≡ None }
+        (λ names. names_after [] (map (λ word. word.now) words.now) ≡ Some (paths_of names)) }
+    ensures wrong { IsErrOf result NamesFault.Wrong
+        → names_after [] (map (λ word. word.now) words.now) ≡ None }
 {
     let mut names = FileNames::new(alloc);
     for word in words {
-        push_pair(alloc, &mut names, word.as_str())?;
+        push_name(alloc, &mut names, *word)?;
     }
     Ok(names)
 }
 
 // Puts the name and the path in a word after the others.
-fn push_pair(alloc: Global, names: &mut FileNames, word: &str) -> Result<(), WordsFault>
+fn push_name(alloc: Global, names: &mut FileNames, word: &str) -> Result<(), NamesFault>
     ensures fits { OnOk result (may_follow (paths_of names.old) word.now ≡ true) }
     ensures names { OnOk result (paths_of names.new ≡ paths_of names.old ++ pair_in word.now ∷ []) }
-    ensures usage { IsErrOf result WordsFault.Usage
+    ensures wrong { IsErrOf result NamesFault.Wrong
         → may_follow (paths_of names.old) word.now ≡ false }
 {
     let Some((name, path)) = pair_in(word) else {
-        return Err(WordsFault::Usage);
+        return Err(NamesFault::Wrong);
     };
     if names.path(name).is_some() {
-        return Err(WordsFault::Usage);
+        return Err(NamesFault::Wrong);
     }
     let name = Words::from_text(alloc, name)?;
     let path = Words::from_text(alloc, path)?;
@@ -74,25 +129,14 @@ fn push_pair(alloc: Global, names: &mut FileNames, word: &str) -> Result<(), Wor
     Ok(())
 }
 
-// The name and the path in a word.
+// The name and the path in a word, cut at its first `=`, where neither is empty.
 fn pair_in(word: &str) -> Option<(&str, &str)>
-    ensures { MatchOption result (is_pair word.now ≡ false) (λ pair.
-        (is_pair word.now ≡ true) × (pair_in word.now ≡ (pair.0.now, pair.1.now))) }
+    ensures { MatchOption result (is_named_path word.now ≡ false) (λ pair.
+        (is_named_path word.now ≡ true) × (pair_in word.now ≡ (pair.0.now, pair.1.now))) }
 {
     let (name, path) = word.split_once('=')?;
-    if !names_path(word) || name.is_empty() || path.is_empty() {
+    if name.is_empty() || path.is_empty() {
         return None;
     }
     Some((name, path))
-}
-
-// A word that is no option, and not empty.
-fn names_path(word: &str) -> bool
-    ensures { result ≡ is_path word.now }
-{
-    match word.as_bytes() {
-        [] => false,
-        [_] => true,
-        [first, ..] => *first != b'-',
-    }
 }

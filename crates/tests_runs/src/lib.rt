@@ -9,6 +9,8 @@ mod fronts;
 #[cfg(test)]
 mod harness;
 #[cfg(test)]
+mod report;
+#[cfg(test)]
 mod session;
 #[cfg(test)]
 mod trouble;

@@ -1,6 +1,6 @@
 use Rattle.{
   script_session.{proofs.cells.Common.{Some, refl, arith}, specs.{script.Run.{RunWords}, script_state.Reads.{paths_of}}},
-  script_run.{specs.Ends.{outside}, proofs.{Options.{some-always, some-both, some-weaker}, RunLaws.{ends_with_line}, FileLaws.{does_fetch, ends_held, ends_absent, ends_too_large, ends_unbegun, ends_unread}, OneResult.{words_one}}},
+  script_run.{specs.Ends.{outside}, proofs.{Options.{some-always, some-both, some-weaker}, RunLaws.{ends_with_line}, FileLaws.{does_fetch, ends_held, ends_absent, ends_too_large, ends_unbegun, ends_unread}, OneResult.{path_one}}},
 }
 use Rattle.script_run.proofs.running.run_file.Goals as goal
 
@@ -44,7 +44,7 @@ pub returns-in-Err-NoMemory-clause-told : goal.returns-in-Err-NoMemory-clause-to
 returns-in-Err-NoMemory-clause-told g c =
     let at = outside g.F.Files.seen g.O.Sink.seen g.E.Sink.seen in
     let words : RunWords = record { script = c.args.path.now; paths = paths_of c.args.names.now } in
-    some-always _ _ (λ held. ends_unbegun _ (at c.args.files.now _ _) (at c.read_whole.new.files _ _) (words_one (Some words) _) refl refl)
+    some-always _ _ (λ held. ends_unbegun _ (at c.args.files.now _ _) (at c.read_whole.new.files _ _) (path_one words _) refl refl)
 
 pub returns-in-Err-Failed-clause-usage : goal.returns-in-Err-Failed-clause-usage
 returns-in-Err-Failed-clause-usage g c = λ is. absurd (cc)
