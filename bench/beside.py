@@ -6,9 +6,13 @@ finds. The others take part where they are installed and have the form. All must
 of the processor in milliseconds, the least of the runs, the most memory that a process held, the time of the program as a part
 of this one, and the same where what the first form takes, which only reads the files, is left out. The time of each thread counts.
 """
+import functools
+import importlib.util
 import os
 import shutil
+import subprocess
 import sys
+import time
 
 from reading import has_data_table, least
 
@@ -29,27 +33,35 @@ def read_line(name, kinds):
     return "%s = pd.read_csv('%s', dtype={%s})\n" % (name, name, ", ".join("'%s': '%s'" % each for each in kinds.items()))
 
 
+@functools.cache
+def installed(by):
+    """Whether a program of another name than this one is there."""
+    if by.startswith("pandas"):
+        return importlib.util.find_spec("pandas") is not None
+    return has_data_table() if by == "data.table" else shutil.which({"sqlite": "sqlite3"}.get(by, by)) is not None
+
+
 def peers(files, asked):
     """The commands of the other programs: what is asked of each, by its name."""
     paths = list(files.values())
-    if "data.table" in asked and has_data_table():
+    if "data.table" in asked and installed("data.table"):
         yield "data.table", ["Rscript", "-e", DATA_TABLE % asked["data.table"], *paths]
-    if "sqlite" in asked and shutil.which("sqlite3"):
+    if "sqlite" in asked and installed("sqlite"):
         load = ["-cmd", ".mode csv"] + [part for name, path in files.items() for part in ("-cmd", ".import %s %s" % (path, name))]
         yield "sqlite", ["sqlite3", ":memory:", *load, "-cmd", ".mode list", asked["sqlite"]]
-    if "gawk" in asked and shutil.which("gawk"):
+    if "gawk" in asked and installed("gawk"):
         yield "gawk", ["gawk", "-F,", asked["gawk"], *paths]
 
 
-def commands(program, folder, files, text, asked):
-    """The command of each that does the form: the program, pandas twice, and the others that are asked."""
+def commands(program, folder, files, text, asked, of_pandas=None):
+    """The command of each that does the form: the program, pandas twice, maybe by a script of its own, and the others that are asked."""
     script = os.path.join(folder, "s.pds")
     with open(script, "w") as out:
         out.write(text)
     named = ["%s=%s" % each for each in files.items()]
     done = {"pdscript": [program, script, *named]}
     for name, found in FOUND:
-        done["pandas, " + name] = [sys.executable, "-c", PANDAS % found + text, *named]
+        done["pandas, " + name] = [sys.executable, "-c", PANDAS % found + (of_pandas or text), *named]
     done.update(peers(files, asked))
     return done
 
@@ -76,3 +88,13 @@ def grown(name, command, runs):
     """A line for a form of the program on ten times the rows."""
     took, held, _ = least(command, runs)
     print("%-22s %-16s %10.1f %8.0f" % (name, "ten times", took, held), flush=True)
+
+
+def by_clock(command, path):
+    """The exit status, the seconds by the clock and those of the processor, and the most memory in MiB that a process of the command
+    held. What it prints goes into a file, so that this process stays small: each counts the memory of the one that began it."""
+    begun = time.monotonic()
+    with open(path, "wb") as printed, subprocess.Popen(command, stdout=printed) as child:
+        _, status, used = os.wait4(child.pid, 0)
+        child.returncode = os.waitstatus_to_exitcode(status)
+    return child.returncode, time.monotonic() - begun, used.ru_utime + used.ru_stime, used.ru_maxrss / 1024

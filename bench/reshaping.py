@@ -71,10 +71,7 @@ def write_table(path, rows):
 def asked_of(program, folder, files, text, asked, of_pandas):
     """The command of each that does the form."""
     start = read_line("t", KINDS)
-    found = commands(program, folder, files, start + (of_pandas or text), asked)
-    with open(os.path.join(folder, "s.pds"), "w") as out:
-        out.write(start + text)
-    return found
+    return commands(program, folder, files, start + text, asked, of_pandas and start + of_pandas)
 
 
 def main():

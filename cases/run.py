@@ -5,23 +5,26 @@
 
 A FILE is Markdown: by default each one of cases/, README.md and the documents of docs/ that have examples. A fenced block
 `pdscript` is a script, and begins a case; its name is the heading above it. `csv NAME` before a script is a file that it
-is given by the word NAME=NAME, and the blocks behind it say how its run ends:
+is given by the word NAME=NAME, `make Makefile` a file beside it, and the blocks behind it say how its run ends:
 
     output          what it writes, nothing where there is no such block
     errors STATUS   what it writes on the error stream, nothing where there is no such block, and the exit status.
                     The status is 1 where it isn't said, and 0 where there is no such block
     words           the words of the command line in place of `script.pds NAME=NAME ..`. Each line is a command line, read as
                     a shell does, and a run of its own; all end alike. `> DEVICE` or `2> DEVICE` may stand last
+    shell           a case of its own: commands of bash, with the script and its files in the folder, and `pdscript` and the
+                    tools of tools/ as commands
 
 `pdscript PATH` stands for a script with another path, and `scripts` for many: each line, without its end, is a script of its
 own, and all end alike. Where `bytes` is the last word of a fence, the block is an expression of Python for its bytes.
 
 A table whose first column is `You wrote` has cases too, each behind the lines of the script that stands last before it.
 Each code of that column is a case, which ends with the fault under `Here`, or with a syntax error where there is no such
-column. The codes of a row under `Write instead` are the lines of one case, which ends without a fault, whatever it prints.
+column. The codes of a row under `Write instead`, and under `Write` in a table whose first column is `To`, are the lines of one
+case, which ends without a fault, whatever it prints.
 
-Where no FILE is given each script examples/NAME.pds is run too, with a word FILE.csv=FILE.csv for each file
-examples/FILE.csv; it writes NAME.out and NAME.err, and nothing on a stream whose file isn't there.
+Where no FILE is given each script NAME.pds of examples/ and of the folders in it is run too, with a word FILE.csv=FILE.csv for
+each file FILE.csv beside it; it writes NAME.out and NAME.err, and nothing on a stream whose file isn't there.
 
 Prints each case that ends otherwise, by its file, line and name, and ends with 1 where there is one, or where a file has
 no case.
@@ -38,9 +41,12 @@ import tempfile
 HERE = os.path.dirname(os.path.abspath(__file__))
 TOP = os.path.dirname(HERE)
 SECONDS = 120
-DOCUMENTS = ("README", "docs/GUIDE", "docs/FROM_PANDAS", "docs/LANGUAGE", "docs/METHODS", "docs/FORMATS")
+DOCUMENTS = (
+    "README",
+    *("docs/" + name for name in "GUIDE FROM_PANDAS LANGUAGE METHODS FORMATS CHEATSHEET OPERATIONS TOOLS".split()),
+)
 PART = re.compile(
-    r"^#+ (?P<title>.*)$|^```(?P<fence>\w.*)\n(?P<body>(?:.*\n)*?)```$|^(?P<table>\| You wrote \|.*\n(?:\|.*\n)+)", re.M
+    r"^#+ (?P<title>.*)$|^```(?P<fence>\w.*)\n(?P<body>(?:.*\n)*?)```$|^(?P<table>\| (?:You wrote|To) \|.*\n(?:\|.*\n)+)", re.M
 )
 CODE = re.compile(r"`([^`]+)`")
 
@@ -50,8 +56,8 @@ class Case:
 
     def __init__(self, place, script, files, path="script.pds"):
         self.place, self.path, self.files = place, path, {**files, path: script}
-        self.words = [[path, *("%s=%s" % (name, name) for name in files)]]
-        self.output, self.errors, self.status = b"", b"", 0
+        self.words = [[path, *("%s=%s" % (name, name) for name in files if name != "Makefile")]]
+        self.output, self.errors, self.status, self.shell = b"", b"", 0, None
 
     def take(self, kind, rest, body):
         """Takes a block that stands behind the script."""
@@ -69,6 +75,12 @@ class Case:
         files = {name: body for name, body in self.files.items() if name != self.path}
         return Case(place, self.files[self.path] + "".join(line + "\n" for line in lines).encode(), files, self.path)
 
+    def by_shell(self, place, commands):
+        """A case of the same files, that a shell runs."""
+        case = self.then(place, [])
+        case.shell = commands
+        return case
+
     def refuse(self, fault):
         """Ends with a fault of the script's last line."""
         self.errors = b"line %d: %s\n" % (self.files[self.path].count(b"\n"), fault.encode())
@@ -80,6 +92,12 @@ class Case:
             for name, body in self.files.items():
                 with open(os.path.join(folder, name), "wb") as out:
                     out.write(body)
+            if self.shell is not None:
+                with commands(program) as environment:
+                    ended = run(["bash", "-c", self.shell], folder, environment)
+                if ended != (self.output, self.errors, self.status):
+                    yield "%s: by a shell: ended with %s" % (self.place, told(ended))
+                return
             for words in self.words:
                 ended = run([program, *words], folder)
                 output = ended[0] if self.output is None else self.output
@@ -87,7 +105,16 @@ class Case:
                     yield "%s: %s: ended with %s" % (self.place, shlex.join(words), told(ended))
 
 
-def run(command, folder):
+@contextlib.contextmanager
+def commands(program):
+    """An environment in which the program and the tools are commands."""
+    with tempfile.TemporaryDirectory() as links:
+        for name in [program, *glob.glob(TOP + "/tools/*")]:
+            os.symlink(name, os.path.join(links, "pdscript" if name == program else os.path.basename(name)))
+        yield {**os.environ, "PATH": links + ":" + os.environ["PATH"], "LC_ALL": "C.UTF-8"}
+
+
+def run(command, folder, environment=None):
     """What the command writes on its two streams in the folder, nothing on one that is sent to a device, and its status."""
     streams = {">": subprocess.PIPE, "2>": subprocess.PIPE}
     with contextlib.ExitStack() as opened:
@@ -95,7 +122,9 @@ def run(command, folder):
             streams[command[-2]] = opened.enter_context(open(command[-1], "wb"))
             command = command[:-2]
         try:
-            ran = subprocess.run(command, cwd=folder, stdout=streams[">"], stderr=streams["2>"], timeout=SECONDS)
+            ran = subprocess.run(
+                command, cwd=folder, env=environment, stdout=streams[">"], stderr=streams["2>"], timeout=SECONDS
+            )
         except subprocess.TimeoutExpired:
             return b"", b"", "none in %d seconds" % SECONDS
     return ran.stdout or b"", ran.stderr or b"", ran.returncode
@@ -112,11 +141,11 @@ def rows_of(page, line, table, script):
     head, _, *rows = [re.split(r"(?<!\\)\|", row)[1:-1] for row in table.splitlines()]
     for number, row in enumerate(rows, line + 2):
         codes = {title.strip(): CODE.findall(cell.replace("\\|", "|")) for title, cell in zip(head, row)}
-        for code in codes["You wrote"]:
+        for code in codes.get("You wrote", []):
             case = script.then("%s:%d: %s" % (page, number, code), [code])
             case.refuse(*codes.get("Here", ["SyntaxError"]))
             yield case
-        instead = codes.get("Write instead")
+        instead = codes.get("Write instead") or codes.get("Write")
         if instead:
             case = script.then("%s:%d: instead" % (page, number), instead)
             case.output = None
@@ -141,8 +170,11 @@ def cases_of(name):
         if rest and rest[-1] == "bytes":
             rest, body = rest[:-1], eval(body)
         place = "%s:%d: %s" % (page, line, title)
-        if kind == "csv":
+        if kind in ("csv", "make"):
             files[rest[0]] = body
+        elif kind == "shell":
+            yield from latest
+            latest = [latest[-1].by_shell(place, part["body"])]
         elif kind in ("pdscript", "scripts"):
             yield from latest
             scripts = [body] if kind == "pdscript" else body.splitlines()
@@ -179,7 +211,7 @@ def main():
     pages = names or stored + ["%s/%s.md" % (TOP, name) for name in DOCUMENTS]
     cases = {name: list(cases_of(name)) for name in pages}
     if not names:
-        cases[TOP + "/examples"] = list(examples_of(TOP + "/examples"))
+        cases.update((folder, list(examples_of(folder))) for folder in [TOP + "/examples", *sorted(glob.glob(TOP + "/examples/*/"))])
     failures = [line for each in cases.values() for case in each for line in case.failures(program)]
     failures += ["%s: no case" % name for name, each in cases.items() if not each]
     for line in failures:
