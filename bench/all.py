@@ -11,9 +11,10 @@ nullable kinds that are named for all columns and once with the kinds that it fi
 printed as a whole number. A program that isn't installed is told in the table, and `-` stands where it isn't asked.
 
 Times are seconds by the clock, the least of the runs; a program with several threads, such as data.table, takes more of the
-processor. With `--processor` they are seconds of the processor, of all threads, which other work on the machine changes less. Memory is the most that a process held, in MiB; less than this script holds itself, about 12 MiB, can't be told. A ratio
-is the program's figure as a part of the other's: below 1 it is less. `differs` or `failed` stand in place of a time where the
-answer isn't the program's, and the exit status is 1 then.
+processor. With `--processor` they are seconds of the processor, of all threads, which other work on the machine changes less.
+Memory is the most that a process held, in MiB; less than this script holds itself, about 12 MiB, can't be told. A ratio is the
+program's figure as a part of the other's: below 1 it is less. `differs` or `failed` stand in place of a time where the answer
+isn't the program's, and the exit status is 1 then.
 """
 import argparse
 import filecmp
