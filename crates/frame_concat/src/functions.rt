@@ -43,7 +43,7 @@ fn made_by(
         (Function::Series, _) => made_series(alloc, store, dict, args),
         (Function::DataFrame, _) => made_frame(alloc, store, dict, args),
         (Function::ReadCsv, Some(bytes)) => read_frame(alloc, store, dict, args, bytes),
-        (Function::ReadCsv, None) => Err(OpFault::Refused(Code::NotBuilt)),
+        (Function::ReadCsv, None) => read_frame(alloc, store, dict, args, &[]),
         (Function::Concat, _) => concat(alloc, store, dict, args),
     }
 }
@@ -90,8 +90,8 @@ fn made_named(
 ///
 /// # Errors
 ///
-/// `NoAttribute` where `pd` has no function of the name; `NotBuilt` for `read_csv` without bytes; else those of the
-/// function. `NoMemory` may come in place of any answer. After a refusal all objects are as they were.
+/// `NoAttribute` where `pd` has no function of the name; else those of the function, which for `read_csv` without bytes
+/// are those of an empty file. `NoMemory` may come in place of any answer. After a refusal all objects are as they were.
 ///
 /// Of `concat`, in this order: `WrongKind` or `BadValue(Argument)` where the arguments aren't bound, the latter also for an empty
 /// list and for `keys` beside `ignore_index=True`; `WrongKind` for `keys` on axis 1; `BadValue(Length)` where there

@@ -1,11 +1,11 @@
 -- Tables that have a row for each group.
 use Rattle.{
   frame_parts.proofs.Common.{arith, ◌≡◌, ◌∙◌, refl, ap, sym, ℕ, Bool, true, false, ◌&&◌, List, [], ◌∷◌, ◌++◌, map, length, All, Option, None, if◌then◌else◌, length-map, length-append, map-append, length-map-range_with_len, All-append, IsSome, list_all, Label, WrongKind, Frame, Text, CellValue, LabelValue, AreGiven, then_value, CellBlock, CellColumn, IsSettled, ColumnOf, NumberedTable, Table, table_value, heading_value, column_value, IsWhole, AxisValue, range_axis, default_labels, column_of_value, blocks_value, default_seen, table_column, AreColumnsOf, headings_value, labels_value, Refuses, columns_name_part},
-  frame_labels.{proofs.IndexingLaws.{labelled, headings_seen}, specs.{Levels.{row_labels}, method.Groups.{keys_of, groups_of, headings_of, grouped_rows, group_answer}}},
+  frame_labels.{proofs.{IndexingLaws.{labelled, headings_seen}, GroupLaws.{key_labels_settled}}, specs.{Levels.{row_labels}, method.Groups.{keys_of, groups_of, headings_of, grouped_rows, group_answer}}},
   frame_select.specs.{select.Select.{shown_as}, Selected.{headings_at}},
   factorize.specs.group.{Rows.{GroupsValue}, Reductions.{group_sizes}},
   group_by.specs.{declared.ops.GroupOp.{GroupOp}, Operations.{reduction_of}},
-  frame_groups.{specs.{declared.{columns.ColumnCall.TheVariants.{Reduced}, grouping.Grouping.{Grouping}, values.Values.{Values}}, Columns.{takes_at, made_at, AreBlocks}, Grouped.{grouping_seen, values_seen}, Tables.{HasHeadings, IsAxis, group_labels, group_names, group_headings, group_keys}}, proofs.{ColumnLaws.{if_taken, each_is, boxed, one_more_block, one_more_value}, KeyLaws.{key_labels_settled}, ShownLaws.{IsMade}, RowLaws.{headings_are, own_settled}}},
+  frame_groups.{specs.{declared.{columns.ColumnCall.TheVariants.{Reduced}, grouping.Grouping.{Grouping}, values.Values.{Values}}, Columns.{takes_at, made_at, AreBlocks}, Grouped.{grouping_seen, values_seen}, Tables.{HasHeadings, IsAxis, group_labels, group_names, group_headings, group_keys}}, proofs.{ColumnLaws.{if_taken, each_is, boxed, one_more_block, one_more_value}, ShownLaws.{IsMade}, RowLaws.{headings_are, own_settled}}},
 }
 use Rattle.column_core.specs.Columns as kernel
 use Rattle.frame_labels.specs.method.Groups as meant

@@ -11,10 +11,9 @@ ghost use Rattle.frame_labels.specs.Levels.{row_labels};
 ghost use Rattle.frame_groups.specs.Grouped.{grouping_seen, HasKeys};
 
 use crate::grouping::Grouping;
-use cell_core::{Grid, NoMemory, Places, TextDict, Tuples};
-use column_core::ColRef;
-use factorize::{KeyColumns, KeyGroups, group_by_keys};
-use frame_labels::{columns_at, named_axis, row_tuple};
+use cell_core::{NoMemory, Places, TextDict};
+use factorize::KeyGroups;
+use frame_labels::{groups_by, key_tuples, named_axis};
 use frame_select::headings_at;
 use frame_store::ObjRef;
 use multi_index::Axis;
@@ -36,32 +35,14 @@ pub(crate) fn groups_of(
         ≡ meant.keys_of t (grouping_seen dict.now grouping.now)) }
     ensures firsts { IfOk result (λ g. AreRowsOf on.now g.firsts) }
 {
-    // Equal texts have equal numbers: `TextDict::len` says so.
-    let _ = dict.len();
-    let columns = columns_at(alloc, on, &grouping.keys)?;
-    let keys: &[ColRef<'_>] = &columns;
-    let rows = KeyColumns::of(keys, on.rows());
-    group_by_keys(alloc, dict, &rows, grouping.sorted, grouping.dropna)
-}
-
-// The cells of these rows in the key columns, as tuples of labels.
-fn key_tuples(
-    alloc: Global,
-    on: &ObjRef<'_>,
-    keys: &Places,
-    rows: &Places,
-) -> Result<Tuples, NoMemory>
-    requires keys { AreColumnsOf on.now keys.now }
-    requires some { 1 ≤ length keys.now }
-    requires few { length keys.now ≤ 4 }
-    requires rows { AreRowsOf on.now rows.now }
-    ensures { IfOk result (λ tuples. tuples ≡ map (row_labels on.now keys.now) rows.now) }
-{
-    let mut tuples = Tuples::new(alloc);
-    for k in 0..rows.len() {
-        tuples.push(row_tuple(alloc, on, keys, *rows.at(k)))?;
-    }
-    Ok(tuples)
+    groups_by(
+        alloc,
+        dict,
+        on,
+        &grouping.keys,
+        grouping.sorted,
+        grouping.dropna,
+    )
 }
 
 // The axis of the keys of these rows, whose levels have the names of the key columns.

@@ -7,6 +7,7 @@ pub mod ColumnLabelLaws
 pub mod NamedLaws
 pub mod LevelNameLaws
 pub mod IndexingLaws
+pub mod GroupLaws
 pub mod LevelColumnLaws
 pub mod ResetLaws
 pub mod LevelMoveLaws

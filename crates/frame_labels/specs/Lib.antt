@@ -4,6 +4,7 @@ pub mod Faults
 pub mod Labels
 pub mod Rows
 pub mod Levels
+pub mod RowGroups
 pub mod Named
 pub mod Reindexed
 pub mod Section

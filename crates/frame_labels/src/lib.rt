@@ -14,7 +14,8 @@
 //!
 //! [`columns_at`] gives the columns whose cells are the keys of rows, by their places, for `factorize::KeyColumns`
 //! (`key_columns`). The keys that these have are the labels that the cells of the rows are, which `proofs/KeyLaws.antt`
-//! says for calls behind `groupby` and for `merge`.
+//! says for calls behind `groupby` and for `merge`. [`groups_by`] gives the groups of rows with equal keys, and
+//! [`key_tuples`] the keys of rows as labels, for `groupby` and for `pivot_table` (`row_groups`).
 //!
 //! Calls behind `groupby` (`frame_groups`) and joins of frames (`frame_merge`) take some parts from
 //! here, and so they do the words of a chain of calls (`specs/Chains.antt`) and the fault of a name
@@ -38,6 +39,7 @@ mod levels;
 mod named_columns;
 mod reindexing;
 mod resetting;
+mod row_groups;
 mod under;
 
 pub use attributes::no_attribute;
@@ -51,4 +53,5 @@ pub use levels::{drop_level, level_of, swap_levels};
 pub use named_columns::{drop_columns, named_places, places_besides, subset_places, told_places};
 pub use reindexing::reindex;
 pub use resetting::reset_levels;
+pub use row_groups::{groups_by, key_tuples};
 pub use under::named_axis;

@@ -10,7 +10,7 @@ ghost use Rattle.frame_store.specs.Objects.{tables, table_at};
 ghost use Rattle.frame_store.specs.World.{world, arguments_in, AreKnownArguments};
 ghost use Rattle.frame_methods.specs.Calls.{Binds};
 
-use cell_core::{Code, Grid, TextDict};
+use cell_core::{Grid, TextDict};
 use frame_labels::no_attribute;
 use frame_signatures::{Bound, bind, method_named, parameters};
 use frame_store::{Named, ObjId, OpFault, Store, Value};
@@ -65,7 +65,7 @@ pub(crate) fn bound_call<'a>(
         return Err(no_attribute(alloc, name));
     };
     if !is_answered(method) {
-        return Err(OpFault::Refused(Code::NotBuilt));
+        return Err(no_attribute(alloc, name));
     }
     let bound = bind(store, dict, parameters(method), args)?;
     Ok(BoundCall { method, bound })

@@ -282,11 +282,12 @@ fn call(
 ///
 /// # Errors
 ///
-/// In this order: `NoAttribute` where the value has no such method (a scalar has none); `NotBuilt` of
-/// a method that isn't answered here; `WrongKind` of arguments that are unknown, missing, too many, given
-/// twice or of a form that the method doesn't take; `BadValue(Argument)` of a value that isn't listed;
-/// the method's own refusals; `Limit`. `NoMemory` may come in place of any answer. After a refusal all
-/// objects are as they were.
+/// In this order: `NoAttribute` where the value has no such method (a scalar has none), or one that isn't
+/// answered here (`merge`, one of another shape, and `groupby`, `rolling` and `expanding`, which stand in
+/// forms of their own); `WrongKind` of arguments that are unknown, missing, too many, given twice or of a
+/// form that the method doesn't take; `BadValue(Argument)` of a value that isn't listed; the method's own
+/// refusals; `Limit`. `NoMemory` may come in place of any answer. After a refusal all objects are as they
+/// were.
 pub fn method(
     alloc: Global,
     store: &mut Store,

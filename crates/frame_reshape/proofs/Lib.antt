@@ -10,7 +10,6 @@ mod MeltCells
 mod MeltNames
 mod MeltTable
 mod MeltTold
-mod GroupKeys
 mod GroupCells
 mod PivotLaws
 mod CallLaws

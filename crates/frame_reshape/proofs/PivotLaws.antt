@@ -1,5 +1,5 @@
 -- Rows that are spread by the cells of columns: the labels of the index, and those of the columns.
-use Rattle.{frame_parts.proofs.Common.{arith, ◌≡◌, ◌∙◌, ap, refl, sym, ℕ, suc, ◌+◌, ◌≤◌, true, nat_lt, List, [], ◌∷◌, ◌++◌, map, length, slice_index_or, Option, None, Result, Ok, nat_tests, length-map, length-append, map-append, get_or_push, headings_part, Label, Text, label_datum, LabelValue, na, CellValue, FaultValue, then_value, HaveLevels, IsSettled, ColumnOf, NumberedTable, Table, column_at, table_value, column_value, heading_value, tuple_value, Entry, labels_value, headings_value, Makes, OpFault}, column_core.{proofs.cells.Common.{remove, take_at, drop_all, append-nil}, specs.Columns.{CellColumn}}, frame_select.{specs.Selected.{heading_of, headings_at}, proofs.{AnswerLaws.{column_seen}}}, frame_labels.{specs.{Levels.{row_labels}, method.Reshape.{label_places, labels_besides, labels_on, spread_result, pivoted, pivot_of, under_cells, answered_groups, pivot_table_of}}, proofs.IndexingLaws.{all_rows, tuples_seen, headings_seen, headings_settled, rows_alike, labels_count}}, factorize.specs.{Keys.{levels_of}, group.Reductions.{GroupReduction}}, frame_reshape.{specs.{Pivots.{pivoted_value, IsPivoted}, Spreads.{AreEntries}, Groups.{group_series}, declared.{told.Pivoted.{Pivoted}, grouping.GroupCells.{GroupCells}}}, proofs.GroupKeys.{key_labels_settled}}}
+use Rattle.{frame_parts.proofs.Common.{arith, ◌≡◌, ◌∙◌, ap, refl, sym, ℕ, suc, ◌+◌, ◌≤◌, true, nat_lt, List, [], ◌∷◌, ◌++◌, map, length, slice_index_or, Option, None, Result, Ok, nat_tests, length-map, length-append, map-append, get_or_push, headings_part, Label, Text, label_datum, LabelValue, na, CellValue, FaultValue, then_value, HaveLevels, IsSettled, ColumnOf, NumberedTable, Table, column_at, table_value, column_value, heading_value, tuple_value, Entry, labels_value, headings_value, Makes, OpFault}, column_core.{proofs.cells.Common.{remove, take_at, drop_all, append-nil}, specs.Columns.{CellColumn}}, frame_select.{specs.Selected.{heading_of, headings_at}, proofs.{AnswerLaws.{column_seen}}}, frame_labels.{specs.{Levels.{row_labels}, method.Reshape.{label_places, labels_besides, labels_on, spread_result, pivoted, pivot_of, under_cells, answered_groups, pivot_table_of}}, proofs.{IndexingLaws.{all_rows, tuples_seen, headings_seen, headings_settled, rows_alike, labels_count}, GroupLaws.{key_labels_settled}}}, factorize.specs.{Keys.{levels_of}, group.Reductions.{GroupReduction}}, frame_reshape.{specs.{Pivots.{pivoted_value, IsPivoted}, Spreads.{AreEntries}, Groups.{group_series}, declared.{told.Pivoted.{Pivoted}, grouping.GroupCells.{GroupCells}}}}}
 
 -- a list without its last item, and that item
 remove_last : {X : Type 0} (xs : List X) (x : X) (n : ℕ) → length xs ≡ n → remove (xs ++ x ∷ []) n ≡ xs

@@ -1,5 +1,5 @@
 -- The groups that have an answer.
-use Rattle.std.specs.Prelude.{◌≡◌, ℕ, length, List, [], ◌∷◌, filter_map, map, slice_index_or, Option, option_map, None}
+use Rattle.std.specs.Prelude.{ℕ, List, [], ◌∷◌, filter_map, map, slice_index_or, Option, option_map, None}
 use Rattle.column_core.specs.cells.Text.{Text}
 use Rattle.cell_core.specs.declared.cell.Cell.{Cell}
 use Rattle.cell_core.specs.declared.grid.Shape.TheVariants.{Series}
@@ -8,10 +8,7 @@ use Rattle.column_core.specs.cells.Reduce.{is_present}
 use Rattle.multi_index.specs.pick.Rows.{rows_where}
 use Rattle.frame_store.specs.tables.Table.{NumberedTable, Table, table_value}
 use Rattle.frame_labels.specs.method.Reshape as meant
-use Rattle.factorize.specs.declared.factor.KeyGroups.{KeyGroups}
-use Rattle.frame_labels.specs.method.Groups.{groups_of, keys_of}
-use Rattle.frame_store.specs.Parts.{table_column, AreRowsOf}
-use Rattle.frame_store.specs.Shown.{labels_value}
+use Rattle.frame_store.specs.Parts.{table_column}
 use Rattle.frame_labels.specs.Levels.{row_labels}
 use Rattle.frame_select.specs.Selected.{headings_at}
 use Rattle.frame_reshape.specs.declared.grouping.GroupCells.{GroupCells}
@@ -37,11 +34,3 @@ group_series t p texts g =
       headings = slice_index_or t.headings p.values None ∷ [];
       columns = table_column g.cells ∷ [];
     }
-
--- the groups by the cells of these columns, in order and none of them missing, each with a row of its own, and a group or none for each row
-pub record AreGroupsOf (texts : List Text) (t : NumberedTable) (keys : List ℕ) (g : KeyGroups) : Type 0 where
-  pub groups : g.groups ≡ groups_of (table_value texts t) (meant.groups_by keys)
-  pub labels : labels_value texts (map (row_labels t keys) g.firsts) ≡ keys_of (table_value texts t) (meant.groups_by keys)
-  pub firsts : AreRowsOf t g.firsts
-  pub count : length g.firsts ≡ g.groups.count
-  pub codes : length g.groups.codes ≡ length t.labels

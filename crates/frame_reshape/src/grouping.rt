@@ -7,18 +7,17 @@ ghost use Rattle.frame_store.specs.tables.Table.{table_value};
 ghost use Rattle.group_by.specs.Operations.{reduction_of};
 ghost use Rattle.frame_labels.specs.method.Reshape as meant;
 ghost use Rattle.frame_parts.specs.Makes.{MakesBy};
-ghost use Rattle.frame_store.specs.Parts.{AreColumnsOf, AreRowsOf};
+ghost use Rattle.frame_store.specs.Parts.{AreRowsOf};
 ghost use Rattle.frame_store.specs.World.{IsKnownTable};
-ghost use Rattle.frame_labels.specs.Levels.{row_labels};
 ghost use Rattle.frame_reshape.specs.Groups as words;
-ghost use Rattle.frame_reshape.specs.Groups.{AreGroupsOf};
+ghost use Rattle.frame_labels.specs.RowGroups.{AreGroupsOf};
 ghost use Rattle.frame_reshape.specs.Pivots.{pivoted_value, IsPivoted};
 
 use crate::told::Pivoted;
-use cell_core::{Cell, Code, Gaps, Grid, NoMemory, Places, TextDict, Tuples};
-use column_core::{ColRef, Column, take};
-use factorize::{KeyColumns, KeyGroups, group_by_keys};
-use frame_labels::{columns_at, row_tuple};
+use cell_core::{Cell, Code, Gaps, NoMemory, Places, TextDict};
+use column_core::{Column, take};
+use factorize::KeyGroups;
+use frame_labels::groups_by;
 use frame_store::{ObjRef, OpFault};
 use group_by::{GroupFault, GroupOp, group_reduce};
 use std::alloc::Global;
@@ -90,14 +89,9 @@ fn groups_of(
     requires known { IsKnownTable dict.now on.now }
     requires told { IsPivoted on.now told.now }
     ensures { let places = meant.label_places (pivoted_value told.now) in
-        IfOk result (AreGroupsOf dict.now on.now places) }
+        IfOk result (AreGroupsOf dict.now on.now (meant.groups_by places)) }
 {
-    // Equal texts have equal numbers: `TextDict::len` says so.
-    let _ = dict.len();
-    let columns = columns_at(alloc, on, &told.all(alloc)?)?;
-    let keys: &[ColRef<'_>] = &columns;
-    let rows = KeyColumns::of(keys, on.rows());
-    group_by_keys(alloc, dict, &rows, true, true)
+    groups_by(alloc, dict, on, &told.all(alloc)?, true, true)
 }
 
 // What the reduction makes of each group of rows with the same labels, in the order of the labels.
@@ -128,24 +122,4 @@ pub(crate) fn cells_of_groups(
     let rows = first_rows(alloc, &found.firsts, &groups)?;
     let cells = take(alloc, reduced.as_ref(), &groups)?;
     Ok(GroupCells { rows, cells })
-}
-
-// The cells of these rows in these columns, of which there are one to four, as tuples of labels.
-pub(crate) fn keys_at(
-    alloc: Global,
-    on: &ObjRef<'_>,
-    places: &Places,
-    rows: &Places,
-) -> Result<Tuples, NoMemory>
-    requires places { AreColumnsOf on.now places.now }
-    requires some { 1 ≤ length places.now }
-    requires few { length places.now ≤ 4 }
-    requires rows { AreRowsOf on.now rows.now }
-    ensures { IfOk result (λ tuples. tuples ≡ map (row_labels on.now places.now) rows.now) }
-{
-    let mut tuples = Tuples::new(alloc);
-    for k in 0..rows.len() {
-        tuples.push(row_tuple(alloc, on, places, *rows.at(k)))?;
-    }
-    Ok(tuples)
 }

@@ -8,13 +8,13 @@ ghost use Rattle.frame_store.specs.Shown.{Makes};
 ghost use Rattle.frame_store.specs.World.{IsKnownTable};
 ghost use Rattle.frame_reshape.specs.Pivots.{pivoted_value, IsPivoted};
 
-use crate::grouping::{GroupCells, cells_of_groups, keys_at};
+use crate::grouping::{GroupCells, cells_of_groups};
 use crate::spreading::spread_table;
 use crate::told::Pivoted;
 use cell_core::{Code, Grid, TextDict};
 use column_core::ColRef;
 use factorize::KeyColumns;
-use frame_labels::columns_at;
+use frame_labels::{columns_at, key_tuples};
 use frame_select::headings_at;
 use frame_store::{ObjRef, OpFault, Table};
 use group_by::GroupOp;
@@ -76,9 +76,9 @@ pub(crate) fn pivot_table(
     if !are_few(told) {
         return Err(OpFault::Refused(Code::Limit));
     }
-    let index = keys_at(alloc, on, &told.index, &rows)?;
+    let index = key_tuples(alloc, on, &told.index, &rows)?;
     let places = told.labels(alloc)?;
-    let labels = keys_at(alloc, on, &places, &rows)?;
+    let labels = key_tuples(alloc, on, &places, &rows)?;
     let spread = unstack_places(alloc, dict, &index, &labels);
     let names = headings_at(alloc, on, &told.index)?;
     let name = on.heading(told.columns);

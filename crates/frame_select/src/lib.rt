@@ -7,8 +7,8 @@
 //! another one, or tables of some rows; methods are built on them.
 //!
 //! Labels are compared by their numbers. In brackets one column is looked up by a walk, which takes
-//! no memory, and a list of them by a map of all columns, made once. Rows have labels of one to four levels; no call
-//! here answers `NotBuilt`.
+//! no memory, and a list of them by a map of all columns, made once. Rows have labels of one to four levels.
+//!
 //! The definitions are in the crate `meaning_select`.
 //!
 //! ```text

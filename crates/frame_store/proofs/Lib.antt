@@ -1,6 +1,7 @@
 pub mod PartLaws
 pub mod ColumnLaws
 pub mod ValueLaws
+pub mod SettingLaws
 pub mod HeldLaws
 pub mod ObjectLaws
 pub mod Settling

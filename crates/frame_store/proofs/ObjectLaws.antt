@@ -1,7 +1,7 @@
 -- The tables of objects.
 use Rattle.{
-  meaning_tables.{proofs.cells.Common.{inl, inr, ◌≡◌, ℕ, zero, suc, ◌<◌, List, [], ◌∷◌, length, ap, arith, nat_eq, if◌then◌else◌, Option, Some, None, IsSome, length-set, set-get_or, get_or-set_same, get_or-set_other, cases_eq, nat_tests, ◌≢◌, Result, IfOk, is_some, slice_index_or, slice_set}, specs.Table.{NumberedTable}},
-  frame_store.specs.{declared.object.ObjId.{ObjId}, Objects.{Tables, with_object, table_or}},
+  meaning_tables.{proofs.cells.Common.{inl, inr, ◌≡◌, ℕ, zero, suc, ◌<◌, List, [], ◌∷◌, length, ap, sym, subst, arith, nat_eq, if◌then◌else◌, Option, Some, None, IsSome, length-set, set-get_or, get_or-set_same, get_or-set_other, cases_eq, nat_tests, ◌≢◌, Result, IfOk, is_some, slice_index_or, slice_set, Cell}, specs.Table.{NumberedTable}},
+  frame_store.specs.{declared.object.ObjId.{ObjId}, Setting.{AreSet}, Objects.{Tables, with_object, table_or}},
 }
 
 -- an item of a list in which one is replaced
@@ -21,6 +21,18 @@ slot slots id = slice_index_or slots id None
 pub table_changed : (slots : List (Option NumberedTable)) (on : ℕ) (old new : NumberedTable) (change : NumberedTable → NumberedTable) → IsSome (slot slots on) → slot slots on ≡ Some old → new ≡ change old
     → slot (slice_set slots on (Some new)) ≡ with_object (slot slots) on (Some (change (table_or (slot slots on))))
 table_changed = grind (arith, nat_eq, get-set, some_within)
+
+-- the table of one object and the one that it becomes
+tables_related : (R : NumberedTable → NumberedTable → Type 0) (slots : List (Option NumberedTable)) (on : ℕ) (old new : NumberedTable) → slot slots on ≡ Some old → R old new
+    → R (table_or (slot slots on)) (table_or (slot (slice_set slots on (Some new)) on))
+tables_related R slots on old new at so =
+    let now = get_or-set_same slots on (Some new) None (some_within slots on (ap is_some at)) in
+    subst (λ (t : NumberedTable). R t (table_or (slot (slice_set slots on (Some new)) on))) (sym (ap table_or at)) (subst (R old) (sym (ap table_or now)) so)
+
+-- cells of it that are set
+pub cells_of_object_set : (rows columns : List ℕ) (values : List Cell) (slots : List (Option NumberedTable)) (on : ℕ) (old new : NumberedTable) → slot slots on ≡ Some old → AreSet rows columns values old.columns new.columns
+    → AreSet rows columns values (table_or (slot slots on)).columns (table_or (slot (slice_set slots on (Some new)) on)).columns
+cells_of_object_set rows columns values = tables_related (λ old new. AreSet rows columns values old.columns new.columns)
 
 -- an object ends
 pub table_ended : (old mid : List (Option NumberedTable)) (on : ℕ) → IsSome (slot old on) → mid ≡ slice_set old on None → slot mid ≡ with_object (slot old) on None

@@ -6,6 +6,8 @@
 //! each call changes the table of the named object alone, and a refusal, which is want of memory,
 //! leaves every table as it was.
 //!
+//! [`last_value_stays`] says what setting cells leaves.
+//!
 //! Each object keeps columns of its own, one to a block, and `derive` copies them.
 //!
 //! A form makes a [`Table`], of its own or as [`table_under`] does, and hands it to [`placed`], which gives it an object.
@@ -29,6 +31,7 @@ mod columns;
 mod fault;
 mod given;
 mod headings;
+mod laws;
 mod made;
 mod object;
 mod store;
@@ -41,6 +44,7 @@ pub use arguments::{
 pub use blocks::Blocks;
 pub use fault::OpFault;
 pub use headings::Headings;
+pub use laws::last_value_stays;
 pub use made::{headings_named, headings_of, placed, series_table, table_under};
 pub use object::{ObjId, ObjRef};
 pub use store::Store;

@@ -6,6 +6,7 @@ ghost use Rattle.meaning_tables.specs.Table.{column_at};
 ghost use Rattle.meaning_tables.specs.Change.{with_column, without_column, with_labels, with_values};
 ghost use Rattle.meaning_tables.specs.Valid.{AreHeadings, IsWhole};
 ghost use Rattle.multi_index.specs.Axes.{HaveLevels};
+ghost use Rattle.frame_store.specs.Setting.{AreSet};
 ghost use Rattle.frame_store.specs.Parts.{block_column, table_column, table_of, cut_table, axis_of, AreRowsOf, AreColumnsOf, FitsRows, IsSingle, HaveRows, AreHeld, TakesHeading, SparesHeading};
 
 use crate::blocks::Blocks;
@@ -99,7 +100,9 @@ impl Store {
     }
 
     /// Puts the values, one for each row and column, row by row. Where a cell is given twice, the
-    /// later value stays. `NoMemory` leaves the store as it was.
+    /// later value stays: each cell is then the last value given for it, else what it was.
+    /// `NoMemory` leaves the store as it was.
+    #[tactic(auto, using(crate::proofs::ObjectLaws::cells_of_object_set))]
     pub fn set_cells(
         &mut self,
         on: ObjId,
@@ -115,6 +118,8 @@ impl Store {
         ensures ok { OnOk result (Alters self.old self.new on
             (λ t. with_values t rows.now columns.now values.now)) }
         ensures err { OnErr result (Stays self.old self.new) }
+        ensures law { OnOk result (AreSet rows.now columns.now values.now
+            (table_on self.old on).columns (table_on self.new on).columns) }
     {
         self.objects[on.0 as usize].set_cells(rows, columns, values);
         Ok(())

@@ -7,6 +7,7 @@ ghost use Rattle.meaning_tables.specs.Table.{column_at};
 ghost use Rattle.meaning_tables.specs.Change.{cut_columns, with_column, without_column, with_labels, with_values};
 ghost use Rattle.meaning_tables.specs.Valid.{IsWhole};
 ghost use Rattle.multi_index.specs.Axes.{HaveLevels};
+ghost use Rattle.frame_store.specs.Setting.{AreSet};
 ghost use Rattle.frame_store.specs.Parts.{block_column, columns_of, table_column, table_of, axis_of, count_of, AreRowsOf, AreColumnsOf, FitsRows, IsSingle, HaveRows, AreHeld, TakesHeading, SparesHeading};
 
 use crate::blocks::Blocks;
@@ -148,7 +149,8 @@ impl Table {
         requires places { AreColumnsOf self.old places.now }
         requires values { length values.now ≡ length rows.now * length places.now }
         requires held { AreHeld self.old.columns places.now values.now }
-        ensures { self.new ≡ with_values self.old rows.now places.now values.now }
+        ensures table { self.new ≡ with_values self.old rows.now places.now values.now }
+        ensures law { AreSet rows.now places.now values.now self.old.columns self.new.columns }
     {
         put_values(&mut self.blocks, self.axis.len(), rows, places, values);
     }

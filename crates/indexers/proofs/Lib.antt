@@ -1,6 +1,7 @@
 pub mod TurnLaws
 pub mod AnswerLaws
 pub mod SpanLaws
+pub mod SliceLaws
 pub mod MaskLaws
 pub mod TextLaws
 -- laws of crates below, passed on to the crates above

@@ -7,6 +7,7 @@ ghost use Rattle.index_core.specs.pick.Keys.{picked_by_place};
 ghost use Rattle.index_core.specs.pick.Keys as key;
 ghost use Rattle.index_core.specs.pick.Positions as meant;
 ghost use Rattle.indexers.specs.Keys.{place_key};
+ghost use Rattle.indexers.specs.PythonSlice.{PicksSlice};
 ghost use Rattle.indexers.specs.Picks.{PicksBy, pick_of, as_it_is, IsSpanned};
 
 use crate::keys::{KeyFault, Picked, PosKey, Positions};
@@ -16,7 +17,7 @@ use std::alloc::Global;
 
 /// The rows that a key of `iloc` picks among so many ("Selection by position" in the pandas user guide). A position is
 /// counted from the end where it is negative. A slice is Python's: bounds are counted from the end where they are
-/// negative and are clipped, and a step below 0 goes back from the first bound.
+/// negative and are clipped, and a step below 0 goes back from the first bound (`specs/PythonSlice.antt`).
 ///
 /// # Errors
 ///
@@ -26,6 +27,7 @@ pub fn iloc_places(alloc: Global, count: usize, key: &PosKey) -> Result<Picked, 
     ensures picked { PicksBy pick_of result (picked_by_place count (place_key key.now)) }
     ensures span { IfOk result (IsSpanned count) }
     ensures inside { IfOk result (λ picked. All (λ row. row < count) picked.places) }
+    ensures slice { IfOk result (λ picked. PicksSlice count key.now picked.places) }
 {
     match key {
         PosKey::One(position) => single_row(alloc, count, *position),

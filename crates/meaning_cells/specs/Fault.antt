@@ -35,8 +35,6 @@ pub data FaultValue : Type 0 where
   no_records : FaultValue
   no_file : Text → FaultValue
   limit : FaultValue
-  -- a form that isn't built yet
-  not_built : FaultValue
 
 -- the first fault, or what the value goes on to
 abbrev pub then_value : {A B : Type 0} → Result A FaultValue → (A → Result B FaultValue) → Result B FaultValue

@@ -3,7 +3,7 @@ use Rattle.std.specs.Prelude.{ℕ, ◌==◌, true, false, List, [], ◌∷◌, �
 use Rattle.std.specs.Fmt.{signed_decimal}
 use Rattle.meaning_cells.specs.Text.{Text}
 use Rattle.meaning_cells.specs.Cell.{LabelValue, truth, int, text, na}
-use Rattle.meaning_cells.specs.Fault.{FaultValue, ReasonValue, Side, left, right, repeated, length_of, entry, not_aligned, key_kinds, levels, argument, cast, no_columns, no_name, no_attribute, wrong_kind, no_key, out_of_range, no_mask_label, bad_value, zero_divide, bad_merge, no_common, repeated_label, long_row, not_utf8, no_records, no_file, limit, not_built}
+use Rattle.meaning_cells.specs.Fault.{FaultValue, ReasonValue, Side, left, right, repeated, length_of, entry, not_aligned, key_kinds, levels, argument, cast, no_columns, no_name, no_attribute, wrong_kind, no_key, out_of_range, no_mask_label, bad_value, zero_divide, bad_merge, no_common, repeated_label, long_row, not_utf8, no_records, no_file, limit}
 
 -- a byte of a text in quotes: backslash, quote, line feed and tab are escaped
 abbrev pub quoted_byte : ℕ → Text
@@ -67,4 +67,3 @@ fault_text (not_utf8 p) = codes "UnicodeDecodeError: byte " ++ decimal p
 fault_text no_records = codes "EmptyDataError"
 fault_text (no_file n) = codes "FileNotFoundError: " ++ n
 fault_text limit = codes "LimitError"
-fault_text not_built = codes "NotBuiltError"

@@ -166,7 +166,7 @@ made_named_fault : (f : Option Function) (file : Option (List ℕ)) (name : Text
 made_named_fault None _ _ _ = tt
 made_named_fault (Some function.Series) _ _ gs = series_call_fault gs
 made_named_fault (Some function.DataFrame) _ _ gs = frame_call_fault gs
-made_named_fault (Some function.ReadCsv) None _ _ = tt
+made_named_fault (Some function.ReadCsv) None _ gs = read_result_fault [] gs
 made_named_fault (Some function.ReadCsv) (Some bytes) _ gs = read_result_fault bytes gs
 made_named_fault (Some function.Concat) _ _ gs = concat_call_fault gs
 

@@ -117,7 +117,7 @@ call_result_keeps v (expanding args name) gs h k = expanding_result_keeps v args
 made_by_keeps : (f : Function) (file : Option (List ℕ)) (gs : List NamedGiven) → AreValidArguments gs → IfOk (made_by f file gs) IsValidEntry
 made_by_keeps function.Series _ gs k = series_call_keeps gs
 made_by_keeps function.DataFrame _ gs k = frame_call_keeps gs
-made_by_keeps function.ReadCsv None _ k = tt
+made_by_keeps function.ReadCsv None gs k = read_result_keeps [] gs
 made_by_keeps function.ReadCsv (Some bytes) gs k = read_result_keeps bytes gs
 made_by_keeps function.Concat _ gs k = concat_call_keeps gs k
 

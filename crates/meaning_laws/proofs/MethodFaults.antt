@@ -1,6 +1,6 @@
 -- No method has the fault that a file isn't there.
 use Rattle.{
-  meaning_script.{proofs.cells.Common.{arith, ℤ, Bool, true, false, List, [], ◌∷◌, Option, Result, Shape, Series, Frame, Text, CellValue, LabelValue, FaultValue}, specs.{tables.{Table.{ColumnOf, Table}, Value.{Given, GivenList, NamedGiven}}, call.declared.Method.{Method}, method.{Rows.{head_result, tail_result, duplicated_result, sort_by_result, drop_result}, Methods.{each_column, filled_column, Summary, summary_cell, summary_of, renamed_frame, reset_index_result, csv_answer, answer_for}, Levels.{rename_axis_result, set_index_result, renumbered, level_of, droplevel_result, swaplevel_result}, Reindex.{reindex_result}, Section.{xs_result}, Calls.{called}}}},
+  meaning_script.{proofs.cells.Common.{arith, ℤ, Bool, true, false, List, [], ◌∷◌, Option, Result, Shape, Series, Frame, Text, CellValue, LabelValue, FaultValue}, specs.{tables.{Table.{ColumnOf, Table}, Value.{Given, GivenList, NamedGiven}}, call.declared.Method.{Method}, method.{Rows.{head_result, tail_result, subset_places, duplicated_result, sort_by_result, drop_result}, Methods.{each_column, filled_column, Summary, summary_cell, summary_of, renamed_frame, reset_index_result, csv_answer, answer_for}, Levels.{rename_axis_result, set_index_result, renumbered, level_of, droplevel_result, swaplevel_result}, Reindex.{reindex_result}, Section.{xs_result}, Calls.{called}}}},
   meaning_laws.{proofs.{FormFaults.{if_fault, then_value_fault, of_length_fault, unless_repeated_fault, met_rows_fault, on_bound_fault, limited_fault, finished_fault, made_column_fault, try_all_fault, found_fault, column_places_fault, on_fault}, SelectFaults.{found_pick_fault, whole_items_fault}}, specs.FormFault.{HasFormFault}},
 }
 use Rattle.meaning_script.specs.call.declared.Method.TheVariants as method
@@ -37,8 +37,11 @@ head_fault = search (limited_fault)
 tail_fault : (t : Table) (n : ℤ) → HasFormFault (tail_result t n)
 tail_fault = search (if_fault, limited_fault)
 
+subset_fault : (t : Table) (subset : Given) → HasFormFault (subset_places t subset)
+subset_fault = grind (arith, then_value_fault, column_places_fault)
+
 duplicated_fault : (t : Table) (subset : Given) → HasFormFault (duplicated_result t subset)
-duplicated_fault = grind (then_value_fault, arith, column_places_fault, limited_fault)
+duplicated_fault = search (then_value_fault, subset_fault, limited_fault)
 
 sort_by_fault : (t : Table) (ascending : Bool) (by : Given) → HasFormFault (sort_by_result t ascending by)
 sort_by_fault = search (then_value_fault, column_places_fault, limited_fault)

@@ -1,7 +1,7 @@
 -- Calls of methods.
 use Rattle.std.specs.Prelude.{Bool, false, List, is_some, Option, Some, None, Result, Err, if◌then◌else◌}
 use Rattle.meaning_call.specs.cells.Text.{Text}
-use Rattle.meaning_call.specs.cells.Fault.{FaultValue, no_attribute, not_built}
+use Rattle.meaning_call.specs.cells.Fault.{FaultValue, no_attribute}
 use Rattle.meaning_select.specs.tables.Table.{Table}
 use Rattle.meaning_select.specs.tables.Value.{Entry, cell, table, Given, NamedGiven}
 use Rattle.meaning_call.specs.declared.Method.{Method}
@@ -23,9 +23,10 @@ has_method (table t) name = is_some (method_named t.shape name)
 
 abbrev pub called : Option Method → Text → List NamedGiven → Table → Result Entry FaultValue
 called None name gs t = Err (no_attribute name)
-called (Some m) name gs t = if is_answered m then on_bound (bound_of (parameters_of m) gs) (λ given. answer_for m given t) else Err not_built
+called (Some m) name gs t = if is_answered m then on_bound (bound_of (parameters_of m) gs) (λ given. answer_for m given t) else Err (no_attribute name)
 
--- a method of a value, but for those that stand below; a scalar has none
+-- a method of a value, but for those that stand below; a scalar has none. `groupby`, `rolling` and `expanding` stand in
+-- forms of their own, and no value has them without.
 abbrev pub method_result : Entry → Text → List NamedGiven → Result Entry FaultValue
 method_result (cell c) name gs = Err (no_attribute name)
 method_result (table t) name gs = called (method_named t.shape name) name gs t

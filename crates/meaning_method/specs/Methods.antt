@@ -1,4 +1,4 @@
--- What each method answers for its arguments, as far as it is built.
+-- What each method answers for its arguments.
 use Rattle.std.specs.Prelude.{ℤ, pos, nat_lt, Bool, true, false, not, ◌||◌, List, [], ◌∷◌, map, length, Option, Some, None, option_map, unwrap_or, Result, Ok, Err, if◌then◌else◌}
 use Rattle.std.specs.Int.{int_wrap, w64}
 use Rattle.std.specs.List.{list_any, list_all}
@@ -14,7 +14,7 @@ use Rattle.meaning_call.specs.cells.Reduce as reduction
 use Rattle.meaning_call.specs.cells.Reduce.{Reduction, is_present, same_cell, reduce_column, distinct_count}
 use Rattle.meaning_call.specs.cells.Cumulate as cumulation
 use Rattle.meaning_call.specs.cells.Cumulate.{Cumulation, cumulate_column}
-use Rattle.meaning_call.specs.cells.Fault.{FaultValue, wrong_kind, bad_value, no_columns, not_built, then_value}
+use Rattle.meaning_call.specs.cells.Fault.{FaultValue, wrong_kind, bad_value, no_columns, then_value}
 use Rattle.meaning_select.specs.tables.Table.{ColumnOf, Table, column_at}
 use Rattle.meaning_select.specs.tables.Value.{Entry, cell, Given, nothing, scalar_in, list_in, dict_in}
 use Rattle.meaning_call.specs.declared.Method.{Method}
@@ -188,7 +188,7 @@ answer_for (method.Labels label_method.Xs) (key ∷ level ∷ []) t = on (scalar
 answer_for (method.Table table_method.ToFrame) gs t = limited (as_frame t)
 answer_for (method.Table table_method.ToCsv) (index ∷ []) t = on (truth_in index) (λ b. csv_answer b t)
 -- no other number of arguments is bound, and no other method is answered here
-answer_for m gs t = Err not_built
+answer_for m gs t = Err wrong_kind
 
 -- whether a method is answered here: those of another shape are in `Reshape`, and those of `Other` are calls of their own
 abbrev pub is_answered : Method → Bool

@@ -1,9 +1,14 @@
 -- What the words of a command line ask for, taken as a whole.
-use Rattle.std.specs.Prelude.{ℕ, ◌+◌, ◌&&◌, nat_lt, not, Bool, List, [], ◌∷◌, ◌++◌, length, is_some, Option, Some, None, if◌then◌else◌}
+use Rattle.std.specs.Prelude.{ℕ, ◌+◌, ◌&&◌, ◌==◌, nat_lt, not, Bool, List, [], ◌∷◌, ◌++◌, length, take, drop, is_some, Option, Some, None, if◌then◌else◌}
+use Rattle.std.specs.List.{position_or_len}
 use Rattle.meaning_script.specs.cells.Text.{Text}
 use Rattle.meaning_script.specs.Reading.{path_of_name}
-use Rattle.meaning_script.specs.Run.{RunWords, cut_place, pair_in}
 use Rattle.meaning_words.specs.Words.{WordsRead, help, fault, read, words_read, demo_size}
+
+-- the script's path, and the names of files with their paths
+pub record RunWords : Type 0 where
+  pub script : Text
+  pub paths : List (Text × Text)
 
 -- what has one result in all files: help, words that are wrong, a demonstration with so many orders
 pub data Fixed : Type 0 where
@@ -24,6 +29,14 @@ IfFixed (script run) P = Unit {0}
 abbrev pub IfScript : Asked → (RunWords → Type 0) → Type 0
 IfScript (fixed asks) P = Unit {0}
 IfScript (script run) P = P run
+
+-- the place of the first `=` in a word, or its length
+abbrev pub cut_place : Text → ℕ
+cut_place word = position_or_len (λ b. b == 61) word
+
+-- the name and the path in a word
+abbrev pub pair_in : Text → Text × Text
+pair_in word = (take (cut_place word) word, drop (cut_place word + 1) word)
 
 -- a word that is a name, `=` and a path, neither of which is empty
 abbrev pub is_named_path : Text → Bool

@@ -3,9 +3,9 @@ use Rattle.std.specs.Prelude.{◌≡◌, ℕ, List, [], ◌∷◌, map}
 use Rattle.std.specs.FinMap.{get, empty, insert}
 use Rattle.meaning_script.specs.cells.Text.{Text, Contents}
 use Rattle.meaning_script.specs.Reading.{Files}
-use Rattle.meaning_script.specs.Run.{RunStep, RunResult, RunWords, finished, usage, usage_line, with_line, after_step, fetched, IsScriptResult, IsFileResult}
+use Rattle.meaning_script.specs.Run.{RunStep, RunResult, finished, usage, usage_line, with_line, after_step, fetched, IsScriptResult, IsFileResult}
 use Rattle.meaning_words.specs.Demonstration.{orders_name, orders_file, demo_script}
-use Rattle.meaning_run.specs.Asked.{Fixed, usage_help, wrong_words, demonstration, Asked, fixed, script, asked}
+use Rattle.meaning_run.specs.Asked.{RunWords, Fixed, usage_help, wrong_words, demonstration, Asked, fixed, script, asked}
 
 -- the usage line on the output
 abbrev pub help_result : RunResult

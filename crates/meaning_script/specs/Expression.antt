@@ -3,7 +3,7 @@ use Rattle.std.specs.Prelude.{Bool, true, false, List, [], ◌∷◌, is_some, O
 use Rattle.meaning_method.specs.cells.Text.{Text}
 use Rattle.meaning_method.specs.cells.Cell.{CellValue, na_cell, int_cell, truth_cell, text_cell}
 use Rattle.meaning_method.specs.cells.Operator.{cell_label}
-use Rattle.meaning_method.specs.cells.Fault.{FaultValue, no_name, no_attribute, not_built}
+use Rattle.meaning_method.specs.cells.Fault.{FaultValue, no_name, no_attribute, wrong_kind}
 use Rattle.meaning_language.specs.Tree as tree
 use Rattle.meaning_language.specs.Tree.{Expr, Step, Sub, OptionalSub, OptionalArg, OptionalExpr, Arg, Parts, bare, named, keyed}
 use Rattle.meaning_method.specs.tables.Value.{Entry, cell, Given, GivenList, GivenPairs, GivenSub, NamedGiven, nothing, one, row, many, entries, no_given, more_given, no_entries, more_entries, key_given, span_given}
@@ -110,7 +110,7 @@ abbrev mutual
   pub part_of : Files → State → Arg → Reads Given
   part_of files s (tree.expr x) = then_read (value_of files s x) (λ v. gives (one v))
   part_of files s (tree.row parts) = then_read (parts_of files s parts) (λ parts. gives (row parts))
-  part_of files s a = at_once (Err not_built)
+  part_of files s a = at_once (Err wrong_kind)
 
   pub parts_of : Files → State → Parts bare → Reads GivenList
   parts_of files s tree.no_parts = gives no_given
@@ -133,4 +133,4 @@ pub record Target : Type 0 where
 abbrev pub target_of : Files → State → Step → Reads Target
 target_of files s (tree.item a) = then_read (given_of files s a) (λ g. gives record { way = plain; first = key_given g; second = None })
 target_of files s (tree.access by first second) = then_read (sub_of files s first) (λ g. then_read (second_of files s second) (λ h. gives record { way = through by; first = g; second = h }))
-target_of files s step = at_once (Err not_built)
+target_of files s step = at_once (Err wrong_kind)

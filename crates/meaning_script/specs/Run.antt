@@ -1,10 +1,9 @@
 -- What a run prints, and how it ends.
-use Rattle.std.specs.Prelude.{◌≡◌, ◌⊎◌, ℕ, ◌+◌, ◌-◌, ◌<◌, ◌≤◌, ◌==◌, ◌&&◌, nat_lt, not, Bool, true, false, List, [], ◌∷◌, ◌++◌, length, take, drop, is_some, Option, Some, None, codes, decimal, if◌then◌else◌}
-use Rattle.std.specs.List.{flat_map, position_or_len}
-use Rattle.std.specs.FinMap.{get}
-use Rattle.meaning_method.specs.cells.Text.{Text, Contents}
+use Rattle.std.specs.Prelude.{◌≡◌, ◌⊎◌, ℕ, ◌+◌, ◌-◌, ◌<◌, ◌≤◌, nat_lt, Bool, true, false, List, [], ◌∷◌, ◌++◌, length, Option, Some, None, codes, decimal, if◌then◌else◌}
+use Rattle.std.specs.List.{flat_map}
+use Rattle.meaning_method.specs.cells.Text.{Text}
 use Rattle.meaning_language.specs.Tree.{Statement}
-use Rattle.meaning_script.specs.Reading.{Files, Reading, path_of_name}
+use Rattle.meaning_script.specs.Reading.{Files, Reading}
 use Rattle.meaning_script.specs.State.{State, no_names}
 use Rattle.meaning_script.specs.Statement.{Answer, done, refused, statement_result}
 use Rattle.meaning_language.specs.Script.{IsScript, IsSyntaxLine, most_bytes}
@@ -92,46 +91,6 @@ too_large_line = codes "script too large\n"
 abbrev pub syntax_line : ℕ → Text
 syntax_line line = line_about line (codes "SyntaxError")
 
--- a word that is no option: it isn't empty and doesn't begin with `-`, or is `-` alone
-abbrev pub is_path : Text → Bool
-is_path [] = false
-is_path (b ∷ []) = true
-is_path (b ∷ c ∷ more) = not (b == 45)
-
--- the script's path, and the names of files with their paths
-pub record RunWords : Type 0 where
-  pub script : Text
-  pub paths : List (Text × Text)
-
--- the place of the first `=` in a word, or its length
-abbrev pub cut_place : Text → ℕ
-cut_place word = position_or_len (λ b. b == 61) word
-
--- a word that is a name, `=` and a path, neither of which is empty
-abbrev pub is_pair : Text → Bool
-is_pair word = is_path word && nat_lt 0 (cut_place word) && nat_lt (cut_place word + 1) (length word)
-
--- the name and the path in a word
-abbrev pub pair_in : Text → Text × Text
-pair_in word = (take (cut_place word) word, drop (cut_place word + 1) word)
-
--- the pairs in these words after others, where all differ in their names
-abbrev pub pairs_after : List (Text × Text) → List Text → Option (List (Text × Text))
-pairs_after pairs [] = Some pairs
-pairs_after pairs (word ∷ words) =
-    if is_pair word && not (is_some (path_of_name pairs (pair_in word).0))
-    then pairs_after (pairs ++ pair_in word ∷ []) words
-    else None
-
-abbrev pub with_script : Text → Option (List (Text × Text)) → Option RunWords
-with_script path None = None
-with_script path (Some pairs) = Some record { script = path; paths = pairs }
-
--- the run in the words, of which the first is the program's name
-abbrev pub run_in : List Text → Option RunWords
-run_in (program ∷ path ∷ more) = if is_path path then with_script path (pairs_after [] more) else None
-run_in words = None
-
 -- the run of these bytes
 abbrev pub IsScriptResult : Files → List ℕ → RunResult → Type 0
 IsScriptResult files bytes result =
@@ -147,12 +106,3 @@ IsFileResult files path (Some bytes) result = IsScriptResult files bytes result
 -- The first step fetches the script.
 abbrev pub fetched : RunStep
 fetched = record { output = []; errors = []; fetches = 1 }
-
-abbrev pub IsWordsResult : Option RunWords → Contents → RunResult → Type 0
-IsWordsResult None held result = result ≡ with_line usage_line usage
-IsWordsResult (Some words) held result =
-    (rest : RunResult) × IsFileResult (record { paths = words.paths; held = held }) words.script (get held words.script) rest × (result ≡ after_step fetched rest)
-
--- the run of these words where these files are held
-abbrev pub IsRunResult : List Text → Contents → RunResult → Type 0
-IsRunResult words held result = IsWordsResult (run_in words) held result

@@ -441,7 +441,7 @@ module _ {K : Type 0} (same : K → K → Bool) (stays : Bool) (right : List K) 
 
 -- the pairs of a key, key by key
 module _ {K : Type 0} (same less : K → K → Bool) (laws : IsEquivalence same) (decides : (a b : K) → Decides (same a b) (a ≡ b)) (weak : IsStrictWeakOrder less) (left right : List K) where
-  abbrev keys_in : List K
+  abbrev pub keys_in : List K
   keys_in = keys_in_order same less (left ++ right)
 
   abbrev lefts : K → List (Option ℕ)
@@ -459,10 +459,10 @@ module _ {K : Type 0} (same less : K → K → Bool) (laws : IsEquivalence same)
   often_outer : (a b : Option ℕ) → how_often (pair a b) outer ≡ sum_by (λ key. row_often a (lefts key) * row_often b (rights key)) keys_in
   often_outer a b = often_parts _ of_key keys_in ∙ sum_by_same _ _ keys_in (λ key. often_product a b _ _)
 
-  abbrev IsThere : K → Type 0
+  abbrev pub IsThere : K → Type 0
   IsThere key = list_any (same key) (left ++ right) ≡ true
 
-  key_once : (key : K) → IsThere key → filter (same key) keys_in ≡ key ∷ []
+  pub key_once : (key : K) → IsThere key → filter (same key) keys_in ≡ key ∷ []
   key_once = grind (arith, in_order_keeps, once)
 
   -- what is counted at one key alone
@@ -493,7 +493,7 @@ module _ {K : Type 0} (same less : K → K → Bool) (laws : IsEquivalence same)
     right_only : how_often (pair None (Some j)) outer ≡ row_often None (lefts right_key)
     right_only = often_outer None (Some j) ∙ at_key _ _ (λ key. row_often None (lefts key)) right_there (λ k. grind (arith, or_gap_there (same k) j d right lt, laws.symm k right_key))
 
-  keys_stand : All IsThere keys_in
+  pub keys_stand : All IsThere keys_in
   keys_stand = all_in_order IsThere _ (distinct same (left ++ right)) (All-distinct IsThere same _ (λ k d lt. any_at _ _ k d lt (laws.refl (slice_index_or (left ++ right) k d))))
 
   -- a key of either side has a row
@@ -525,7 +525,7 @@ module _ {K : Type 0} (same less : K → K → Bool) (laws : IsEquivalence same)
     right_rows = λ k d lt. (outer_inside k d lt).1;
   }
 
-  seen : (ks : List K) → map pair_of_entry (flat_map (λ key. entries_of key (rows_where (same key) 0 left) (rows_where (same key) 0 right)) ks) ≡ flat_map of_key ks
+  pub seen : (ks : List K) → map pair_of_entry (flat_map (λ key. entries_of key (rows_where (same key) 0 left) (rows_where (same key) 0 right)) ks) ≡ flat_map of_key ks
   seen [] = refl
   seen (k ∷ ks) = search (map-append, with_seen, seen ks)
 

@@ -3,6 +3,7 @@ pub mod CodeLaws
 pub mod GrowLaws
 pub mod BelowLaws
 pub mod JoinLaws
+pub mod JoinOrderLaws
 pub mod ExchangeLaws
 pub mod UnitedLaws
 pub mod Hints

@@ -1,6 +1,7 @@
 pub mod Codes
 pub mod Pairs
 pub mod Joining
+pub mod JoinOrder
 pub mod Concats
 pub mod Parts
 pub mod Growing

@@ -7,6 +7,7 @@ ghost use Rattle.label_align.specs.Tuples.{tuple_less};
 ghost use Rattle.factorize.specs.Keys.{levels_of};
 ghost use Rattle.merge_concat.specs.Codes.{is_outer};
 ghost use Rattle.merge_concat.specs.Joining.{IsJoinOf};
+ghost use Rattle.merge_concat.specs.JoinOrder.{IsOrderedJoin};
 ghost use Rattle.merge_concat.specs.Pairs.{JoinsBy};
 
 use crate::fault::MergeFault;
@@ -56,6 +57,8 @@ pub fn join_rows<L: KeyLevels, R: KeyLevels>(
     ensures pairs { JoinsBy result (joined_within most
         same_tuple (tuple_less dict.now) how once (L.keys left.now) (R.keys right.now)) }
     ensures law { IfOk result (IsJoinOf same_tuple how (L.keys left.now) (R.keys right.now)) }
+    ensures order { IfOk result (IsOrderedJoin
+        same_tuple (tuple_less dict.now) how (L.keys left.now) (R.keys right.now)) }
 {
     let numbers = numbers_of_both(alloc, dict, left, right, is_outer(how))?;
     let codes: &[usize] = &numbers.codes;
@@ -105,6 +108,8 @@ pub fn join_pairs(
     ensures pairs { JoinsBy result
         (joined same_tuple (tuple_less dict.now) how once left.now right.now) }
     ensures law { IfOk result (IsJoinOf same_tuple how left.now right.now) }
+    ensures order { IfOk result (IsOrderedJoin
+        same_tuple (tuple_less dict.now) how left.now right.now) }
 {
     // No tuple has more than four labels.
     let _ = levels_of_both(left, right);

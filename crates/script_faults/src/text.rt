@@ -65,7 +65,6 @@ fn push_fault(line: &mut String, texts: &TextDict, code: &Code) -> Result<(), Al
         Code::NoRecords => line.push_str("EmptyDataError"),
         Code::NoFile(name) => push_words(line, "FileNotFoundError: ", name.as_str()),
         Code::Limit => line.push_str("LimitError"),
-        Code::NotBuilt => line.push_str("NotBuiltError"),
     }
 }
 

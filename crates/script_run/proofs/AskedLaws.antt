@@ -1,8 +1,7 @@
 -- What follows for a run from what its words ask for.
 use Rattle.{
   script_session.proofs.cells.Common.{◌≡◌, Option, IfSome, Contents, refl, subst},
-  script_session.specs.script.Run.{RunWords},
-  meaning_run.specs.{Asked.{Fixed, Asked, fixed, script, IfFixed, IfScript}, Result.{IsFixedResult, IsPathResult, IsAskedResult}},
+  meaning_run.specs.{Asked.{RunWords, Fixed, Asked, fixed, script, IfFixed, IfScript}, Result.{IsFixedResult, IsPathResult, IsAskedResult}},
   script_run.{specs.{Ends.{Outside, Ends}, declared.status.Status.{Status, TheVariants.{Memory}}}, proofs.{Options.{some-always}, FileLaws.{ends_unbegun}, OneResult.{fixed_one}}},
 }
 

@@ -1,8 +1,8 @@
 -- What a run means by the file that its path holds.
 use Rattle.{
-  script_session.{proofs.cells.Common.{◌≡◌, ◌≢◌, ◌≤◌, ◌<◌, ℕ, List, [], ◌∷◌, length, Option, Some, None, refl, arith, codes, ◌⊎◌, IfSome, get, Text, Contents}, specs.{language.{Tree.{Statement}, Script.{most_bytes}}, script.{Reading.{Files}, State.{no_names}, Run.{RunResult, RunWords, IsScriptResult, IsFileResult, fetched, statements_result, with_line, too_large_line, syntax_line, not_found_line, syntax, usage}}, script_state.Reads.{count_after}}},
+  script_session.{proofs.cells.Common.{◌≡◌, ◌≢◌, ◌≤◌, ◌<◌, ℕ, List, [], ◌∷◌, length, Option, Some, None, refl, arith, codes, ◌⊎◌, IfSome, get, Text, Contents}, specs.{language.{Tree.{Statement}, Script.{most_bytes}}, script.{Reading.{Files}, State.{no_names}, Run.{RunResult, IsScriptResult, IsFileResult, fetched, statements_result, with_line, too_large_line, syntax_line, not_found_line, syntax, usage}}, script_state.Reads.{count_after}}},
   outside_io.{specs.{Count.{HasRisen}, Sink.{appended, AppendsFront}}, proofs.Appended.{appended-nil}},
-  meaning_run.specs.Result.{IsPathResult},
+  meaning_run.specs.{Asked.{RunWords}, Result.{IsPathResult}},
   script_syntax.specs.Parsed.{IsTheScript, IsTheSyntaxLine},
   script_run.{specs.{Ends.{Outside, Ends, EndsByMeaning, EndsWithLine, Is}, Steps.{Does}, declared.status.Status.{Status, TheVariants.{Input, Output, Memory}}, OneResult.{IsOne}}, proofs.{StepLaws.{does_one}, RunLaws.{early_none, ends_after, ends_other, unread_first}, Options.{some-weaker}, OneResult.{file_one}}},
 }

@@ -1,7 +1,7 @@
 -- A run has exactly one result.
 use Rattle.{
-  script_session.{proofs.cells.Common.{◌≡◌, ◌≤◌, ◌<◌, ◌⊎◌, ℕ, zero, suc, List, length, Option, Some, None, refl, ap, ◌∙◌, arith, inl, inr, get, Text, Contents}, specs.{language.Script.{most_bytes}, script.{Reading.{Files}, State.{no_names}, Run.{RunResult, RunWords, IsScriptResult, IsFileResult, statements_result, after_step, fetched, with_line, syntax_line, too_large_line, syntax}}}},
-  meaning_run.specs.{Asked.{Fixed, usage_help, wrong_words, demonstration, Asked, fixed, script}, Result.{help_result, without_fetches, demo_files, IsPathResult, IsFixedResult, IsAskedResult}, words.Demonstration.{demo_script}},
+  script_session.{proofs.cells.Common.{◌≡◌, ◌≤◌, ◌<◌, ◌⊎◌, ℕ, zero, suc, List, length, Option, Some, None, refl, ap, ◌∙◌, arith, inl, inr, get, Text, Contents}, specs.{language.Script.{most_bytes}, script.{Reading.{Files}, State.{no_names}, Run.{RunResult, IsScriptResult, IsFileResult, statements_result, after_step, fetched, with_line, syntax_line, too_large_line, syntax}}}},
+  meaning_run.specs.{Asked.{RunWords, Fixed, usage_help, wrong_words, demonstration, Asked, fixed, script}, Result.{help_result, without_fetches, demo_files, IsPathResult, IsFixedResult, IsAskedResult}, words.Demonstration.{demo_script}},
   script_syntax.{specs.OneReading.{HasOneReading}, proofs.OneReading.{one_reading}},
   script_run.{specs.OneResult.{IsOne, HasOneResult}, proofs.DemoLaws.{Unfetched}},
 }

@@ -1,8 +1,7 @@
 // What the words of the command line ask for.
 ghost use Rattle.std.specs.Prelude.{◌≡◌, [], ◌∷◌, ◌++◌, true, false, None, Some, IfOk, IsErrOf, MatchOption, OnOk, map, option_map, string_bytes};
-ghost use Rattle.script_session.specs.script.Run.{pair_in};
 ghost use Rattle.script_session.specs.script_state.Reads.{paths_of};
-ghost use Rattle.meaning_run.specs.Asked.{asked, is_named_path, may_follow, names_after, of_plain, of_words};
+ghost use Rattle.meaning_run.specs.Asked.{asked, is_named_path, may_follow, names_after, of_plain, of_words, pair_in};
 ghost use Rattle.script_run.specs.Words.{asked_of};
 
 use cell_core::{NoMemory, Words};

@@ -287,7 +287,7 @@ fn item<F: Files>(
             let items = items(work, files, names, parts)?;
             Ok(Item::Row(items))
         }
-        Arg::Many(_) | Arg::Table(_) | Arg::Nothing => Err(EvalFault::Refused(Code::NotBuilt)),
+        Arg::Many(_) | Arg::Table(_) | Arg::Nothing => Err(EvalFault::Refused(Code::WrongKind)),
     }
 }
 

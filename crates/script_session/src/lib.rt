@@ -8,7 +8,7 @@
 //!
 //! The parts of an expression or an argument are evaluated from left to right (`evaluating`), and a fault of a part is
 //! that of the whole. Names stay as they are, and so do the objects that were there; what is made is noted by
-//! [`Work`](script_state::Work). A form that isn't built yet evaluates its parts and is then refused.
+//! [`Work`](script_state::Work).
 //!
 //! ```text
 //! let mut session = Session::new(alloc);

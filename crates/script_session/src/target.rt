@@ -13,7 +13,7 @@ use script_state::{EvalFault, FileNames, Work};
 use script_tree::Step;
 
 /// The last step of a target: what stands before its brackets, and the keys in them. It is refused as the keys are
-/// by [`evaluate`](crate::evaluate); a call, which can't be set, is a `NotBuiltError`.
+/// by [`evaluate`](crate::evaluate); a call, which can't be set, is a `TypeError`.
 pub fn last_step<F: Files>(
     work: &mut Work,
     files: &mut F,
@@ -36,6 +36,6 @@ pub fn last_step<F: Files>(
         Step::Method(_, _)
         | Step::Group(_, _, _, _)
         | Step::Rolling(_, _, _)
-        | Step::Expanding(_, _, _) => Err(EvalFault::Refused(Code::NotBuilt)),
+        | Step::Expanding(_, _, _) => Err(EvalFault::Refused(Code::WrongKind)),
     }
 }

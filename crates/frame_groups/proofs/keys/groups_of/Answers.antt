@@ -1,21 +1,11 @@
-use Rattle.{
-  frame_parts.proofs.Common.{arith, ◌∙◌},
-  frame_labels.proofs.KeyLaws.{keys_are},
-  frame_groups.proofs.KeyLaws.{groups_found, rows_found, labels_found},
-}
+use Rattle.frame_groups.proofs.KeyLaws.{if_ok}
 use Rattle.frame_groups.proofs.keys.groups_of.Goals as goal
 
 pub returns-clause-groups : goal.returns-clause-groups
-returns-clause-groups c =
-    let t = c.args.on.now in
-    groups_found _ t c.args.grouping.now c.len.ensures.distinct c.requires.known.given _ (keys_are t _ _ (grind arith) c.of-rows.result.count (c.of-rows.ensures.count ∙ c.rows.ensures)) c.group_by_keys.result c.group_by_keys.ensures.count c.group_by_keys.ensures.codes
+returns-clause-groups c = if_ok _ _ c.groups_by.result (λ _ are. are.groups) c.groups_by.ensures
 
 pub returns-clause-labels : goal.returns-clause-labels
-returns-clause-labels c =
-    let t = c.args.on.now in
-    labels_found _ t c.args.grouping.now c.len.ensures.distinct c.requires.known.given _ (keys_are t _ _ (grind arith) c.of-rows.result.count (c.of-rows.ensures.count ∙ c.rows.ensures)) c.group_by_keys.result c.group_by_keys.ensures.firsts
+returns-clause-labels c = if_ok _ _ c.groups_by.result (λ _ are. are.labels) c.groups_by.ensures
 
 pub returns-clause-firsts : goal.returns-clause-firsts
-returns-clause-firsts c =
-    let t = c.args.on.now in
-    rows_found _ t c.args.grouping.now c.len.ensures.distinct c.requires.known.given _ (keys_are t _ _ (grind arith) c.of-rows.result.count (c.of-rows.ensures.count ∙ c.rows.ensures)) c.group_by_keys.result c.group_by_keys.ensures.firsts
+returns-clause-firsts c = if_ok _ _ c.groups_by.result (λ _ are. are.firsts) c.groups_by.ensures

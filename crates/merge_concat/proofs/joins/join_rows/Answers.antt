@@ -1,6 +1,6 @@
 use Rattle.{
   column_core.proofs.cells.Common.{arith},
-  merge_concat.proofs.JoinLaws.{left_below, right_below, allowed, law_of},
+  merge_concat.proofs.{JoinLaws.{left_below, right_below, allowed, law_of}, JoinOrderLaws.{order_of}},
 }
 use Rattle.merge_concat.proofs.joins.join_rows.Goals as goal
 
@@ -15,3 +15,6 @@ returns-clause-pairs g c = grind (arith, allowed)
 
 pub returns-clause-law : goal.returns-clause-law
 returns-clause-law g c = law_of _ _ _ _ _ _ _ (returns-clause-pairs g c)
+
+pub returns-clause-order : goal.returns-clause-order
+returns-clause-order g c = order_of _ _ _ _ _ _ _ (returns-clause-pairs g c)

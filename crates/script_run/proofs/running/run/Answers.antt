@@ -1,6 +1,6 @@
 use Rattle.{
-  script_session.{proofs.cells.Common.{◌≡◌, map, refl, inl, inr, string_bytes}, specs.{script.Run.{RunWords, finished, usage}, script_state.Reads.{paths_of}}},
-  meaning_run.specs.Asked.{Asked, usage_help, wrong_words, demonstration, fixed, script, asked},
+  script_session.{proofs.cells.Common.{◌≡◌, map, refl, inl, inr, string_bytes}, specs.{script.Run.{finished, usage}, script_state.Reads.{paths_of}}},
+  meaning_run.specs.Asked.{RunWords, Asked, usage_help, wrong_words, demonstration, fixed, script, asked},
   script_run.{specs.{Ends.{outside}}, proofs.{RunLaws.{ends_with_line, ends_with_output}, Options.{some-always}, FileLaws.{complete_run, ends_unbegun, not_unread}, OneResult.{run_one}, AskedLaws.{fixed_ends, fixed_told, fixed_unbegun, script_here, script_told}}},
 }
 use Rattle.script_run.proofs.running.run.Goals as goal

@@ -1,5 +1,6 @@
 use Rattle.{
-  script_session.{proofs.cells.Common.{Some, refl, arith}, specs.{script.Run.{RunWords}, script_state.Reads.{paths_of}}},
+  script_session.{proofs.cells.Common.{refl, arith}, specs.script_state.Reads.{paths_of}},
+  meaning_run.specs.Asked.{RunWords},
   script_run.{specs.Ends.{outside}, proofs.{Options.{some-always, some-both, some-weaker}, RunLaws.{ends_with_line}, FileLaws.{does_fetch, ends_held, ends_absent, ends_too_large, ends_unbegun, ends_unread}, OneResult.{path_one}}},
 }
 use Rattle.script_run.proofs.running.run_file.Goals as goal

@@ -2,7 +2,7 @@ use Rattle.{
   frame_parts.proofs.Common.{◌≡◌, map, take},
   frame_labels.specs.Levels.{row_labels},
 }
-use Rattle.frame_groups.proofs.keys.key_tuples.Given as goal
+use Rattle.frame_labels.proofs.row_groups.key_tuples.Given as goal
 
 -- the tuples so far
 abbrev pub invariant-loop-k : goal.invariant-loop-k

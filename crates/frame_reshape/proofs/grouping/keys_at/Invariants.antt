@@ -1,9 +1,0 @@
-use Rattle.{
-  frame_parts.proofs.Common.{◌≡◌, map, take},
-  frame_labels.specs.Levels.{row_labels},
-}
-use Rattle.frame_reshape.proofs.grouping.keys_at.Given as goal
-
--- the tuples so far
-abbrev pub invariant-loop-k : goal.invariant-loop-k
-invariant-loop-k l = l.tuples ≡ map (row_labels l.on l.places) (take l.k l.rows)
