@@ -47,8 +47,15 @@ print(h['x'].sum())
 print(h['before'].sum())
 print(t['v'].sum())
 """
+PIVOT = """z = t.pivot_table(index='c', columns='k', values='v', aggfunc='sum')
+print(len(z))
+print(z[7].sum())
+"""
 R = "t <- fread(f[1]); %s; cat(sprintf('%%.0f\\n', c(%s)), sep = '')"
-R_BOTH = "t <- fread(f[1]); u <- fread(f[2]); m <- merge(t, u, by = 'i'%s); cat(sprintf('%%.0f\\n', c(nrow(m), sum(as.numeric(%s), na.rm = TRUE))), sep = '')"
+R_BOTH = (
+    "t <- fread(f[1]); u <- fread(f[2]); m <- merge(t, u, by = 'i'%s); "
+    "cat(sprintf('%%.0f\\n', c(nrow(m), sum(as.numeric(%s), na.rm = TRUE))), sep = '')"
+)
 SQL = "SELECT count(*) || char(10) || CAST(sum(%s) AS INT) FROM %s"
 
 
@@ -57,12 +64,14 @@ def sums(name, by, in_gawk):
     text = "z = t.groupby([%s])['v'].sum()\nprint(len(z))\nprint(z.max())\n" % ", ".join("'%s'" % each for each in by)
     asked = {"data.table": R % ("g <- t[, .(s = sum(v)), keyby = .(%s)]" % ", ".join(by), "nrow(g), max(g$s)")}
     asked["sqlite"] = "SELECT count(*) || char(10) || max(s) FROM (SELECT sum(v) AS s FROM t GROUP BY %s)" % ", ".join(by)
-    asked["gawk"] = "NR > 1 { s[%s] += $5 } END { for (k in s) { n++; if (s[k] > z) z = s[k] } printf \"%%d\\n%%d\\n\", n, z }" % in_gawk
+    asked["gawk"] = (
+        "NR > 1 { s[%s] += $5 } END { for (k in s) { n++; if (s[k] > z) z = s[k] } printf \"%%d\\n%%d\\n\", n, z }" % in_gawk
+    )
     return name, "t", text, asked
 
 
-# The name of the job, the files that it reads, its script behind the reading, and what is asked of the others, with HALF for half
-# of the number of rows. A full join of sqlite looks at each pair of rows, and isn't asked for.
+# The name of the job, the files that it reads, its script behind the reading, and what is asked of the others, with HALF for
+# half of the number of rows. A full join of sqlite looks at each pair of rows, and isn't asked for.
 JOBS = [
     ("start", "", "print(1)\n", {"data.table": "cat('1\\n')", "sqlite": "SELECT 1", "gawk": "BEGIN { print 1 }"}),
     ("load", "t", "print(len(t))\nprint(t['m'].sum())\n", {
@@ -75,18 +84,24 @@ JOBS = [
     ("merge", "tu", "m = t.merge(u, on='i')\nprint(len(m))\nprint(m['b'].sum())\n", {
         "data.table": R_BOTH % ("", "m$b"),
         "sqlite": SQL % ("b", "t JOIN u USING (i)"),
-        "gawk": "FNR == 1 { next } NR == FNR { seen[$4]; next } $1 in seen { n++; z += $2 } END { printf \"%d\\n%d\\n\", n, z }",
+        "gawk": "FNR == 1 { next } NR == FNR { seen[$4]; next } $1 in seen { n++; z += $2 } "
+        "END { printf \"%d\\n%d\\n\", n, z }",
     }),
-    ("pivot table", "t", "z = t.pivot_table(index='c', columns='k', values='v', aggfunc='sum')\nprint(len(z))\nprint(z[7].sum())\n", {
+    ("pivot table", "t", PIVOT, {
         "data.table": R % ("g <- dcast(t, c ~ k, value.var = 'v', fun.aggregate = sum)", "nrow(g), sum(as.numeric(g[['7']]))"),
     }),
     ("sort by three keys", "t", "z = t.sort_values(['k', 'w', 'v'])\nprint(z['i'].iloc[7])\nprint(z['i'].iloc[HALF])\n", {
         "data.table": R % ("setorder(t, k, w, v)", "t$i[8], t$i[HALF + 1]"),
-        "sqlite": "SELECT i FROM (SELECT i, row_number() OVER (ORDER BY CAST(k AS INT), w, CAST(v AS INT)) AS n FROM t) WHERE n IN (8, HALF + 1) ORDER BY n",
+        "sqlite": "SELECT i FROM (SELECT i, row_number() OVER (ORDER BY CAST(k AS INT), w, CAST(v AS INT)) AS n FROM t) "
+        "WHERE n IN (8, HALF + 1) ORDER BY n",
     }),
     ("windows of 50 rows", "t", "z = t['v'].rolling(50).sum()\nprint(len(z))\nprint(z.sum())\n", {
         "data.table": R % ("z <- frollsum(t$v, 50)", "length(z), sum(z, na.rm = TRUE)"),
-        "sqlite": SQL % ("s", "(SELECT CASE WHEN count(*) OVER w = 50 THEN sum(v) OVER w END AS s FROM t WINDOW w AS (ORDER BY rowid ROWS 49 PRECEDING))"),
+        "sqlite": SQL % (
+            "s",
+            "(SELECT CASE WHEN count(*) OVER w = 50 THEN sum(v) OVER w END AS s FROM t "
+            "WINDOW w AS (ORDER BY rowid ROWS 49 PRECEDING))",
+        ),
     }),
     ("sums by label", "tu", "z = t.set_index('i')['v'] + u.set_index('i')['b']\nprint(len(z))\nprint(z.sum())\n", {
         "data.table": R_BOTH % (", all = TRUE", "m$v + m$b"),
@@ -96,8 +111,10 @@ JOBS = [
             "g <- t[v > 30000]; g[, x := v * 3L - k]; g[x > 90000, x := 0L]; h <- g[, .(k, x)]; h[, y := shift(x, fill = 0L)]",
             "sum(as.numeric(h$x)), sum(as.numeric(h$y)), sum(as.numeric(t$v))",
         ),
-        "sqlite": "WITH g AS (SELECT 3 * v - k AS x FROM t WHERE v + 0 > 30000), h AS (SELECT CASE WHEN x > 90000 THEN 0 ELSE x END AS x FROM g) "
-        "SELECT sum(x) || char(10) || sum(y) || char(10) || (SELECT sum(v) FROM t) FROM (SELECT x, lag(x, 1, 0) OVER () AS y FROM h)",
+        "sqlite": "WITH g AS (SELECT 3 * v - k AS x FROM t WHERE v + 0 > 30000), "
+        "h AS (SELECT CASE WHEN x > 90000 THEN 0 ELSE x END AS x FROM g) "
+        "SELECT sum(x) || char(10) || sum(y) || char(10) || (SELECT sum(v) FROM t) "
+        "FROM (SELECT x, lag(x, 1, 0) OVER () AS y FROM h)",
         "gawk": "NR > 1 { all += $5 } NR > 1 && $5 > 30000 { x = 3 * $5 - $3; if (x > 90000) x = 0; s += x; b += p; p = x } "
         "END { printf \"%d\\n%d\\n%d\\n\", s, b, all }",
     }),
@@ -121,7 +138,8 @@ def write_tables(folder, rows):
         out.write(",".join(KINDS["t"]) + "\n")
         for row in range(rows):
             text, missing = 40503 * row % 100000, "" if row % 11 == 3 else str(91 * row % 9000)
-            out.write("city-%02d,cust-%06d,%d,%d,%d,%s\n" % (7919 * row % 50, text, 104729 * row // 50 % 20, own(row), 30011 * row % 65536, missing))
+            numbers = 104729 * row // 50 % 20, own(row), 30011 * row % 65536
+            out.write("city-%02d,cust-%06d,%d,%d,%d,%s\n" % (7919 * row % 50, text, *numbers, missing))
     with open(paths["u"], "w") as out:
         out.write(",".join(KINDS["u"]) + "\n")
         out.writelines("%d,%d\n" % (own(7919 * row % rows + row % 2 * rows), row) for row in range(rows))
@@ -142,7 +160,8 @@ def ratio(ours, theirs):
 
 
 def cells(by, found, ours, folder):
-    """The cells of another program: its seconds and the ratio, and its memory and the ratio where it is pandas with nullable kinds."""
+    """The cells of another program: its seconds and the ratio, and its memory and the ratio where it is pandas with nullable
+    kinds."""
     width = 4 if by == OTHERS[0] else 2
     if found is None:
         found = "-" if installed(by) else "not installed"
@@ -159,7 +178,8 @@ def line(asked, folder, paths, job, rows):
     half = str(rows // 2)
     script = "".join(read_line(each, KINDS[each]) for each in names) + text.replace("HALF", half)
     others = {by: part.replace("HALF", half) for by, part in of_others.items()}
-    found = commands(os.path.abspath(asked.program), folder, {each: paths[each] for each in names}, script, others, FOR_PANDAS + script)
+    files = {each: paths[each] for each in names}
+    found = commands(os.path.abspath(asked.program), folder, files, script, others, FOR_PANDAS + script)
     ours = best(found["pdscript"], os.path.join(folder, "ours"), asked)
     if ours == "failed":
         sys.exit("%s: the program failed" % name)

@@ -1,3 +1,5 @@
 pub mod TextLaws
 pub mod LabelLaws
-pub mod Hints
+pub mod PieceLaws
+pub mod KeyLaws
+pub mod SlotLaws

@@ -1,6 +1,6 @@
 -- Columns that are kept one after another.
 use Rattle.{
-  meaning_cells.{proofs.Common.{◌≡◌, ◌≢◌, ℕ, zero, suc, ◌+◌, ◌*◌, ◌<◌, ◌≤◌, pos, Bool, true, false, List, [], ◌∷◌, length, map, replicate, nat_lt, slice_set, slice_get, slice_index_or, refl, sym, ap, ◌∙◌, arith, Option, Some, None, is_some, unwrap_or, ltb-true, ltb-false, get_or-set_same, get_or-set_other, length-set, fill_by_all, range_with_len, Cell, Na, Kind, AreRowsBelow, tabulate, with_cell}, specs.Block.{in_columns, filled_with, strided}},
+  meaning_cells.{proofs.Common.{◌≡◌, ◌≢◌, ℕ, zero, suc, ◌+◌, ◌*◌, ◌<◌, ◌≤◌, pos, Bool, true, false, List, [], ◌∷◌, length, map, replicate, nat_lt, slice_set, slice_get, slice_index_or, refl, sym, ap, ◌∙◌, subst, All, get_or-map-range_with_len, arith, Option, Some, None, is_some, unwrap_or, ltb-true, ltb-false, get_or-set_same, get_or-set_other, length-set, fill_by_all, range_with_len, Cell, Na, Kind, AreRowsBelow, tabulate, with_cell}, specs.Block.{in_columns, filled_with, strided}},
   column_core.{specs.{Lanes.{option_at}, Columns.{CellColumn, column_with}, Blocks.{CellBlock, block_with}}, proofs.{ColumnLaws.{length-tabulate, get-tabulate}, MoveLaws.{get_or-tabulate}, CellRows.{range-same}, RowsMade.{option-set_same, option-set_other}}},
 }
 
@@ -83,6 +83,13 @@ columns_of = grind (arith, length-tabulate)
 
 pub rows_of : (c : CellColumn) (columns rows : ℕ) (b : CellBlock) → block_with c columns rows ≡ b → rows ≡ b.rows
 rows_of c _ _ b e = cc
+
+-- each column has as many cells as there are rows
+pub even_columns : (c : CellColumn) (columns rows : ℕ) (b : CellBlock) → block_with c columns rows ≡ b → All (λ column. length column ≡ b.rows) b.columns
+even_columns c columns rows b e = subst (λ (b : CellBlock). All (λ column. length column ≡ b.rows) b.columns) e (λ k d lt.
+    let cells : ℕ → List Cell = λ column. tabulate rows (λ row. slice_index_or c.cells (column * rows + row) Na) in
+    let within : k < columns = omega (arith, lt, length-tabulate columns cells) in
+    ap length (get_or-map-range_with_len cells 0 columns k k d within (omega arith)) ∙ length-tabulate rows _)
 
 -- the block after a cell is put
 pub put_block : (old new : CellColumn) (columns rows column row : ℕ) (x : Cell) (b : CellBlock) → block_with old columns rows ≡ b → length old.cells ≡ columns * rows

@@ -1,5 +1,5 @@
 // Blocks: columns of one kind and one length.
-ghost use Rattle.std.specs.Prelude.{◌≡◌, ◌<◌, ◌∷◌, [], ℕ, List, true, length, replicate, slice_set, slice_get, slice_index_or, Some, IfOk};
+ghost use Rattle.std.specs.Prelude.{◌≡◌, ◌<◌, ◌*◌, All, ◌∷◌, [], ℕ, List, true, length, replicate, slice_set, slice_get, slice_index_or, Some, IfOk};
 ghost use Rattle.cell_core.specs.Grids.{AreRowsBelow};
 ghost use Rattle.cell_core.specs.declared.cell.Cell.TheVariants.{Na};
 ghost use Rattle.meaning_cells.specs.Cell.{datum, holds};
@@ -86,6 +86,15 @@ impl Block {
         ensures { result ≡ self.now.rows }
     {
         self.rows
+    }
+
+    /// How many cells there are: as many in each column as there are rows. Takes no memory.
+    #[tactic(auto, using(crate::proofs::Hints::cells))]
+    pub fn cells(&self) -> usize
+        ensures count { result ≡ length self.now.columns * self.now.rows }
+        ensures even { All (λ column. length column ≡ self.now.rows) self.now.columns }
+    {
+        self.columns * self.rows
     }
 
     /// Puts a cell, which the block's kind holds, in place of the one at a column and a row. Takes no memory.

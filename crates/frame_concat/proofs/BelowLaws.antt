@@ -5,7 +5,7 @@ use Rattle.{
   frame_concat.{proofs.{PartLaws.{Parts, Headings, none_common, column_under_seen, kind_under_seen, rows_count, levels_count}, PlaceLaws.{map_given, each_of, flat_seen}}, specs.{declared.{parts.{Sought.{Sought, TheVariants.{Only, Under}}, Naming.TheVariants.{Columns}}, asked.Asked.{Asked}}, Parts.{column_sought, parts_value, AreKnownParts, AreOf, name_at}, Columns.{kind_sought, fits_kind, kinds_meet, piece_from, piece_of, cells_or_missing, sought_by, stacked, columns_stacked, rows_in, all_kinds_meet}, Below.{columns_made, table_made}, Asked.{asked_value, keys_value, AreKeysFor}, Axes.{axis_seen, levels_for}}},
   std.proofs.lemmas.{List.{Quantifiers.{position-Some}, Folds.{fold_stays}}, Bool.{and_right}},
   merge_concat.specs.{declared.parts.Part.{Part}, Parts.{part_column}},
-  frame_make.specs.{join.Concat.{column_below, rows_concatenated, ConcatRefusal}, method.Concat.{columns_below, column_or_missing, frame_column_below, Concatenation, rows_below, table_below, finished_below, name_of_all}},
+  meaning_method.specs.{join.Concat.{column_below, rows_concatenated, ConcatRefusal}, Concat.{columns_below, column_or_missing, frame_column_below, Concatenation, rows_below, table_below, finished_below, name_of_all}},
   frame_select.proofs.HeadingLaws.{head_settled, rest_settled},
 }
 

@@ -5,14 +5,14 @@ use Rattle.{
   frame_concat.{proofs.{PartLaws.{Axes, HasLevels, AreAxesOf, each_tuples, all_named, all_levels, Parts, Headings, parts_settled, numbered_labels, labels_each, levels_as}, PlaceLaws.{united_all, flat_seen, each_of}}, specs.{declared.{asked.Asked.{Asked}, parts.Naming.TheVariants.{Columns}}, Asked.{asked_value}, Parts.{parts_value, AreKnownParts, name_at, have_same_levels}, Headings.{numbered}, Beside.{met_beside, AreBlocks, IsAxisFor}, Axes.{HasLevelsOf, levels_of, named_after, IsAlike}}},
   merge_concat.specs.Axes.{tuples_of_each},
   cell_core.specs.declared.code.Code.TheVariants.{RepeatedLabel},
-  frame_make.specs.{join.Concat.{united, are_equal, repeated_on_any, labels_concatenated, unless_repeated as unless_label, ConcatRefusal, first_axis}, method.Concat.{Concatenation, rows_met, labels_of_tables, table_beside, unless_label_twice, headings_beside, numbered_from, name_of_all, columns_beside, level_names_of_all}},
+  meaning_method.specs.{join.Concat.{united, are_equal, repeated_on_any, labels_concatenated, unless_repeated as unless_label, ConcatRefusal, first_axis}, Concat.{Concatenation, rows_met, labels_of_tables, table_beside, unless_label_twice, headings_beside, numbered_from, name_of_all, columns_beside, level_names_of_all}},
   frame_select.{proofs.{HeadingLaws.{repeated_seen, different}, RefusalLaws.{repeated_settled}}, specs.Headings.{NamesRepeated, repeated_heading}},
 }
 use Rattle.column_core.specs.cells.Fault as fault
-use Rattle.frame_make.specs.join.Concat as join
+use Rattle.meaning_method.specs.join.Concat as join
 use Rattle.row_keys.specs.Keys as numbers
 use Rattle.frame_concat.proofs.PlaceLaws as seen
-use Rattle.frame_make.specs.method.Concat as meant
+use Rattle.meaning_method.specs.Concat as meant
 
 -- numbered headings, with their texts
 module _ (texts : List Text) where

@@ -7,12 +7,12 @@ use Rattle.{
   indexmap.specs.IndexSet.{insert_key},
   cell_core.specs.declared.memory.NoMemory.{NoMemory},
   frame_concat.{specs.{Parts.{same_heading, column_sought, parts_value, headings_of_each, AreKnownParts, name_at, have_same_levels, AreOf, AreSettledParts}, declared.parts.{Sought.{Sought, TheVariants.{Under}}, Naming.{Naming, TheVariants.{Columns, Level, Series}}}, Columns.{kind_sought, rows_in}, Axes.{names_of_levels, axis_seen, levels_with, levels_of, named_after}, Headings.{common_headings}, Asked.{keys_value, KeysFit}}, proofs.PlaceLaws.{map_given, united_seen, united_all, flat_seen, each_of}},
-  frame_make.specs.{method.Concat.{labels_of_tables, column_under, kind_under, kept_names, level_names_of_all, name_of_all, tables_from, tables_of, rows_below}, join.Concat.{united, labels_under}},
+  meaning_method.specs.{Concat.{labels_of_tables, column_under, kind_under, kept_names, level_names_of_all, name_of_all, tables_from, tables_of, rows_below}, join.Concat.{united, labels_under}},
   frame_store.specs.Arguments.{IsLiveObject},
   merge_concat.specs.Axes.{HaveLevelsOfFirst, levels_of_first, tuples_below, levels_below},
 }
 use Rattle.frame_parts.specs.form.Finish as finish
-use Rattle.frame_make.specs.method.Concat as meant
+use Rattle.meaning_method.specs.Concat as meant
 
 -- a heading that isn't among those before it
 not_before : (h : Option Label) (hs : List (Option Label)) → ((k : ℕ) → k < length hs → slice_index_or hs k None ≢ h) → list_any (same_heading h) hs ≡ false

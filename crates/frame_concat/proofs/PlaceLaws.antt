@@ -3,7 +3,7 @@ use Rattle.{
   frame_parts.proofs.{Common.{subst, All, ◌≡◌, ◌<◌, ◌+◌, ◌-◌, arith, ℕ, List, [], ◌∷◌, ◌++◌, map, length, take, drop, slice_index_or, Option, refl, Bool, true, false, ◌&&◌, Some, nat_lt, length-map, take_all, map-append, take_more, All-nil, All-head, All-tail, All-filter, get_or-map, list_all, list_any, flat_map, option_map, Cell, Na, CellBlock, taken, ColumnOf, no_column, on_rows, columns_of, block_column, first_where, first_repeated, all_flat, all_distinct, first_map, distinct_map}, align.SeenLaws.{filter_map}},
   std.proofs.lemmas.List.{append_assoc},
   multi_index.proofs.pick.{RowLaws.{rows_where-map}, SeenLaws.{pointwise-map}},
-  frame_make.specs.join.Concat.{united, are_equal, repeated_on_any},
+  meaning_method.specs.join.Concat.{united, are_equal, repeated_on_any},
 }
 pub use Rattle.multi_index.proofs.LevelLaws.{maps_alike as map_given}
 

@@ -5,7 +5,7 @@ use Rattle.std.specs.Global.{Vec}
 use Rattle.cell_core.specs.declared.cell.Label.{Label}
 use Rattle.column_core.specs.cells.Text.{Text}
 use Rattle.column_core.specs.cells.Cell.{LabelValue, label_datum}
-use Rattle.frame_make.specs.method.Concat.{Concatenation}
+use Rattle.meaning_method.specs.Concat.{Concatenation}
 use Rattle.frame_concat.specs.declared.asked.Asked.{Asked}
 
 -- the labels of parts with their texts

@@ -8,7 +8,7 @@ use Rattle.column_core.specs.cells.Text.{Text}
 use Rattle.column_core.specs.cells.Cell.{LabelValue}
 use Rattle.multi_index.specs.Axes.{AxisValue, HaveLevels}
 use Rattle.frame_store.specs.tables.Table.{NumberedTable, Table}
-use Rattle.frame_make.specs.method.Concat.{RowAxis, name_of_all}
+use Rattle.meaning_method.specs.Concat.{RowAxis, name_of_all}
 use Rattle.frame_store.specs.Shown.{labels_value, headings_value}
 use Rattle.frame_concat.specs.declared.asked.Asked.{Asked}
 use Rattle.frame_concat.specs.declared.parts.Naming.TheVariants.{Level}

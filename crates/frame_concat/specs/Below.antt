@@ -7,7 +7,7 @@ use Rattle.column_core.specs.cells.Fault.{FaultValue, then_value}
 use Rattle.frame_store.specs.tables.Table.{ColumnOf, Table, column_at}
 use Rattle.frame_store.specs.tables.Value.{Entry}
 use Rattle.frame_parts.specs.form.Finish.{try_all}
-use Rattle.frame_make.specs.method.Concat.{Concatenation, columns_below, frame_column_below, table_below, finished_below}
+use Rattle.meaning_method.specs.Concat.{Concatenation, columns_below, frame_column_below, table_below, finished_below}
 
 -- the column of each heading, or the only one
 abbrev pub columns_made : Shape → List Table → List (Option LabelValue) → Result (List (ColumnOf CellValue)) FaultValue

@@ -6,14 +6,14 @@ use Rattle.column_core.specs.cells.Text.{Text}
 use Rattle.column_core.specs.cells.Fault.{FaultValue}
 use Rattle.frame_parts.specs.align.Faults.{met_rows}
 use Rattle.frame_parts.specs.align.Targets.{reindexed}
-use Rattle.frame_make.specs.join.Concat.{united, repeated_on_any}
+use Rattle.meaning_method.specs.join.Concat.{united, repeated_on_any}
 use Rattle.multi_index.specs.Axes.{AxisValue}
 use Rattle.frame_store.specs.tables.Settled.{IsSettled}
 use Rattle.frame_store.specs.tables.Table.{NumberedTable, Table}
 use Rattle.frame_store.specs.tables.Value.{Entry}
 use Rattle.frame_parts.specs.form.Finish.{finished}
 use Rattle.frame_parts.specs.form.Infix.{same_tuple}
-use Rattle.frame_make.specs.method.Concat.{Concatenation, rows_met, labels_of_tables, table_beside, unless_label_twice}
+use Rattle.meaning_method.specs.Concat.{Concatenation, rows_met, labels_of_tables, table_beside, unless_label_twice}
 use Rattle.frame_store.specs.Shown.{labels_value}
 use Rattle.frame_store.specs.Parts.{block_column, IsSingle, HaveRows}
 

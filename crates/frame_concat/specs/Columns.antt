@@ -9,7 +9,7 @@ use Rattle.cell_core.specs.declared.cell.Kind.TheVariants.{Int64}
 use Rattle.cell_core.specs.declared.cell.Label.{Label}
 use Rattle.cell_core.specs.declared.grid.Shape.{Shape}
 use Rattle.cell_core.specs.declared.grid.Shape.TheVariants as shape
-use Rattle.frame_make.specs.join.Concat.{same_kind}
+use Rattle.meaning_method.specs.join.Concat.{same_kind}
 use Rattle.merge_concat.specs.declared.parts.Part.{Part}
 use Rattle.merge_concat.specs.declared.parts.Part.TheVariants.{Cells, Missing}
 use Rattle.frame_store.specs.tables.Table.{ColumnOf, NumberedTable}

@@ -3,7 +3,7 @@ ghost use Rattle.std.specs.Prelude.{◌≡◌, List, Result, OnOk};
 ghost use Rattle.column_core.specs.cells.Text.{Text};
 ghost use Rattle.column_core.specs.cells.Fault.{FaultValue};
 ghost use Rattle.frame_store.specs.tables.Value.{Entry};
-ghost use Rattle.frame_make.specs.method.Concat as meant;
+ghost use Rattle.meaning_method.specs.Concat as meant;
 ghost use Rattle.frame_parts.specs.Makes.{Passes};
 ghost use Rattle.frame_concat.specs.Asked.{asked_value, AreKeysFor};
 

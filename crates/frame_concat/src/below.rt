@@ -4,9 +4,9 @@ ghost use Rattle.cell_core.specs.declared.grid.Shape.TheVariants.{Series, Frame}
 ghost use Rattle.frame_store.specs.tables.Settled.{IsSettled};
 ghost use Rattle.frame_store.specs.tables.Valid.{AreHeadings};
 ghost use Rattle.frame_parts.specs.form.Finish.{same_heading};
-ghost use Rattle.frame_make.specs.join.Concat.{united};
+ghost use Rattle.meaning_method.specs.join.Concat.{united};
 ghost use Rattle.frame_store.specs.Shown.{headings_value, Makes};
-ghost use Rattle.frame_make.specs.method.Concat as meant;
+ghost use Rattle.meaning_method.specs.Concat as meant;
 ghost use Rattle.frame_concat.specs.Parts.{parts_value, headings_of_each, have_same_levels, AreOf, AreKnownParts};
 ghost use Rattle.frame_concat.specs.Columns.{rows_in};
 ghost use Rattle.frame_concat.specs.Asked.{asked_value, AreKeysFor};

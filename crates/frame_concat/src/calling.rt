@@ -7,7 +7,7 @@ ghost use Rattle.frame_store.specs.tables.Value.{list_in};
 ghost use Rattle.meaning_call.specs.declared.Accepted.TheVariants as accepted;
 ghost use Rattle.meaning_call.specs.Binding.{truth_in};
 ghost use Rattle.frame_parts.specs.form.Select.{labels_of};
-ghost use Rattle.frame_make.specs.method.Concat as meant;
+ghost use Rattle.meaning_method.specs.Concat as meant;
 ghost use Rattle.frame_store.specs.Arguments.{items_of};
 ghost use Rattle.frame_store.specs.Objects.{Tables};
 ghost use Rattle.frame_store.specs.Shown.{Makes};
@@ -22,7 +22,7 @@ use crate::beside::beside;
 use crate::gathering::{labels_of, parts_of};
 use crate::parts::Part;
 use cell_core::{Code, Label, NoMemory, Reason, TextDict};
-use frame_signatures::{Bound, bind, function_parameters};
+use frame_signatures::{Bound, arguments, bind, function_parameters};
 use frame_store::{Item, Named, OpFault, Store, Table};
 use meaning_call::Function;
 use std::alloc::Global;
@@ -44,7 +44,7 @@ fn is_across(bound: &Bound<'_>) -> bool
     ensures { (live : Tables) (texts : List Text)
         → result ≡ meant.is_across (stands_at live texts bound.now 1) }
 {
-    bound.whole(1) == 1
+    bound.whole(arguments::CONCAT_AXIS) == 1
 }
 
 // What a call asks for besides the axis.
@@ -59,9 +59,9 @@ fn asked_by(alloc: Global, dict: &TextDict, bound: &Bound<'_>) -> Result<Asked, 
         ≡ option_map labels_of (list_in (stands_at live texts bound.now 4))) }
 {
     Ok(Asked {
-        inner: bound.text(dict, 2) == "inner",
-        renumbered: bound.truth(3),
-        keys: keys_in(alloc, bound.list_or_none(4))?,
+        inner: bound.text(dict, arguments::CONCAT_JOIN) == "inner",
+        renumbered: bound.truth(arguments::CONCAT_IGNORE_INDEX),
+        keys: keys_in(alloc, bound.list_or_none(arguments::CONCAT_KEYS))?,
     })
 }
 
@@ -89,8 +89,27 @@ fn concatenated(
     }
 }
 
-// What `pd.concat` makes of these arguments.
-pub(crate) fn concat(
+/// What `pd.concat` makes of these arguments.
+///
+/// `pd.concat(objects, axis=0, join="outer", ignore_index=False, keys=None)` puts a list of Series and frames together
+/// ("Merge, join, concatenate and compare" in the pandas user guide). On axis 0 the rows stand one part after the
+/// other: of Series a Series, of frames a frame of the columns that any part has, in the order of first sight, or with
+/// `join="inner"` of those that all have; cells that a part lacks are missing. `ignore_index=True` numbers the rows,
+/// and `keys` gives each part a label in one level more. On axis 1 the columns stand side by side. The rows keep their
+/// labels where all parts have the same; else they meet by their labels, which are all that any part has, or with
+/// `join="inner"` those that all have. Nameless Series are numbered from 0 on, and with `ignore_index=True` all
+/// columns. Names of levels and of the columns stay where all parts have them.
+///
+/// # Errors
+///
+/// In this order: `WrongKind` or `BadValue(Argument)` where the arguments aren't bound, the latter also for an empty
+/// list and for `keys` beside `ignore_index=True`; `WrongKind` for `keys` on axis 1; `BadValue(Length)` where there
+/// aren't as many keys as parts; on axis 0 `WrongKind` for Series beside frames; `BadValue(Levels)` for different
+/// numbers of levels, on axis 1 only where labels differ; on axis 1 `RepeatedLabel` for the first label that stands
+/// twice in a part where labels differ, and `BadValue(Repeated)` for two columns of one label; on axis 0 `WrongKind`
+/// for a column that has different kinds; `Limit` for more than four levels, and for a table beyond the limits.
+/// `NoMemory` may come in place of any answer.
+pub fn concat(
     alloc: Global,
     store: &Store,
     dict: &TextDict,
@@ -102,7 +121,7 @@ pub(crate) fn concat(
         (meant.concat_call (arguments_in (world store.now dict.now) args.now)) }
 {
     let bound = bind(store, dict, function_parameters(Function::Concat), args)?;
-    let parts = parts_of(alloc, store, bound.objects(0))?;
+    let parts = parts_of(alloc, store, bound.objects(arguments::CONCAT_OBJECTS))?;
     let asked = asked_by(alloc, dict, &bound)?;
     concatenated(alloc, dict, is_across(&bound), &parts, &asked)
 }

@@ -3,7 +3,7 @@ ghost use Rattle.std.specs.Prelude.{◌≡◌, List, map, IfOk};
 ghost use Rattle.column_core.specs.cells.Text.{Text};
 ghost use Rattle.column_core.specs.cells.Cell.{label_datum};
 ghost use Rattle.frame_parts.specs.form.Select.{labels_of};
-ghost use Rattle.frame_make.specs.method.Concat as meant;
+ghost use Rattle.meaning_method.specs.Concat as meant;
 ghost use Rattle.frame_store.specs.Arguments.{items_of, AreLiveItems};
 ghost use Rattle.frame_store.specs.Objects.{Tables, tables};
 ghost use Rattle.frame_concat.specs.Parts.{parts_value, AreSettledParts};

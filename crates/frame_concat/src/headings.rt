@@ -1,7 +1,7 @@
 // The headings of what is put together.
 ghost use Rattle.std.specs.Prelude.{◌≡◌, true, false, IfOk};
 ghost use Rattle.std.specs.List.{flat_map};
-ghost use Rattle.frame_make.specs.join.Concat.{united};
+ghost use Rattle.meaning_method.specs.join.Concat.{united};
 ghost use Rattle.frame_concat.specs.Parts.{same_heading, headings_of_each};
 ghost use Rattle.frame_concat.specs.Headings.{held_by_all, common_headings, gets_number, numbered};
 

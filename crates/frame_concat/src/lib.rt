@@ -1,9 +1,7 @@
-//! The functions of `pd`, and among them `pd.concat` of objects: Series and frames one below the other, or side by side.
+//! `pd.concat` of objects: Series and frames one below the other, or side by side.
 //!
-//! [`make`] calls a function by its name, and gives what it makes an object; [`function_exists`] says whether `pd` has a
-//! function of a name. The contract says that the answer is the one that is meant, or its first fault, and that no
-//! other object changes; the definitions are `specs/Functions.antt` and `specs/Concat.antt` of the crate
-//! `meaning_method`.
+//! [`concat`] makes a table of the arguments of a call, or gives the first fault of what is meant; the definition is
+//! `specs/Concat.antt` of the crate `meaning_method`.
 //!
 //! The objects are read as parts whose headings are found by a hash (`parts`, `gathering`). One below the other
 //! (`below`) the columns of a heading must have one kind (`columns`), and the labels of the rows follow each other
@@ -12,7 +10,7 @@
 //!
 //! ```text
 //! // `pd.concat([f, g], axis=1)`: `args` has a list of two objects, and the whole number 1 under the name `axis`
-//! let made = make(alloc, &mut store, &mut dict, "concat", &args, None)?;
+//! let table = concat(alloc, &store, &dict, args.as_slice())?;
 //! ```
 #![tactic(auto)]
 
@@ -22,10 +20,9 @@ mod below;
 mod beside;
 mod calling;
 mod columns;
-mod functions;
 mod gathering;
 mod headings;
 mod names;
 mod parts;
 
-pub use functions::{function_exists, make};
+pub use calling::concat;

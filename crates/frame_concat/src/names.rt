@@ -3,8 +3,8 @@ ghost use Rattle.std.specs.Prelude.{◌≡◌, not, map};
 ghost use Rattle.std.specs.List.{list_all};
 ghost use Rattle.frame_store.specs.tables.Settled.{IsSettled};
 ghost use Rattle.frame_store.specs.tables.Table.{heading_value};
-ghost use Rattle.frame_make.specs.method.Concat as meant;
-ghost use Rattle.frame_make.specs.method.Concat.{is_series};
+ghost use Rattle.meaning_method.specs.Concat as meant;
+ghost use Rattle.meaning_method.specs.Concat.{is_series};
 ghost use Rattle.frame_concat.specs.Parts.{name_at, parts_value, have_same_levels, AreKnownParts};
 
 use crate::parts::{Naming, Part};

@@ -1,16 +1,14 @@
 // Calls behind `groupby` on objects.
-ghost use Rattle.std.specs.Prelude.{◌≡◌, true, Some, IfOk, IfSome};
+ghost use Rattle.std.specs.Prelude.{◌≡◌, Some, IfOk, IfSome};
 ghost use Rattle.std.specs.Option.{option_map};
 ghost use Rattle.cell_core.specs.declared.grid.Shape.TheVariants.{Frame};
 ghost use Rattle.column_core.specs.cells.Cell.{IsLonger};
 ghost use Rattle.frame_store.specs.tables.Settled.{IsSettled};
 ghost use Rattle.frame_store.specs.tables.Table.{heading_value};
 ghost use Rattle.frame_labels.specs.method.Groups as meant;
-ghost use Rattle.frame_labels.specs.method.Calls.{call_result};
 ghost use Rattle.frame_store.specs.Arguments.{object_value, shape_at, IsLive, IsLiveObject};
 ghost use Rattle.frame_store.specs.Objects.{tables, table_at};
 ghost use Rattle.frame_store.specs.World.{world, entry_in, argument_in, arguments_in, IsSettledWorld, IsKnownArgument, AreKnownArguments, Forms};
-ghost use Rattle.frame_labels.specs.Chains.{chain_in, is_grouped, IsKnownChain};
 ghost use Rattle.frame_groups.specs.Calls.{call_of};
 ghost use Rattle.frame_groups.specs.Grouped.{grouping_seen, values_seen, HasKeys, AreValues};
 
@@ -22,7 +20,7 @@ use crate::grouping::{Grouping, grouping_of};
 use crate::values::{Values, values_of};
 use cell_core::{Grid, Label, NoMemory, Shape, TextDict};
 use frame_labels::no_attribute;
-use frame_store::{Argument, Chain, Named, NamedList, ObjId, OpFault, Store, Value, placed};
+use frame_store::{Argument, Named, ObjId, OpFault, Store, Value, placed};
 use std::alloc::Global;
 
 // The heading of sizes: none where they are a Series.
@@ -103,13 +101,17 @@ fn answer(
     }
 }
 
-// What stands behind `groupby` of a frame: its arguments, its brackets, and the last call.
+/// A call behind `groupby`: its arguments, what stands in brackets behind them, the last name and its arguments.
 #[derive(Clone, Copy)]
-struct GroupedCall<'a> {
-    by: &'a [Named],
-    brackets: Option<&'a Argument>,
-    name: &'a str,
-    args: &'a [Named],
+pub struct GroupedCall<'a> {
+    /// The arguments of `groupby`.
+    pub by: &'a [Named],
+    /// What stands in brackets, if they are there.
+    pub brackets: Option<&'a Argument>,
+    /// The last name.
+    pub name: &'a str,
+    /// The arguments of the last call.
+    pub args: &'a [Named],
 }
 
 // A call behind `groupby` of a frame.
@@ -139,8 +141,23 @@ fn on_frame(
     answer(alloc, store, dict, &grouping, &values, last, on)
 }
 
-// A call behind `groupby` of any value: only a frame has groups.
-fn on_value(
+/// A method behind `groupby` of a frame: `f.groupby(by, ..)[..].name(..)`.
+///
+/// The answer is a new object whose table is that of its own rows; no other object changes. `sum`, `min`, `max`,
+/// `count`, `nunique`, `first` and `last` reduce each group, `size` counts its rows; `cumsum`, `cumcount` and
+/// `transform` keep the rows of the frame ("Group by: split-apply-combine" in the pandas user guide).
+///
+/// # Errors
+///
+/// In this order: `NoAttribute` where the value has no `groupby`, as a scalar and a Series; `WrongKind` of arguments of
+/// `groupby` that are unknown, missing, too many, given twice or of another form; `NoKey` of a label in `by` that no
+/// column has; `Limit` of more than four keys that are to be labels; `WrongKind` of brackets of another form than a
+/// label or a list of labels, and `NoKey` of a label in them that no column has; `NoAttribute` of another last name;
+/// `WrongKind` of its arguments, and `BadValue(Argument)` where `transform` is told another name than one of the
+/// reductions; `WrongKind` of a column whose kind the call doesn't take; `BadValue(Repeated)` of a label that stands
+/// again in a frame that is answered; `Limit`. `NoMemory` may come in place of any answer. After a refusal all objects
+/// are as they were.
+pub fn method(
     alloc: Global,
     store: &mut Store,
     dict: &mut TextDict,
@@ -164,52 +181,5 @@ fn on_value(
     match store.read(id).shape() {
         Shape::Series => Err(no_attribute(alloc, "groupby")),
         Shape::Frame => on_frame(alloc, store, dict, id, call),
-    }
-}
-
-/// A method behind `groupby` of a frame: `f.groupby(by, ..)[..].name(..)`.
-///
-/// The answer is a new object whose table is that of its own rows; no other object changes. `sum`, `min`, `max`,
-/// `count`, `nunique`, `first` and `last` reduce each group, `size` counts its rows; `cumsum`, `cumcount` and
-/// `transform` keep the rows of the frame ("Group by: split-apply-combine" in the pandas user guide).
-///
-/// # Errors
-///
-/// In this order: `NoAttribute` where the value has no `groupby`, as a scalar and a Series; `WrongKind` of arguments of
-/// `groupby` that are unknown, missing, too many, given twice or of another form; `NoKey` of a label in `by` that no
-/// column has; `Limit` of more than four keys that are to be labels; `WrongKind` of brackets of another form than a
-/// label or a list of labels, and `NoKey` of a label in them that no column has; `NoAttribute` of another last name;
-/// `WrongKind` of its arguments, and `BadValue(Argument)` where `transform` is told another name than one of the
-/// reductions; `WrongKind` of a column whose kind the call doesn't take; `BadValue(Repeated)` of a label that stands
-/// again in a frame that is answered; `Limit`. `NoMemory` may come in place of any answer. After a refusal all objects
-/// are as they were.
-pub fn method(
-    alloc: Global,
-    store: &mut Store,
-    dict: &mut TextDict,
-    on: Value,
-    chain: &Chain,
-    args: &NamedList,
-) -> Result<Value, OpFault>
-    requires chain { is_grouped chain.now ≡ true }
-    requires live { IsLive (tables store.old) on }
-    requires settled { IsSettledWorld (world store.old dict.old) }
-    requires before { IsKnownChain (world store.old dict.old) chain.now }
-    requires arguments { AreKnownArguments (world store.old dict.old) args.now }
-    ensures { let w = world store.old dict.old in
-        Forms result (call_result (entry_in w on) (chain_in w chain.now)
-        (arguments_in w args.now)) w (world store.new dict.new) }
-{
-    match chain {
-        Chain::Group(by, brackets, name) => {
-            let call = GroupedCall {
-                by: by.as_slice(),
-                brackets: brackets.as_ref(),
-                name: name.as_str(),
-                args: args.as_slice(),
-            };
-            on_value(alloc, store, dict, on, call)
-        }
-        Chain::Plain(_) | Chain::Rolling(_, _) | Chain::Expanding(_, _) => unreachable!(),
     }
 }

@@ -57,6 +57,9 @@ fn plain_call(name: &str) -> Option<GroupCall>
     }
 }
 
+// The place of the name that `transform` is told.
+const TRANSFORM_NAME: usize = 0;
+
 // What `transform` is told: the name of a reduction.
 fn transform_parameters() -> &'static [Parameter]
     ensures { result.now ≡ meant.transform_parameters }
@@ -115,7 +118,7 @@ pub(crate) fn group_call(
     match name {
         "transform" => {
             let bound = bind(store, dict, transform_parameters(), args)?;
-            transformed(bound.text(dict, 0))
+            transformed(bound.text(dict, TRANSFORM_NAME))
         }
         _ => without_arguments(alloc, store, dict, name, args),
     }

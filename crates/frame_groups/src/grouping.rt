@@ -11,7 +11,7 @@ ghost use Rattle.frame_groups.specs.Grouped.{grouping_seen, HasKeys, AreKeys};
 
 use cell_core::{Code, Places, TextDict};
 use frame_labels::named_places;
-use frame_signatures::{Bound, bind, parameters};
+use frame_signatures::{Bound, arguments, bind, parameters};
 use frame_store::{Named, ObjId, OpFault, Store};
 use meaning_call::{Method, OtherMethod};
 use std::alloc::Global;
@@ -75,9 +75,9 @@ pub(crate) fn grouping_of(
         parameters(Method::Other(OtherMethod::Groupby)),
         by,
     )?;
-    let sorted = bound.truth(1);
-    let dropna = bound.truth(2);
-    let as_index = bound.truth(3);
+    let sorted = bound.truth(arguments::GROUPBY_SORT);
+    let dropna = bound.truth(arguments::GROUPBY_DROPNA);
+    let as_index = bound.truth(arguments::GROUPBY_AS_INDEX);
     let keys = keys_in(alloc, store, dict, &bound, as_index, on)?;
     Ok(Grouping {
         keys,

@@ -3,7 +3,7 @@ ghost use Rattle.std.specs.Prelude.{◌≡◌, ◌≤◌, length, map, IfOk};
 ghost use Rattle.frame_store.specs.tables.Table.{table_value};
 ghost use Rattle.frame_store.specs.tables.Valid.{IsWhole};
 ghost use Rattle.frame_labels.specs.method.Groups as meant;
-ghost use Rattle.frame_store.specs.Parts.{AreRowsOf, AreColumnsOf};
+ghost use Rattle.frame_store.specs.Parts.{labelled, AreRowsOf, AreColumnsOf};
 ghost use Rattle.frame_store.specs.Shown.{labels_value};
 ghost use Rattle.frame_store.specs.World.{IsKnownTable};
 ghost use Rattle.frame_select.specs.Selected.{headings_at};
@@ -19,7 +19,7 @@ use frame_store::ObjRef;
 use multi_index::Axis;
 use std::alloc::Global;
 
-// The group of each row, and the first row of each group.
+// The group of each row, and a row of each group that has its key.
 pub(crate) fn groups_of(
     alloc: Global,
     dict: &TextDict,
@@ -59,7 +59,7 @@ pub(crate) fn key_axis(
     requires some { 1 ≤ length keys.now }
     requires few { length keys.now ≤ 4 }
     requires rows { AreRowsOf on.now rows.now }
-    ensures { IfOk result (λ axis. axis ≡ record {
+    ensures { IfOk result (λ axis. labelled axis ≡ record {
       tuples = map (row_labels on.now keys.now) rows.now;
       names = headings_at on.now keys.now;
     }) }

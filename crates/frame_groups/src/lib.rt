@@ -11,8 +11,8 @@
 //!
 //! ```text
 //! // `f.groupby("city")["total"].sum()`
-//! let chain = Chain::Group(by, Some(brackets), sum);
-//! let sums = method(alloc, &mut store, &mut dict, frame, &chain, &NamedList::new(alloc))?;
+//! let call = GroupedCall { by: by.as_slice(), brackets: Some(&brackets), name: "sum", args: &[] };
+//! let sums = method(alloc, &mut store, &mut dict, frame, call)?;
 //! ```
 #![tactic(auto)]
 
@@ -27,4 +27,4 @@ mod keys;
 mod kinds;
 mod values;
 
-pub use calling::method;
+pub use calling::{GroupedCall, method};

@@ -15,7 +15,7 @@ ghost use Rattle.frame_groups.specs.Grouped.{values_seen, AreValues};
 
 use cell_core::{Cell, Code, Grid, Label, Places, TextDict};
 use frame_labels::places_besides;
-use frame_select::{column_place, column_places, scalars_alone};
+use frame_select::{argument_column, argument_columns, scalars_alone};
 use frame_store::{Argument, Item, ObjId, ObjRef, OpFault, Store};
 use std::alloc::Global;
 
@@ -34,7 +34,7 @@ fn labelled(alloc: Global, dict: &TextDict, on: &ObjRef<'_>, cell: Cell) -> Resu
         (meant.values_named (table_value dict.now on.now) (Some (datum dict.now cell)) None) }
     ensures values { IfOk result (AreValues on.now) }
 {
-    let place = column_place(alloc, dict, on, Label::from(cell))?;
+    let place = argument_column(alloc, dict, on, Label::from(cell))?;
     let mut places = Places::new(alloc);
     places.push(place)?;
     Ok(Values {
@@ -60,7 +60,7 @@ fn listed(
     let Some(cells) = scalars_alone(alloc, items)? else {
         return Err(OpFault::Refused(Code::WrongKind));
     };
-    let places = column_places(alloc, dict, on, &cells)?;
+    let places = argument_columns(alloc, dict, on, &cells)?;
     Ok(Values {
         places,
         single: false,

@@ -1,7 +1,8 @@
 -- Columns as the labels of the rows.
 use Rattle.{
-  frame_parts.proofs.Common.{zero, suc, ◌≡◌, refl, sym, arith, ℕ, ◌+◌, ◌<◌, ◌≤◌, true, false, List, [], ◌∷◌, ◌++◌, map, length, take, get_or, slice_index_or, All, Option, Some, None, Ok, Err, get_or-map, nat_tests, length-map, map-append, take_more, length-range_with_len, length-map-range_with_len, get_or-map-range_with_len, All-map, get_or_from_slice_get, filter, slice_get, IsSome, range_with_len, AreDistinct, Cell, Label, Frame, na_cell, datum, limit, cell_label, Text, AxisValue, HaveLevels, single_tuples, IsSettled, ColumnOf, NumberedTable, Table, column_at, table_value, heading_value, tuple_value, column_value, IsWhole, within_limits, limited, unless_repeated, heading_at, label_of, OpFault, Refused, NoMemory, HeadingList, AreColumnsOf, table_with, labels_value, headings_value, Makes, settled_by, headings_part},
+  frame_parts.proofs.Common.{zero, suc, ◌≡◌, refl, sym, arith, ℕ, ◌+◌, ◌<◌, ◌≤◌, true, false, List, [], ◌∷◌, ◌++◌, map, length, take, get_or, slice_index_or, All, Option, Some, None, Ok, Err, get_or-map, nat_tests, length-map, map-append, take_more, length-range_with_len, length-map-range_with_len, get_or-map-range_with_len, All-map, get_or_from_slice_get, filter, slice_get, IsSome, range_with_len, AreDistinct, Cell, Label, Frame, na_cell, datum, limit, cell_label, Text, AxisValue, HaveLevels, single_tuples, IsSettled, NumberedTable, Table, column_at, table_value, heading_value, tuple_value, column_value, IsWhole, within_limits, limited, unless_repeated, heading_at, label_of, OpFault, Refused, NoMemory, HeadingList, AreColumnsOf, table_with, labels_value, headings_value, Makes, settled_by, headings_part},
   column_core.proofs.{cells.Common.{ext_get_or}, CellRows.{map-map}},
+  frame_store.specs.Derivations.{CanDerive},
   meaning_method.specs.{Rows.{cells_by_row, places_besides}, Levels.{on_levels, indexed_by, index_set}},
   frame_select.{specs.{Across.{cell_across}, Headings.{NamesRepeated, repeated_heading}, Selected.{heading_of, headings_at}}, proofs.{AnswerLaws.{column_seen}, HeadingLaws.{repeated_seen, different}, PickedLaws.{one_more_place}, KeyLaws.{label_seen}, PlanLaws.{only_place}, PlaceLaws.{heading_seen}, RefusalLaws.{repeated_settled}}},
   frame_labels.{specs.Levels.{row_labels}, proofs.{RowLaws.{cells_in, by_rows}, NamedLaws.{is_other, others_meant}}},
@@ -66,15 +67,13 @@ index_table t places kept = table_with Frame (index_axis t places) (kept_heading
 index_seen : (texts : List Text) (t : NumberedTable) (places kept : List ℕ) → t.shape ≡ Frame → kept ≡ places_besides (table_value texts t) places → table_value texts (index_table t places kept) ≡ indexed_by (table_value texts t) places
 index_seen = grind (arith, headings_seen, tuples_seen, columns_seen)
 
--- the table is whole
-column_rows : (t : NumberedTable) (kept : List ℕ) → IsWhole t → AreColumnsOf t kept → All (λ (c : ColumnOf Cell). length c.cells ≡ length t.labels) (map (column_at t.columns) kept)
-column_rows t kept whole below = All-map (λ c. length c.cells ≡ length t.labels) (column_at t.columns) kept (λ k d lt. whole.filled _ _ (below k d lt))
-
+-- it can be derived of the table
 pub labelled : (t : NumberedTable) (kept : List ℕ) → All IsSome t.headings → All (λ place. place < length t.headings) kept → All IsSome (headings_at t kept)
 labelled t kept some below = All-map IsSome (heading_of t) kept (λ k d lt. some _ _ (below k d lt))
 
-pub index_whole : (t : NumberedTable) (places kept : List ℕ) → IsWhole t → t.shape ≡ Frame → AreColumnsOf t kept → repeated_heading (headings_at t kept) ≡ None → IsWhole (index_table t places kept)
-index_whole = grind (arith, length-map, length-range_with_len, labelled, column_rows, different)
+pub index_fits : (t : NumberedTable) (places kept : List ℕ) → IsWhole t → t.shape ≡ Frame → AreColumnsOf t kept → repeated_heading (headings_at t kept) ≡ None
+    → CanDerive t record { shape = Frame; axis = index_axis t places; headings = kept_headings t kept; columns = kept }
+index_fits = grind (arith, length-map, length-range_with_len, labelled, different)
 
 -- what is meant, by the headings that stand again
 module _ (texts : List Text) (t : NumberedTable) (places kept : List ℕ) (distinct : AreDistinct texts) (settled : IsSettled table_value texts t) (count : ℕ) (is_kept : kept ≡ filter (is_other places) (range_with_len 0 count)) (same : count ≡ length t.columns) where

@@ -162,15 +162,11 @@ list_given _ _ _ _ is settled = λ more. cc (settled more)
 pub one_more_name : {X : Type 0} (names made made' : List X) (k : ℕ) (x d : X) → k < length made → k < length names → x ≡ get_or names k d → take k made ≡ take k names → made' ≡ set made k x → take (k + 1) made' ≡ take (k + 1) names
 one_more_name = grind (arith, take_more_set, take_more)
 
--- the table of all columns under the axis
+-- all columns of a table under another axis
 columns_same : (columns : List (ColumnOf Cell)) (places : List ℕ) (count : ℕ) → places ≡ range_with_len 0 count → count ≡ length columns → map (column_at columns) places ≡ columns
 columns_same columns _ _ is size =
     cc (is, size, list_is (column_at columns) columns 0 no_column (λ k lt. grind arith))
 
-module _ (t : NumberedTable) (axis : AxisValue) (headings : HeadingList) (places : List ℕ) (count : ℕ) (blocks : List CellBlock) (headed : headings ≡ record { columns_name = t.columns_name; labels = t.headings }) (columns : columns_of blocks ≡ map (column_at t.columns) places)
-    (all : places ≡ range_with_len 0 count) (size : count ≡ length t.columns) where
-  pub whole_under : IsWhole t → length axis.tuples ≡ length t.labels → IsWhole (table_with t.shape axis headings (columns_of blocks))
-  whole_under = grind (arith, columns_same)
-
-  pub table_under : table_with t.shape axis headings (columns_of blocks) ≡ with_labels t axis.tuples axis.names
-  table_under = grind (arith, columns_same)
+pub under_table : (t : NumberedTable) (axis : AxisValue) (headings : HeadingList) (places : List ℕ) (count : ℕ) → headings ≡ record { columns_name = t.columns_name; labels = t.headings } → places ≡ range_with_len 0 count → count ≡ length t.columns
+    → table_with t.shape axis headings (map (column_at t.columns) places) ≡ with_labels t axis.tuples axis.names
+under_table = grind (arith, columns_same)

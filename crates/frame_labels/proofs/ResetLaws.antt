@@ -1,11 +1,12 @@
 -- The levels of a table as columns of a frame, and the frame that they become with its columns.
 use Rattle.{
-  frame_parts.proofs.Common.{◌≡◌, refl, ℕ, pos, ◌+◌, ◌<◌, not, nat_eq, Bool, true, false, List, [], ◌∷◌, ◌++◌, map, take, drop, length, slice_index_or, slice_get, All, Option, Some, None, if◌then◌else◌, append_assoc, append-nil, add-one, arith, ◌∙◌, sym, subst, Result, Ok, Err, get_or-map, drop-cons, nat_tests, length-map, map-append, take_more, All-append, All-nil, All-map, length-range_with_len, length-map-range_with_len, get_or_from_slice_get, slice_get_within, unwrap_or, codes, IsSome, IfOk, list_any, range_with_len, AreDistinct, Label, TextId, Cell, Frame, CellBlock, CellColumn, Text, LabelValue, int, label_datum, IsLonger, CellValue, na, datum, FaultValue, limit, then_value, IsSettled, NumberedTable, Table, table_value, heading_value, column_at, ColumnOf, tuple_value, column_value, with_labels, IsWhole, Entry, same_heading, within_limits, limited, finished, unless_repeated, default_labels, try_all, list_column, block_column, single_block, table_column, IsSingle, HeadingList, axis_of, table_of, headings_value, labels_value, columns_value, cells_value, Makes, OpFault, Refused, NoMemory, settled_later, seen_later, settled_by, headings_part, level_names_part, cell_settled, columns_given, columns_name_part, columns_settled, table_settled, AxisValue, range_axis, MakesBy, blocks_value, AreColumns, default_seen, refused_on},
+  frame_parts.proofs.Common.{◌≡◌, refl, ℕ, pos, ◌+◌, ◌<◌, not, nat_eq, Bool, true, false, List, [], ◌∷◌, ◌++◌, map, take, drop, length, slice_index_or, slice_get, All, Option, Some, None, if◌then◌else◌, append_assoc, append-nil, add-one, arith, sym, subst, Result, Ok, Err, get_or-map, drop-cons, nat_tests, length-map, map-append, take_more, All-append, All-nil, All-map, length-range_with_len, length-map-range_with_len, get_or_from_slice_get, slice_get_within, unwrap_or, codes, IsSome, IfOk, list_any, range_with_len, AreDistinct, Label, TextId, Cell, Frame, CellBlock, Text, LabelValue, int, label_datum, IsLonger, CellValue, na, FaultValue, limit, then_value, IsSettled, NumberedTable, Table, table_value, heading_value, ColumnOf, tuple_value, column_value, with_labels, IsWhole, Entry, same_heading, within_limits, limited, finished, unless_repeated, default_labels, try_all, list_column, block_column, IsSingle, HeadingList, axis_of, headings_value, labels_value, columns_value, cells_value, Makes, OpFault, Refused, NoMemory, settled_later, seen_later, settled_by, headings_part, level_names_part, cell_settled, columns_given, columns_part, AreGiven, columns_name_part, columns_settled, table_settled, AxisValue, range_axis, MakesBy, blocks_value, AreColumns, default_seen, refused_on},
   column_core.proofs.{cells.Common.{length-append, with_text, text}, CellRows.{map-map}},
   cell_core.specs.declared.cell.Label.TheVariants.{Na},
+  frame_store.specs.Parts.{table_behind},
   meaning_method.specs.{Levels.{numbered_label, nameless_label, label_cell, level_labels, levels_reset, renumbered}, Methods.{as_frame}},
   frame_select.{proofs.{PlaceLaws.{heading_settled, label_settled as label_settled_by}, HeadingLaws.{repeated_seen, different}, RefusalLaws.{repeated_settled}}, specs.Headings.{NamesRepeated, repeated_heading}},
-  frame_labels.specs.{Labels.{column_tuple}, Resets.{frame_heading, frame_headings, reset_headings, reset_columns, reset_frame}, LevelColumns.{cell_of}},
+  frame_labels.specs.{Labels.{column_tuple}, Resets.{frame_heading, frame_headings, reset_headings, reset_frame}, LevelColumns.{cell_of}},
 }
 use Rattle.cell_core.specs.declared.cell.Cell.TheVariants as cell
 use Rattle.cell_core.specs.declared.cell.Label.TheVariants as label
@@ -93,11 +94,6 @@ pub one_more_heading : (t : NumberedTable) (place : ℕ) (h : Option Label) (l :
 one_more_heading t place h l _ _ _ lt is tuple pushed before =
     grind (arith, append_assoc, take_more (frame_headings t) place (frame_heading None), get_or-map frame_heading t.headings place None, length-map t.headings frame_heading)
 
--- one column more
-pub one_more_column : (t : NumberedTable) (place : ℕ) (c : CellColumn) (first blocks blocks' : List CellBlock) → place < length t.columns → column_at t.columns place ≡ table_column c → blocks' ≡ blocks ++ single_block (table_column c) ∷ []
-    → map block_column blocks ≡ map block_column first ++ take place t.columns → map block_column blocks' ≡ map block_column first ++ take (place + 1) t.columns
-one_more_column = grind (arith, map-append, append_assoc, take_more)
-
 pub text_settled : (texts : List Text) (id : TextId) (words : Text) → slice_get texts id.0 ≡ Some words → IsSettled label_datum texts (label.Text id)
 text_settled _ id _ given = label_settled_by _ (label.Text id) (cell.Text id) (λ ts. refl) (cell_settled _ (cell.Text id) (slice_get_within _ _ _ given))
 
@@ -110,26 +106,20 @@ cells_seen texts (t ∷ ts) level = grind (arith, get_or-map (label_datum texts)
 columns_seen : (texts : List Text) (t : NumberedTable) → levels.level_columns texts (axis_of t) ≡ meant.level_columns (as_frame (table_value texts t))
 columns_seen texts t = λ j. try_all (λ level. list_column (cells_seen texts t.labels level j)) (range_with_len 0 (sym (length-map t.level_names (heading_value texts)) j))
 
-abbrev with_own : Table → Result (List (ColumnOf CellValue)) FaultValue
-with_own v = then_value (meant.level_columns (as_frame v)) (λ columns. Ok (columns ++ v.columns))
-
-all_seen : (texts : List Text) (t : NumberedTable) → reset_columns texts t ≡ with_own (table_value texts t)
-all_seen = search columns_seen
-
 abbrev pub finished_as : Table → List (ColumnOf CellValue) → Result Entry FaultValue
 finished_as v columns = finished (reset_frame v (reset_headings (as_frame v)) columns)
 
-pub reset_by : (texts : List Text) (t : NumberedTable) (v : Table) → v ≡ table_value texts t → levels_reset (as_frame v) ≡ then_value (reset_columns texts t) (finished_as v)
-reset_by = grind (arith, all_seen)
+pub reset_by : (texts : List Text) (t : NumberedTable) (v : Table) → v ≡ table_value texts t → levels_reset (as_frame v) ≡ then_value (levels.level_columns texts (axis_of t)) (finished_as v)
+reset_by = grind (arith, columns_seen)
 
 -- a level of two kinds
-pub reset_refused : (texts : List Text) (t : NumberedTable) (made : Result (List CellBlock) OpFault) (fault : OpFault) → made ≡ Err fault → MakesBy blocks_value texts made (reset_columns texts t)
+pub reset_refused : (texts : List Text) (t : NumberedTable) (made : Result (List CellBlock) OpFault) (fault : OpFault) → made ≡ Err fault → MakesBy blocks_value texts made (levels.level_columns texts (axis_of t))
     → Makes texts (Err fault) (levels_reset (as_frame (table_value texts t)))
 reset_refused texts t _ fault is makes = grind (arith, reset_by texts t (table_value texts t) refl, refused_on)
 
 -- all of it
 pub reset_made : (old new : List Text) (t : NumberedTable) (labels : List (Option Label)) (blocks : List CellBlock) → IsLonger old new → IsSettled table_value old t → headings_value new labels ≡ reset_headings (as_frame (table_value old t))
-    → reset_columns new t ≡ Ok (blocks_value new blocks)
+    → levels.level_columns new (axis_of t) ≡ Ok (blocks_value new blocks)
     → finished (reset_frame (table_value new t) (headings_value new labels) (blocks_value new blocks)) ≡ levels_reset (as_frame (table_value old t))
 reset_made old new t _ blocks longer settled headed made =
     let same = seen_later table_value old new t longer settled in
@@ -143,32 +133,36 @@ tried P f each (x ∷ xs) = grind (arith, tried P f each xs)
 abbrev HasRows : {C : Type 0} → ℕ → ColumnOf C → Type 0
 HasRows n c = length c.cells ≡ n
 
-rows_seen : (texts : List Text) (n : ℕ) (cs : List (ColumnOf Cell)) → All (HasRows n) cs → All (HasRows n) (columns_value texts cs)
-rows_seen texts n cs all = All-map (HasRows n) (column_value texts) cs (λ k d lt. length-map _ (datum texts) ∙ all k d lt)
-
 rows_numbered : (texts : List Text) (n : ℕ) (cs : List (ColumnOf Cell)) → All (HasRows n) (columns_value texts cs) → All (HasRows n) cs
 rows_numbered texts n cs all k d lt = grind (arith, all k (column_value texts d), get_or-map (column_value texts) cs k d, length-map)
 
 -- the columns that were made
-abbrev IsMadeOf : NumberedTable → List (ColumnOf CellValue) → Type 0
-IsMadeOf t ys = (length ys ≡ length t.level_names + length t.columns) × All (HasRows (length t.labels)) ys
+abbrev pub IsMadeOf : NumberedTable → List (ColumnOf CellValue) → Type 0
+IsMadeOf t ys = (length ys ≡ length t.level_names) × All (HasRows (length t.labels)) ys
 
-made_of : (texts : List Text) (t : NumberedTable) → IsWhole t → IfOk (reset_columns texts t) (IsMadeOf t)
-made_of texts t whole =
+made_of : (texts : List Text) (t : NumberedTable) → IfOk (levels.level_columns texts (axis_of t)) (IsMadeOf t)
+made_of texts t =
     let each : (level : ℕ) → IfOk (levels.level_column texts (axis_of t) level) (HasRows (length t.labels)) = λ level. grind (arith, length-map) in
-    let own = rows_seen texts (length t.labels) t.columns whole.filled in
-    grind (arith, tried (HasRows (length t.labels)) (levels.level_column texts (axis_of t)) each (range_with_len 0 (length t.level_names)), length-append, length-range_with_len, length-map, own, All-append (HasRows {C = CellValue} (length t.labels)))
+    grind (arith, tried (HasRows (length t.labels)) (levels.level_column texts (axis_of t)) each (range_with_len 0 (length t.level_names)), length-range_with_len)
 
-pub columns_are : (texts : List Text) (t : NumberedTable) (blocks : List CellBlock) (count : ℕ) → IsWhole t → IsSettled table_value texts t → All IsSingle blocks → ((texts : List Text) → reset_columns texts t ≡ Ok (blocks_value texts blocks))
-    → length t.level_names + length t.columns ≡ count → AreColumns texts (length t.labels) count blocks
-columns_are texts t blocks count whole settled single made is =
-    let m : IsMadeOf t (blocks_value texts blocks) = rw (made texts) at (made_of texts t whole) in
+abbrev pub AreLevels : NumberedTable → List CellBlock → Type 0
+AreLevels t blocks = (texts : List Text) → levels.level_columns texts (axis_of t) ≡ Ok (blocks_value texts blocks)
+
+levels_made : (texts : List Text) (t : NumberedTable) (blocks : List CellBlock) → AreLevels t blocks → IsMadeOf t (blocks_value texts blocks)
+levels_made texts t _ made = rw (made texts) at (made_of texts t)
+
+pub levels_count : (t : NumberedTable) (blocks : List CellBlock) → AreLevels t blocks → length blocks ≡ length t.level_names
+levels_count t blocks made = grind (arith, levels_made [] t blocks made, length-map)
+
+pub columns_are : (texts : List Text) (t : NumberedTable) (blocks : List CellBlock) → IsSettled table_value texts t → All IsSingle blocks → AreLevels t blocks → AreColumns texts (length t.labels) (length blocks) blocks
+columns_are texts t blocks settled single made =
+    let m = levels_made texts t blocks made in
     record {
       single = single;
-      count = grind (arith, length-map);
+      count = refl;
       filled = search rows_numbered;
       given = columns_given _ _
-          (grind (arith, settled_by, all_seen));
+          (grind (arith, settled_by, columns_seen));
     }
 
 -- the labels that were made
@@ -192,11 +186,13 @@ abbrev pub own_headings : NumberedTable → List (Option Label) → HeadingList
 own_headings t labels = record { columns_name = t.columns_name; labels = labels }
 
 abbrev pub parts_table : NumberedTable → ℕ → List (Option Label) → List CellBlock → NumberedTable
-parts_table t rows labels blocks = table_of Frame (range_axis rows) (own_headings t labels) blocks
+parts_table t rows labels blocks = table_behind Frame (range_axis rows) (own_headings t labels) blocks t
 
-pub parts_whole : (texts : List Text) (t : NumberedTable) (rows : ℕ) (labels : List (Option Label)) (blocks : List CellBlock) → AreColumns texts (length t.labels) (length labels) blocks → rows ≡ length t.labels
-    → All IsSome labels → repeated_heading labels ≡ None → IsWhole (parts_table t rows labels blocks)
-parts_whole = grind (arith, length-range_with_len, length-map, different)
+pub parts_whole : (texts : List Text) (t : NumberedTable) (rows : ℕ) (labels : List (Option Label)) (blocks : List CellBlock) → IsWhole t → AreColumns texts (length t.labels) (length blocks) blocks → length blocks + length t.columns ≡ length labels
+    → rows ≡ length t.labels → All IsSome labels → repeated_heading labels ≡ None → IsWhole (parts_table t rows labels blocks)
+parts_whole _ t _ _ blocks whole columns count is some none =
+    let filled = All-append (λ (c : ColumnOf Cell). length c.cells ≡ length t.labels) (map block_column blocks) t.columns columns.filled whole.filled in
+    grind (arith, length-range_with_len, length-map, length-append, different)
 
 -- a label that stands again
 module _ (texts : List Text) (labels : List (Option Label)) (distinct : AreDistinct texts) (given : IsSettled headings_value texts labels) where
@@ -208,22 +204,23 @@ module _ (texts : List Text) (labels : List (Option Label)) (distinct : AreDisti
   parts_repeated u NoMemory _ _ = tt
 
   -- beyond the limits, or within them
-  module _ (t : NumberedTable) (blocks : List CellBlock) (none : repeated_heading labels ≡ None) where
+  module _ (t : NumberedTable) (blocks : List CellBlock) (none : repeated_heading labels ≡ None) (count : length blocks + length t.columns ≡ length labels) where
     abbrev frame : Table
     frame = reset_frame (table_value texts t) (headings_value texts labels) (blocks_value texts blocks)
 
     headed : finished frame ≡ limited frame
     headed = parts_headed frame None refl none
 
-    pub parts_beyond : within_limits (length t.labels) (length blocks) ≡ false → finished frame ≡ Err limit
-    parts_beyond = grind (arith, headed, range_count, length-map)
+    pub parts_beyond : within_limits (length t.labels) (length labels) ≡ false → finished frame ≡ Err limit
+    parts_beyond = grind (arith, headed, range_count, length-map, length-append)
 
-    pub parts_made : (made : NumberedTable) (rows : ℕ) → IsSettled table_value texts t → AreColumns texts (length t.labels) (length labels) blocks → within_limits (length t.labels) (length blocks) ≡ true → rows ≡ length t.labels → made ≡ parts_table t rows labels blocks
+    pub parts_made : (made : NumberedTable) (rows : ℕ) → IsSettled table_value texts t → AreColumns texts (length t.labels) (length blocks) blocks → within_limits (length t.labels) (length labels) ≡ true → rows ≡ length t.labels → made ≡ parts_table t rows labels blocks
         → Makes texts (Ok made) (finished frame)
-    parts_made _ _ settled columns within is same = (
-      grind (arith, headed, range_count, length-map, default_seen),
-      subst (IsSettled table_value texts) (sym same) (search (table_settled, columns_name_part, default_seen, columns_settled)),
-    )
+    parts_made _ _ settled columns within is same =
+        let columns_there = All-append (λ (c : ColumnOf Cell). AreGiven texts c.cells) (map block_column blocks) t.columns columns.given (columns_given texts t.columns (columns_part texts t settled)) in (
+          grind (arith, headed, range_count, length-map, length-append, map-append, default_seen),
+          subst (IsSettled table_value texts) (sym same) (search (table_settled, columns_name_part, default_seen, columns_settled)),
+        )
 
 pub renumbered_beyond : (texts : List Text) (t : NumberedTable) → within_limits (length t.labels) (length t.columns) ≡ false → limited (renumbered (table_value texts t)) ≡ Err limit
 renumbered_beyond = grind (arith, range_count, length-map)

@@ -1,6 +1,13 @@
--- Tables within the limits.
-use Rattle.frame_parts.proofs.Common.{◌≡◌, true, length, Ok, Table, table, within_limits, limited}
+-- Tables within the limits, and the headings of frames.
+use Rattle.{
+  frame_parts.proofs.Common.{arith, ◌≡◌, true, ℕ, List, length, All, IsSome, Option, None, Ok, Label, Frame, AreHeadings, Table, table, within_limits, limited},
+  frame_select.{specs.Headings.{repeated_heading}, proofs.HeadingLaws.{different}},
+}
 
 -- a table within the limits
-pub limited_within : (t : Table) (rows columns : Rattle.std.specs.Prelude.ℕ) → length t.labels ≡ rows → length t.columns ≡ columns → within_limits rows columns ≡ true → limited t ≡ Ok (table t)
+pub limited_within : (t : Table) (rows columns : ℕ) → length t.labels ≡ rows → length t.columns ≡ columns → within_limits rows columns ≡ true → limited t ≡ Ok (table t)
 limited_within t _ _ r c within = search
+
+-- labels of a frame's columns of which none stands twice
+pub frame_heads : (name : Option Label) (labels : List (Option Label)) → All IsSome labels → repeated_heading labels ≡ None → AreHeadings Frame name labels
+frame_heads = grind (arith, different)

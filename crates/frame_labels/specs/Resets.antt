@@ -1,16 +1,11 @@
 -- The columns of a table behind those of its levels.
-use Rattle.std.specs.Prelude.{pos, List, ◌++◌, map, Option, Some, None, Result, Ok}
+use Rattle.std.specs.Prelude.{pos, List, ◌++◌, map, Option, Some, None}
 use Rattle.cell_core.specs.declared.cell.Label.{Label}
 use Rattle.cell_core.specs.declared.cell.Label.TheVariants.{Int}
-use Rattle.column_core.specs.cells.Text.{Text}
 use Rattle.column_core.specs.cells.Cell.{CellValue, LabelValue}
-use Rattle.column_core.specs.cells.Fault.{FaultValue, then_value}
 use Rattle.frame_store.specs.tables.Table.{ColumnOf, NumberedTable, Table}
 use Rattle.meaning_method.specs.Levels.{level_labels, renumbered}
 use Rattle.meaning_method.specs.Methods.{as_frame}
-use Rattle.frame_store.specs.Parts.{axis_of}
-use Rattle.frame_store.specs.Shown.{columns_value}
-use Rattle.frame_labels.specs.LevelColumns.{level_columns}
 
 -- the labels of the columns of a frame: 0 is that of a Series without a name
 abbrev pub frame_heading : Option Label → Option Label
@@ -20,14 +15,10 @@ frame_heading (Some l) = Some l
 abbrev pub frame_headings : NumberedTable → List (Option Label)
 frame_headings t = map frame_heading t.headings
 
--- the columns of the levels, and then those of the table
-abbrev pub reset_columns : List Text → NumberedTable → Result (List (ColumnOf CellValue)) FaultValue
-reset_columns texts t = then_value (level_columns texts (axis_of t)) (λ columns. Ok (columns ++ columns_value texts t.columns))
-
 -- the labels of the columns of the levels, and then those of a frame
 abbrev pub reset_headings : Table → List (Option LabelValue)
 reset_headings t = map (λ l. Some l) (level_labels t) ++ t.headings
 
--- the frame of these columns, whose rows have the labels 0, 1 and so on
+-- the frame of these columns before those of the table, whose rows have the labels 0, 1 and so on
 abbrev pub reset_frame : Table → List (Option LabelValue) → List (ColumnOf CellValue) → Table
-reset_frame t headings columns = record (renumbered (as_frame t)) { headings = headings; columns = columns }
+reset_frame t headings columns = record (renumbered (as_frame t)) { headings = headings; columns = columns ++ t.columns }

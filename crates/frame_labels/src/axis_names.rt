@@ -8,16 +8,17 @@ ghost use Rattle.frame_signatures.specs.call.Binding.{HasNoText};
 ghost use Rattle.frame_parts.specs.form.Finish.{limited};
 ghost use Rattle.meaning_method.specs.Levels as meant;
 ghost use Rattle.frame_store.specs.Objects.{Tables};
-ghost use Rattle.frame_store.specs.Shown.{headings_value, Makes};
+ghost use Rattle.frame_store.specs.Derivations.{Derives};
+ghost use Rattle.frame_store.specs.Shown.{headings_value};
 ghost use Rattle.frame_signatures.specs.Bound.{stands_at};
 ghost use Rattle.frame_signatures.specs.Scalars.{scalars};
 ghost use Rattle.frame_labels.specs.Levels.{some_labels};
 
-use crate::under::{named_axis, table_under_axis};
+use crate::under::{named_axis, under_axis};
 use cell_core::{Code, Grid, Label, NoMemory, Reason};
 use frame_parts::{name_of, within_limits};
-use frame_signatures::Bound;
-use frame_store::{Item, ObjRef, OpFault, Table};
+use frame_signatures::{Bound, arguments};
+use frame_store::{Derivation, Item, ObjRef, OpFault};
 use multi_index::Axis;
 use std::alloc::Global;
 
@@ -42,24 +43,24 @@ pub fn level_names(alloc: Global, bound: &Bound<'_>) -> Result<Vec<Option<Label>
         → headings_value texts names.items ≡ meant.names_in (stands_at live texts bound.now 0)) }
 {
     let mut names = Vec::new(alloc);
-    match bound.list_or_none(0) {
+    match bound.list_or_none(arguments::RENAME_AXIS_NAMES) {
         Some(items) => push_names(&mut names, items)?,
-        None => names.push(name_of(bound.scalar_or_none(0)))?,
+        None => names.push(name_of(bound.scalar_or_none(arguments::RENAME_AXIS_NAMES)))?,
     }
     Ok(names)
 }
 
-/// The table with these names of its levels, one for each.
+/// All of the table, with these names of its levels, one for each.
 ///
 /// `BadValue` where they are more or fewer, `Limit`. `NoMemory` may come in place of any answer.
 pub fn rename_axis(
     alloc: Global,
     on: &ObjRef<'_>,
     names: &[Option<Label>],
-) -> Result<Table, OpFault>
+) -> Result<Derivation, OpFault>
     requires { IsWhole on.now }
     ensures { (texts : List OneText) → IsSettled table_value texts on.now
-        → IsSettled headings_value texts names.now → Makes texts result
+        → IsSettled headings_value texts names.now → Derives texts on.now result
         (meant.axis_renamed (table_value texts on.now) (headings_value texts names.now)) }
 {
     let levels = on.axis().levels();
@@ -71,20 +72,20 @@ pub fn rename_axis(
         return Err(OpFault::Refused(Code::Limit));
     }
     let axis = named_axis(on.axis().copy(alloc)?, names);
-    Ok(table_under_axis(alloc, on, axis)?)
+    Ok(under_axis(alloc, on, axis)?)
 }
 
-/// The table with the labels 0, 1 and so on in place of its own, or `Limit`. `NoMemory` may come in
-/// place of any answer.
+/// All of the table, with the labels 0, 1 and so on in place of its own, or `Limit`. `NoMemory` may
+/// come in place of any answer.
 #[tactic(auto, using(crate::proofs::Hints::renumber))]
-pub fn renumber(alloc: Global, on: &ObjRef<'_>) -> Result<Table, OpFault>
+pub fn renumber(alloc: Global, on: &ObjRef<'_>) -> Result<Derivation, OpFault>
     requires { IsWhole on.now }
     ensures { (texts : List OneText) → IsSettled table_value texts on.now
-        → Makes texts result (limited (meant.renumbered (table_value texts on.now))) }
+        → Derives texts on.now result (limited (meant.renumbered (table_value texts on.now))) }
 {
     if !within_limits(on.rows(), on.columns()) {
         return Err(OpFault::Refused(Code::Limit));
     }
     let axis = Axis::range(alloc, on.rows())?;
-    Ok(table_under_axis(alloc, on, axis)?)
+    Ok(under_axis(alloc, on, axis)?)
 }

@@ -1,5 +1,6 @@
 // The labels of columns as labels of rows.
 ghost use Rattle.std.specs.Prelude.{◌≡◌, ◌∷◌, [], map, length, None, IfOk};
+ghost use Rattle.frame_store.specs.Parts.{labelled};
 ghost use Rattle.frame_labels.specs.Labels.{column_tuple};
 
 use cell_core::{Grid, Label, NoMemory, TextDict, Tuple, Tuples};
@@ -34,7 +35,7 @@ fn column_tuples(alloc: Global, on: &ObjRef<'_>) -> Result<Tuples, NoMemory>
 #[tactic(auto, using(crate::proofs::ColumnLabelLaws::tuples_alike))]
 pub fn columns_axis(alloc: Global, dict: &TextDict, on: &ObjRef<'_>) -> Result<Axis, NoMemory>
     requires { length on.now.headings ≡ length on.now.columns }
-    ensures { IfOk result (λ axis. axis ≡ record {
+    ensures { IfOk result (λ axis. labelled axis ≡ record {
       tuples = map column_tuple on.now.headings;
       names = on.now.columns_name ∷ [];
     }) }

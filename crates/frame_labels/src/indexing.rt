@@ -7,19 +7,19 @@ ghost use Rattle.frame_store.specs.tables.Valid.{IsWhole};
 ghost use Rattle.meaning_method.specs.Levels as meant;
 ghost use Rattle.multi_index.specs.Axes.{nameless_axis};
 ghost use Rattle.cell_core.specs.Values.{label_of};
-ghost use Rattle.frame_store.specs.Parts.{AreColumnsOf};
-ghost use Rattle.frame_store.specs.Shown.{Makes};
+ghost use Rattle.frame_store.specs.Parts.{labelled, AreColumnsOf};
+ghost use Rattle.frame_store.specs.Derivations.{Derives};
 ghost use Rattle.frame_store.specs.World.{IsKnownTable};
 ghost use Rattle.frame_select.specs.Selected.{headings_at};
 ghost use Rattle.frame_labels.specs.Levels.{row_labels};
 
 use crate::named_columns::places_besides;
-use crate::under::{copied_columns, named_axis};
+use crate::under::named_axis;
 use cell_core::{Code, Grid, Label, NoMemory, Places, Shape, TextDict, Tuple, Tuples};
 use column_core::ColRef;
 use frame_parts::within_limits;
 use frame_select::{different_headings, headings_at};
-use frame_store::{ObjRef, OpFault, Table};
+use frame_store::{Derivation, ObjRef, OpFault};
 use multi_index::Axis;
 use std::alloc::Global;
 
@@ -76,13 +76,13 @@ fn cells_axis(
     requires places { AreColumnsOf on.now places.now }
     requires some { 1 ≤ length places.now }
     requires few { length places.now ≤ 4 }
-    ensures { IfOk result (λ axis. axis ≡ nameless_axis
+    ensures { IfOk result (λ axis. labelled axis ≡ nameless_axis
         (map (row_labels on.now places.now) (range_with_len 0 (length on.now.labels)))
         (length places.now)) }
 {
     if places.len() == 1 {
         let labels = cell_labels(alloc, &on.column(*places.at(0)))?;
-        return Ok(Axis::from_labels(alloc, labels));
+        return Axis::from_labels(alloc, dict, labels);
     }
     let tuples = row_tuples(alloc, on, places)?;
     Axis::from_tuples(alloc, dict, &tuples, places.len())
@@ -99,7 +99,7 @@ fn column_axis(
     requires places { AreColumnsOf on.now places.now }
     requires some { 1 ≤ length places.now }
     requires few { length places.now ≤ 4 }
-    ensures { IfOk result (λ axis. axis ≡ record {
+    ensures { IfOk result (λ axis. labelled axis ≡ record {
       tuples = map (row_labels on.now places.now) (range_with_len 0 (length on.now.labels));
       names = headings_at on.now places.now;
     }) }
@@ -109,7 +109,7 @@ fn column_axis(
     Ok(named_axis(axis, names.as_slice()))
 }
 
-/// The frame whose rows have the cells of these columns as labels, without the columns.
+/// A frame without these columns, whose cells are the labels of its rows.
 ///
 /// `BadValue` of a heading that would stand twice; `Limit`, also where the columns are none or more
 /// than four. `NoMemory` may come in place of any answer.
@@ -118,11 +118,12 @@ pub fn set_index(
     dict: &TextDict,
     on: &ObjRef<'_>,
     places: &Places,
-) -> Result<Table, OpFault>
+) -> Result<Derivation, OpFault>
     requires known { IsKnownTable dict.now on.now }
     requires shape { on.now.shape ≡ Frame }
     requires places { AreColumnsOf on.now places.now }
-    ensures { Makes dict.now result (meant.index_set (table_value dict.now on.now) places.now) }
+    ensures { Derives dict.now on.now result
+        (meant.index_set (table_value dict.now on.now) places.now) }
 {
     // Equal texts have equal numbers: `TextDict::len` says so.
     let _ = dict.len();
@@ -134,6 +135,10 @@ pub fn set_index(
         return Err(OpFault::Refused(Code::Limit));
     }
     let axis = column_axis(alloc, dict, on, places)?;
-    let blocks = copied_columns(alloc, on, &kept)?;
-    Ok(Table::new(Shape::Frame, axis, headings, blocks))
+    Ok(Derivation {
+        shape: Shape::Frame,
+        axis,
+        headings,
+        columns: kept,
+    })
 }

@@ -14,14 +14,15 @@ ghost use Rattle.multi_index.specs.pick.Positions.{row_at};
 ghost use Rattle.frame_select.specs.select.Keys.{found_pick};
 ghost use Rattle.meaning_method.specs.Levels as meant;
 ghost use Rattle.frame_parts.specs.Makes.{MakesBy};
-ghost use Rattle.frame_store.specs.Shown.{headings_value, Makes};
+ghost use Rattle.frame_store.specs.Derivations.{Derives};
+ghost use Rattle.frame_store.specs.Shown.{headings_value};
 ghost use Rattle.frame_store.specs.World.{IsKnownTable};
 ghost use Rattle.frame_select.specs.Selected.{as_it_is};
 
-use crate::under::table_under_axis;
+use crate::under::under_axis;
 use cell_core::{Cell, Code, Grid, Label, Reason, TextDict, Tuple};
 use frame_parts::{same_heading, within_limits};
-use frame_store::{ObjRef, OpFault, Table};
+use frame_store::{Derivation, ObjRef, OpFault};
 use multi_index::Axis;
 use std::alloc::Global;
 
@@ -110,27 +111,26 @@ pub fn level_of(
     }
 }
 
-// The table under another axis, unless it is beyond the limits.
-fn under_within(alloc: Global, on: &ObjRef<'_>, axis: Axis) -> Result<Table, OpFault>
+// All of the table under another axis, unless it is beyond the limits.
+fn under_within(alloc: Global, on: &ObjRef<'_>, axis: Axis) -> Result<Derivation, OpFault>
     requires whole { IsWhole on.now }
     requires rows { length axis.tuples ≡ length on.now.labels }
     ensures { let made = with_labels on.now axis.tuples axis.names in
         (texts : List OneText) → IsSettled table_value texts made
-        → Makes texts result (limited (table_value texts made)) }
+        → Derives texts on.now result (limited (table_value texts made)) }
 {
     if !within_limits(on.rows(), on.columns()) {
         return Err(OpFault::Refused(Code::Limit));
     }
-    Ok(table_under_axis(alloc, on, axis)?)
+    Ok(under_axis(alloc, on, axis)?)
 }
 
-// The table without a level; another one must stay.
-#[tactic(auto, using(crate::proofs::Hints::without_level))]
-fn without_level(alloc: Global, on: &ObjRef<'_>, level: usize) -> Result<Table, OpFault>
+// All of the table without a level; another one must stay.
+fn without_level(alloc: Global, on: &ObjRef<'_>, level: usize) -> Result<Derivation, OpFault>
     requires whole { IsWhole on.now }
     requires level { level < length on.now.level_names }
     ensures { (texts : List OneText) → IsSettled table_value texts on.now
-        → Makes texts result (meant.level_gone (table_value texts on.now) level) }
+        → Derives texts on.now result (meant.level_gone (table_value texts on.now) level) }
 {
     if on.levels() < 2 {
         return Err(OpFault::Refused(Code::BadValue(Reason::Levels)));
@@ -139,20 +139,20 @@ fn without_level(alloc: Global, on: &ObjRef<'_>, level: usize) -> Result<Table, 
     under_within(alloc, on, axis)
 }
 
-// The table with two levels exchanged, each with its name.
-#[tactic(auto, using(crate::proofs::Hints::with_swapped))]
-fn with_swapped(alloc: Global, on: &ObjRef<'_>, i: usize, j: usize) -> Result<Table, OpFault>
+// All of the table with two levels exchanged, each with its name.
+fn with_swapped(alloc: Global, on: &ObjRef<'_>, i: usize, j: usize) -> Result<Derivation, OpFault>
     requires whole { IsWhole on.now }
     requires first { i < length on.now.level_names }
     requires second { j < length on.now.level_names }
     ensures { (texts : List OneText) → IsSettled table_value texts on.now
-        → Makes texts result (limited (meant.levels_swapped (table_value texts on.now) i j)) }
+        → Derives texts on.now result
+        (limited (meant.levels_swapped (table_value texts on.now) i j)) }
 {
     let axis = on.axis().swap_levels(alloc, i, j)?;
     under_within(alloc, on, axis)
 }
 
-/// The table without the level that an argument names.
+/// All of the table without the level that an argument names.
 ///
 /// `WrongKind` of a level that is neither a number nor a text, the refusals of a level that isn't there,
 /// `BadValue` where none would stay, `Limit`. `NoMemory` may come in place of any answer.
@@ -161,17 +161,17 @@ pub fn drop_level(
     dict: &TextDict,
     on: &ObjRef<'_>,
     argument: Option<Cell>,
-) -> Result<Table, OpFault>
+) -> Result<Derivation, OpFault>
     requires known { IsKnownTable dict.now on.now }
     requires given { IfSome argument (IsGiven dict.now) }
-    ensures { Makes dict.now result (meant.droplevel_result (table_value dict.now on.now)
+    ensures { Derives dict.now on.now result (meant.droplevel_result (table_value dict.now on.now)
         (option_map (datum dict.now) argument)) }
 {
     let level = level_of(alloc, dict, on, argument)?;
     without_level(alloc, on, level)
 }
 
-/// The table with the two levels exchanged that the arguments name.
+/// All of the table with the two levels exchanged that the arguments name.
 ///
 /// `WrongKind` of a level that is neither a number nor a text, the refusals of a level that isn't there,
 /// `Limit`. `NoMemory` may come in place of any answer.
@@ -181,11 +181,11 @@ pub fn swap_levels(
     on: &ObjRef<'_>,
     first: Option<Cell>,
     second: Option<Cell>,
-) -> Result<Table, OpFault>
+) -> Result<Derivation, OpFault>
     requires known { IsKnownTable dict.now on.now }
     requires first { IfSome first (IsGiven dict.now) }
     requires second { IfSome second (IsGiven dict.now) }
-    ensures { Makes dict.now result (meant.swaplevel_result (table_value dict.now on.now)
+    ensures { Derives dict.now on.now result (meant.swaplevel_result (table_value dict.now on.now)
         (option_map (datum dict.now) first) (option_map (datum dict.now) second)) }
 {
     let i = level_of(alloc, dict, on, first)?;

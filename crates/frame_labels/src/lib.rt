@@ -1,21 +1,22 @@
 //! The methods of Series and frames that are about labels: levels of the rows, the rows and columns
 //! that labels name, and columns as labels.
 //!
-//! Each function here makes the table of one method, or what several of them share. `frame_methods`
-//! calls them by the names of the methods and gives the tables objects, but for `drop_columns`, which
-//! makes its object itself; what is answered is defined on whole tables (`meaning_method/specs/Levels.antt`,
-//! `Reindex.antt`, `Section.antt` and `Rows.antt`).
+//! Each function here says what one method makes, or what several of them share. `frame_methods`
+//! calls them by the names of the methods and has the store make the objects: of a table, or, where the
+//! columns stay as they are, of a plan of the object (`frame_store`'s `Derivation`; `reset_index` has new
+//! columns before them, an `Extension`). `drop_columns` makes its object itself. What is answered is defined
+//! on whole tables (`meaning_method/specs/Levels.antt`, `Reindex.antt`, `Section.antt` and `Rows.antt`).
 //!
 //! Levels get names (`axis_names`) or are made of columns (`indexing`), go or change places
 //! (`levels`), and become columns again (`level_columns`, `resetting`). Rows and columns are picked
 //! by a list of labels (`reindexing`), rows by their label on one level (`cross_section`), and
-//! columns by what an argument names (`named_columns`). `under` makes the table under another axis,
-//! and `column_labels` an axis of the labels of columns.
+//! columns by what an argument names (`named_columns`). `under` plans the table under another axis,
+//! and `column_labels` makes an axis of the labels of columns.
 //!
 //! [`columns_at`] gives the columns whose cells are the keys of rows, by their places, for `factorize::KeyColumns`
 //! (`key_columns`). The keys that these have are the labels that the cells of the rows are, which `proofs/KeyLaws.antt`
-//! says for calls behind `groupby` and for `merge`. [`groups_by`] gives the groups of rows with equal keys, and
-//! [`key_tuples`] the keys of rows as labels, for `groupby` and for `pivot_table` (`row_groups`).
+//! says for [`groups_by`], `merge` and `pivot`. [`groups_by`] gives the groups of rows with equal keys, and [`key_tuples`]
+//! the keys of rows as labels, for `groupby` and for `pivot_table` (`row_groups`).
 //!
 //! Calls behind `groupby` (`frame_groups`) and joins of frames (`frame_merge`) take some parts from
 //! here, and so they do the words of a chain of calls (`specs/Chains.antt`) and the fault of a name
@@ -24,7 +25,8 @@
 //! ```text
 //! // `f.set_index("city")`, of a frame that is read of the store, with its arguments bound
 //! let places = named_places(alloc, &store, &dict, &bound, on)?;
-//! let table = set_index(alloc, &dict, &store.read(on), &places)?;
+//! let made = set_index(alloc, &dict, &store.read(on), &places);
+//! let frame = derived(&mut store, &dict, on, made)?;
 //! ```
 #![tactic(auto)]
 
@@ -50,7 +52,9 @@ pub use indexing::{row_tuple, set_index};
 pub use key_columns::columns_at;
 pub use level_columns::cell_of;
 pub use levels::{drop_level, level_of, swap_levels};
-pub use named_columns::{drop_columns, named_places, places_besides, subset_places, told_places};
+pub use named_columns::{
+    drop_columns, named_places, places_besides, selected_places, subset_places, told_places,
+};
 pub use reindexing::reindex;
 pub use resetting::reset_levels;
 pub use row_groups::{groups_by, key_tuples};

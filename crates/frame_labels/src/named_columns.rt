@@ -18,20 +18,23 @@ ghost use Rattle.frame_labels.specs.Named.{stands_in, first_in, NamesColumnsAt, 
 ghost use Rattle.frame_store.specs.Parts.{AreColumnsOf};
 
 use cell_core::{Cell, Grid, Label, NoMemory, Places, TextDict};
-use frame_select::{column_place, column_places, columns_of, places_below};
+use frame_select::{argument_column, argument_columns, columns_of, places_below};
 use frame_signatures::{Bound, scalars_of};
 use frame_store::{Item, ObjId, ObjRef, OpFault, Store, Value};
 use std::alloc::Global;
+
+// The place of the first argument.
+const FIRST: usize = 0;
 
 // The column that a scalar is the label of.
 fn place_of(alloc: Global, dict: &TextDict, on: &ObjRef<'_>, cell: Cell) -> Result<Places, OpFault>
     requires known { IsKnownTable dict.now on.now }
     requires cell { IsSettled datum dict.now cell }
     ensures { FindsPlaces dict.now on.now result
-        (select.column_places (table_value dict.now on.now)
+        (select.argument_columns (table_value dict.now on.now)
         (cell_label (datum dict.now cell) ∷ [])) }
 {
-    let place = column_place(alloc, dict, on, Label::from(cell))?;
+    let place = argument_column(alloc, dict, on, Label::from(cell))?;
     let mut places = Places::new(alloc);
     places.push(place)?;
     Ok(places)
@@ -47,11 +50,11 @@ fn places_of(
     requires known { IsKnownTable dict.now on.now }
     requires items { IsSettled scalars dict.now items.now }
     ensures { FindsPlaces dict.now on.now result
-        (select.column_places (table_value dict.now on.now)
+        (select.argument_columns (table_value dict.now on.now)
         (map cell_label (scalars dict.now items.now))) }
 {
     let cells = scalars_of(alloc, items)?;
-    column_places(alloc, dict, on, &cells)
+    argument_columns(alloc, dict, on, &cells)
 }
 
 /// The columns that the argument at a place names: a label, or the labels of a list; none where it is `None`.
@@ -69,7 +72,7 @@ pub fn told_places(
     requires settled { IsSettledWorld (world store.now dict.now) }
     requires names { NamesColumnsAt (world store.now dict.now) bound.now place }
     ensures { FindsPlaces dict.now (table_at (tables store.now) on.0) result
-        (select.column_places (object_value (tables store.now) dict.now on)
+        (select.argument_columns (object_value (tables store.now) dict.now on)
         (meant.labels_in (stands_in (world store.now dict.now) bound.now place))) }
 {
     let source = store.read(on);
@@ -96,10 +99,31 @@ pub fn named_places(
     requires settled { IsSettledWorld (world store.now dict.now) }
     requires names { NamesColumns (world store.now dict.now) bound.now }
     ensures { FindsPlaces dict.now (table_at (tables store.now) on.0) result
-        (select.column_places (object_value (tables store.now) dict.now on)
+        (select.argument_columns (object_value (tables store.now) dict.now on)
         (meant.labels_in (first_in (world store.now dict.now) bound.now))) }
 {
-    told_places(alloc, store, dict, bound, 0, on)
+    told_places(alloc, store, dict, bound, FIRST, on)
+}
+
+/// The columns that the first argument selects: that of a label, or those of the labels of a list.
+///
+/// `NoKey` of the first label that no column has. `NoMemory` may come in place of any answer.
+pub fn selected_places(
+    alloc: Global,
+    store: &Store,
+    dict: &TextDict,
+    bound: &Bound<'_>,
+    on: ObjId,
+) -> Result<Places, OpFault>
+    requires live { IsLiveObject (tables store.now) on }
+    requires settled { IsSettledWorld (world store.now dict.now) }
+    requires names { NamesColumns (world store.now dict.now) bound.now }
+    ensures { FindsPlaces dict.now (table_at (tables store.now) on.0) result
+        (select.selected_columns (object_value (tables store.now) dict.now on)
+        (meant.labels_in (first_in (world store.now dict.now) bound.now))) }
+{
+    // No two columns have one label, so each selects the column that it names.
+    named_places(alloc, store, dict, bound, on)
 }
 
 /// The columns that the first argument names, or all where it is `None`.
@@ -120,7 +144,7 @@ pub fn subset_places(
         (meant.subset_places (object_value (tables store.now) dict.now on)
         (first_in (world store.now dict.now) bound.now)) }
 {
-    if bound.is_none(0) {
+    if bound.is_none(FIRST) {
         return Ok(places_below(alloc, store.read(on).columns())?);
     }
     named_places(alloc, store, dict, bound, on)

@@ -9,7 +9,7 @@ ghost use Rattle.frame_store.specs.tables.Table.{table_value};
 ghost use Rattle.meaning_method.specs.Reindex as meant;
 ghost use Rattle.frame_store.specs.Arguments.{items_of, object_value, shape_at, IsLiveObject};
 ghost use Rattle.frame_store.specs.Objects.{tables};
-ghost use Rattle.frame_store.specs.Parts.{columns_of, table_column, IsSingle};
+ghost use Rattle.frame_store.specs.Parts.{labelled, columns_of, table_column, IsSingle};
 ghost use Rattle.frame_store.specs.Shown.{labels_value, Makes};
 ghost use Rattle.frame_store.specs.World.{world, IsKnownTable, IsSettledWorld};
 ghost use Rattle.frame_labels.specs.Reindexed.{heading_of, list_lent};
@@ -26,7 +26,8 @@ use std::alloc::Global;
 // The axis of these tuples, whose levels have the names of another one's.
 fn axis_like(alloc: Global, dict: &TextDict, labels: &Tuples, like: &Axis) -> Result<Axis, NoMemory>
     requires { HaveLevels (length like.now.names) labels.now }
-    ensures { IfOk result (λ axis. axis ≡ record { tuples = labels.now; names = like.now.names }) }
+    ensures { IfOk result (λ axis. labelled axis
+        ≡ record { tuples = labels.now; names = like.now.names }) }
 {
     let mut axis = Axis::from_tuples(alloc, dict, labels, like.levels())?;
     for level in 0..like.levels() {

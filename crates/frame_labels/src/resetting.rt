@@ -1,25 +1,25 @@
-// Levels of the rows as columns of a frame, whose rows get the labels 0, 1 and so on.
-ghost use Rattle.std.specs.Prelude.{◌≡◌, ◌<◌, ◌≤◌, ◌++◌, ℕ, List, length, map, unwrap_or, Some, IfOk, OnOk, codes, decimal, All, IsSome};
+// Levels of the rows as the first columns of a frame, whose rows get the labels 0, 1 and so on.
+ghost use Rattle.std.specs.Prelude.{◌≡◌, ◌<◌, ◌≤◌, ◌++◌, ◌+◌, ℕ, List, length, map, unwrap_or, Some, IfOk, OnOk, codes, decimal, All, IsSome};
 ghost use Rattle.std.specs.List.{list_any};
 ghost use Rattle.column_core.specs.cells.Text.{Text as OneText};
 ghost use Rattle.column_core.specs.cells.Cell.{IsLonger, label_datum};
 ghost use Rattle.frame_store.specs.tables.Settled.{IsSettled};
 ghost use Rattle.frame_store.specs.tables.Table.{heading_value, table_value};
 ghost use Rattle.frame_parts.specs.form.Finish.{finished, same_heading as same_as};
-ghost use Rattle.frame_parts.specs.Makes.{MakesBy, blocks_value, AreColumns};
-ghost use Rattle.frame_store.specs.Parts.{block_column, IsSingle};
-ghost use Rattle.frame_store.specs.Shown.{headings_value, Makes};
+ghost use Rattle.frame_parts.specs.Makes.{blocks_value, AreColumns};
+ghost use Rattle.frame_store.specs.Derivations.{Extends};
+ghost use Rattle.frame_store.specs.Shown.{headings_value};
 ghost use Rattle.frame_store.specs.World.{IsKnownTable};
 ghost use Rattle.meaning_method.specs.Levels as meant;
 ghost use Rattle.meaning_method.specs.Methods.{as_frame};
-ghost use Rattle.frame_labels.specs.Resets.{frame_headings, reset_columns as columns_meant, reset_headings, reset_frame};
+ghost use Rattle.frame_labels.specs.Resets.{frame_headings, reset_headings, reset_frame};
 
 use crate::column_labels::column_label;
 use crate::level_columns::level_columns;
 use cell_core::{Code, Grid, Label, NoMemory, Shape, TextDict};
 use frame_parts::{same_heading, within_limits};
 use frame_select::different_headings;
-use frame_store::{Blocks, ObjRef, OpFault, Table};
+use frame_store::{Blocks, Extension, ObjRef, OpFault};
 use multi_index::Axis;
 use std::alloc::Global;
 
@@ -152,70 +152,56 @@ fn reset_labels(
     Ok(labels)
 }
 
-// Appends a table's columns, each in a block of its own.
-fn push_columns(alloc: Global, blocks: &mut Blocks, on: &ObjRef<'_>) -> Result<(), NoMemory>
-    ensures single { OnOk result (All IsSingle blocks.old → All IsSingle blocks.new) }
-    ensures columns { OnOk result (map block_column blocks.new
-        ≡ map block_column blocks.old ++ on.now.columns) }
-{
-    for place in 0..on.columns() {
-        let column = on.column(place).to_column(alloc)?;
-        blocks.push(column.into_block())?;
-    }
-    Ok(())
-}
-
-// The columns of the levels, and then those of the table.
-fn reset_columns(alloc: Global, on: &ObjRef<'_>) -> Result<Blocks, OpFault>
-    ensures single { IfOk result (All IsSingle) }
-    ensures columns { (texts : List OneText)
-        → MakesBy blocks_value texts result (columns_meant texts on.now) }
-{
-    let mut blocks = level_columns(alloc, on.axis())?;
-    push_columns(alloc, &mut blocks, on)?;
-    Ok(blocks)
-}
-
-// The frame of these columns under these labels, which must differ. Its rows have the labels 0, 1
-// and so on.
-#[tactic(auto, using(crate::proofs::Hints::reset_table))]
-fn reset_table(
+// These columns before those of the table, under these labels, which must differ. The rows have the
+// labels 0, 1 and so on.
+#[tactic(auto, using(crate::proofs::Hints::reset_frame))]
+fn reset_frame(
     alloc: Global,
     dict: &TextDict,
     on: &ObjRef<'_>,
+    first: Blocks,
     labels: &[Option<Label>],
-    blocks: Blocks,
-) -> Result<Table, OpFault>
+) -> Result<Extension, OpFault>
     requires known { IsKnownTable dict.now on.now }
     requires given { IsSettled headings_value dict.now labels.now }
     requires some { All IsSome labels.now }
-    requires columns { AreColumns dict.now (length on.now.labels) (length labels.now) blocks }
-    ensures { Makes dict.now result (finished (reset_frame (table_value dict.now on.now)
-        (headings_value dict.now labels.now) (blocks_value dict.now blocks))) }
+    requires columns { AreColumns dict.now (length on.now.labels) (length first) first }
+    requires count { length first + length on.now.columns ≡ length labels.now }
+    ensures { Extends dict.now on.now result (finished (reset_frame (table_value dict.now on.now)
+        (headings_value dict.now labels.now) (blocks_value dict.now first))) }
 {
     // Equal texts have equal numbers: `TextDict::len` says so.
     let _ = dict.len();
     let headings = different_headings(alloc, on.columns_name(), labels)?;
-    if !within_limits(on.rows(), blocks.len()) {
+    if !within_limits(on.rows(), labels.len()) {
         return Err(OpFault::Refused(Code::Limit));
     }
     let axis = Axis::range(alloc, on.rows())?;
-    Ok(Table::new(Shape::Frame, axis, headings, blocks))
+    Ok(Extension {
+        shape: Shape::Frame,
+        axis,
+        headings,
+        first,
+    })
 }
 
-/// The frame with the levels of the rows as its first columns, and the labels 0, 1 and so on. The
-/// dictionary gives numbers to the headings of levels without a name.
+/// The levels of the rows as columns before those of the table, in a frame whose rows have the labels
+/// 0, 1 and so on. The dictionary gives numbers to the headings of levels without a name.
 ///
 /// `WrongKind` where a level has labels of several kinds, `BadValue` of a heading that would stand
 /// twice, `Limit`. `NoMemory` may come in place of any answer.
 #[tactic(auto, using(crate::proofs::Hints::reset_levels))]
-pub fn reset_levels(alloc: Global, dict: &mut TextDict, on: &ObjRef<'_>) -> Result<Table, OpFault>
+pub fn reset_levels(
+    alloc: Global,
+    dict: &mut TextDict,
+    on: &ObjRef<'_>,
+) -> Result<Extension, OpFault>
     requires { IsKnownTable dict.old on.now }
     ensures longer { IsLonger dict.old dict.new }
-    ensures answer { Makes dict.new result
+    ensures answer { Extends dict.new on.now result
         (meant.levels_reset (as_frame (table_value dict.old on.now))) }
 {
-    let blocks = reset_columns(alloc, on)?;
+    let first = level_columns(alloc, on.axis())?;
     let labels = reset_labels(alloc, dict, on)?;
-    reset_table(alloc, dict, on, labels.as_slice(), blocks)
+    reset_frame(alloc, dict, on, first, labels.as_slice())
 }

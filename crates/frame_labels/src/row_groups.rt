@@ -13,9 +13,9 @@ use factorize::{KeyColumns, KeyGroups, group_by_keys};
 use frame_store::ObjRef;
 use std::alloc::Global;
 
-/// The groups of the rows whose cells in these columns, of which there is one at least, are equal, with the first row of each group. The groups stand in
-/// the order of their cells, or in that of their first rows; with `dropna` a row that has a missing cell there is in no
-/// group. `NoMemory` is the only refusal.
+/// The groups of the rows whose cells in these columns, of which there is one at least, are equal, and for each group a
+/// row with its cells. The groups stand in the order of their cells, or in that of their first rows; with `dropna` a row
+/// that has a missing cell there is in no group. `NoMemory` is the only refusal.
 pub fn groups_by(
     alloc: Global,
     dict: &TextDict,

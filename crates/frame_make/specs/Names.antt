@@ -1,21 +1,13 @@
 -- The name of the file that a call reads.
-use Rattle.std.specs.Prelude.{◌≡◌, List, Option, Some, None, Result, Ok, Err}
+use Rattle.std.specs.Prelude.{◌≡◌, List, Result, Ok, Err}
 use Rattle.cell_core.specs.declared.cell.Cell.TheVariants as cell
 use Rattle.cell_core.specs.declared.cell.TextId.{TextId}
 use Rattle.cell_core.specs.declared.code.Code.{Code}
 use Rattle.column_core.specs.cells.Text.{Text}
 use Rattle.column_core.specs.cells.Cell.{datum, text_of}
-use Rattle.column_core.specs.cells.Fault.{FaultValue, wrong_kind}
+use Rattle.column_core.specs.cells.Fault.{FaultValue}
 use Rattle.frame_store.specs.tables.Settled.{IsSettled}
-use Rattle.frame_store.specs.tables.Value.{NamedGiven}
-use Rattle.meaning_call.specs.declared.Function.{Function}
-use Rattle.meaning_method.specs.Readers.{file_name_of}
 use Rattle.frame_store.specs.Shown.{Refuses}
-
--- the text that names the file of a call; a call of no function names none
-abbrev pub name_for : Option Function → List NamedGiven → Result Text FaultValue
-name_for None gs = Err wrong_kind
-name_for (Some f) gs = file_name_of f gs
 
 -- a text that was given its number is the name that is meant, or the refusal is
 abbrev pub Names : List Text → Result TextId Code → Result Text FaultValue → Type 0

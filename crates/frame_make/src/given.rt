@@ -8,7 +8,7 @@ use crate::frames::frame_of;
 use crate::series::series_of;
 use cell_core::TextDict;
 use frame_parts::name_of;
-use frame_signatures::{bind, function_parameters};
+use frame_signatures::{arguments, bind, function_parameters};
 use frame_store::{Named, OpFault, Store, Table};
 use meaning_call::Function;
 use std::alloc::Global;
@@ -38,10 +38,10 @@ pub fn made_series(
 {
     let parameters = function_parameters(Function::Series);
     let bound = bind(store, dict, parameters, args)?;
-    let values = bound.list(0);
-    let index = bound.list_or_none(1);
-    let name = name_of(bound.scalar_or_none(2));
-    let kind = bound.kind_or_none(dict, 3);
+    let values = bound.list(arguments::SERIES_VALUES);
+    let index = bound.list_or_none(arguments::SERIES_INDEX);
+    let name = name_of(bound.scalar_or_none(arguments::SERIES_NAME));
+    let kind = bound.kind_or_none(dict, arguments::SERIES_DTYPE);
     series_of(alloc, dict, values, index, name, kind)
 }
 
@@ -69,5 +69,11 @@ pub fn made_frame(
 {
     let parameters = function_parameters(Function::DataFrame);
     let bound = bind(store, dict, parameters, args)?;
-    frame_of(alloc, dict, bound.dict(0), bound.list_or_none(1))
+    let columns = bound.dict(arguments::DATA_FRAME_COLUMNS);
+    frame_of(
+        alloc,
+        dict,
+        columns,
+        bound.list_or_none(arguments::DATA_FRAME_INDEX),
+    )
 }

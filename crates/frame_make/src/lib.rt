@@ -20,7 +20,7 @@
 //! // `pd.Series([7, None])`: `args` has one argument, a list of two scalars
 //! let table = made_series(alloc, &store, &mut dict, &args)?;
 //! // `pd.read_csv("sales")`: `args` has one argument, a text
-//! let name = file_name(&store, &dict, "read_csv", &args)?;
+//! let name = file_name(&store, &dict, Function::ReadCsv, &args)?;
 //! let bytes = b"id,name\n1,ann\n2,\n";
 //! let table = read_frame(alloc, &store, &mut dict, args.as_slice(), bytes)?;
 //! ```

@@ -14,7 +14,7 @@ use crate::file_frames::frame_of;
 use crate::kinds::kinds_given;
 use cell_core::{Code, Reason, TextDict};
 use csv_frames::{CsvFault, NamedKinds, read_csv};
-use frame_signatures::{bind, function_parameters};
+use frame_signatures::{arguments, bind, function_parameters};
 use frame_store::{Named, OpFault, Store, Table};
 use meaning_call::Function;
 use std::alloc::Global;
@@ -79,6 +79,6 @@ pub fn read_frame(
         (readers.read_result bytes.now (arguments_in (world store.now dict.old) args.now)) }
 {
     let bound = bind(store, dict, function_parameters(Function::ReadCsv), args)?;
-    let kinds = kinds_given(alloc, dict, bound.dict_or_none(2))?;
+    let kinds = kinds_given(alloc, dict, bound.dict_or_none(arguments::READ_CSV_DTYPE))?;
     frame_of_file(alloc, dict, bytes, &kinds)
 }

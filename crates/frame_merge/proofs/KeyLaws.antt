@@ -1,14 +1,14 @@
--- Calls of `merge`, the columns of two frames whose cells are the keys, and the labels of all columns beside one another.
+-- The arguments of `merge`, the columns of two frames whose cells are the keys, and the labels of all columns beside one another.
 use Rattle.{
-  frame_parts.proofs.Common.{drop_more, get_or_default, map-append, take_more, length-map, list_any_at, list_any_none, list_any-append, same_Some, get_or_from_slice_get, slice_get_within, and_parts, nat_tests, rules, ◌≡◌, ◌+◌, ◌<◌, ◌≤◌, sym, ℕ, true, false, nat_eq, List, length, slice_get, slice_index_or, Some, arith, refl, Bool, ◌||◌, [], ◌∷◌, ◌++◌, map, take, Option, if◌then◌else◌, ◌∙◌, ap, zero, suc, ◌&&◌, filter, drop, None, Result, Ok, Err, nat_lt, get_or-map, position_or_len, list_any, range_with_len, codes, filter_map, IfSome, IsKnownTable, World, entry_in, AreKnownArguments, headings_value, cells_value, Makes, table_column, Named, Value, Object, OpFault, ObjId, object_value, Tables, settled_later, seen_later, headings_part, Label, Cell, Kind, Shape, Frame, AreDistinct, IsLonger, Text, LabelValue, datum, label_datum, CellValue, cell_label, FaultValue, bad_value, limit, then_value, IsSettled, NumberedTable, Table, table_value, heading_value, column_at, Entry, cell, Given, GivenList, NamedGiven, one, no_given, more_given, object_in, kind_itself, heading_at, cells_of, try_all, same_kind, on, CellColumn, MakesBy},
+  frame_parts.proofs.Common.{drop_more, get_or_default, map-append, take_more, length-map, list_any_at, list_any_none, list_any-append, same_Some, get_or_from_slice_get, slice_get_within, and_parts, nat_tests, rules, ◌≡◌, ◌+◌, ◌<◌, ◌≤◌, sym, ℕ, true, false, nat_eq, List, length, slice_get, slice_index_or, Some, arith, refl, Bool, ◌||◌, [], ◌∷◌, ◌++◌, map, take, Option, if◌then◌else◌, ◌∙◌, ap, zero, suc, ◌&&◌, filter, drop, None, Result, Ok, Err, nat_lt, get_or-map, position_or_len, list_any, range_with_len, codes, filter_map, IfSome, IsKnownTable, World, AreKnownArguments, headings_value, cells_value, Makes, table_column, Named, OpFault, ObjId, object_value, Tables, settled_later, seen_later, headings_part, Label, Cell, Kind, Frame, AreDistinct, IsLonger, Text, LabelValue, datum, label_datum, CellValue, cell_label, FaultValue, bad_value, limit, then_value, IsSettled, NumberedTable, Table, table_value, heading_value, column_at, Entry, cell, Given, GivenList, one, no_given, more_given, object_in, kind_itself, heading_at, cells_of, try_all, same_kind, on, CellColumn, MakesBy},
   column_core.{proofs.cells.Common.{position_or_len_is, ⊎_elim, option_map}, specs.cells.Fault.{key_kinds}},
   std.proofs.lemmas.List.{append_assoc},
-  frame_store.{specs.{declared.arguments.Chain.{Chain, TheVariants.{Plain}}, Arguments.{shape_at}}, proofs.tables.KindLaws.{kind_is}},
-  frame_labels.{specs.{method.{Merge.{is_key, MergeKeys, suffixed_heading, right_places, kinds_at, are_same_kinds, merged_rows, how_named, validate_in, merge_result}, Rows.{all_places, places_besides}, Levels.{label_cell}, Calls.{merge_call, reshape_call, called, table_call, method_result, call_result}}, LevelColumns.{cell_of}, Chains.{chain_in, is_plain, last_name}}, proofs.IndexingLaws.{headings_seen, headings_settled}},
+  frame_store.proofs.tables.KindLaws.{kind_is},
+  frame_labels.{specs.{method.{Merge.{is_key, MergeKeys, suffixed_heading, right_places, kinds_at, are_same_kinds, merged_rows, how_named, validate_in, merge_result}, Rows.{all_places, places_besides}, Levels.{label_cell}}, LevelColumns.{cell_of}}, proofs.IndexingLaws.{headings_seen, headings_settled}},
   indexmap.specs.IndexSet.{insert_key},
-  meaning_call.{specs.{declared.{Method.{Method, TheVariants.{Reshape, Other}}, OtherMethod.TheVariants.{Merge}, ReshapeMethod.{ReshapeMethod}, Parameter.{Parameter}}, Signature.{method_names, method_named, fits_shape, parameters_of, needed, optional}, Binding.{each, is_scalar, count_of, takes, text_in}}, proofs.ShapeLaws.{named_fits, of_frame}},
+  meaning_call.specs.{declared.{Method.TheVariants.{Other}, OtherMethod.TheVariants.{Merge}, Parameter.{Parameter}}, Signature.{parameters_of, needed, optional}, Binding.{each, is_scalar, count_of, takes, text_in}},
   frame_select.{specs.{Headings.{same_heading}, Selected.{heading_of, headings_at}}, proofs.{HeadingLaws.{heading_decides, same_seen, head_settled, rest_settled}, PlaceLaws.{heading_seen, heading_settled}, AnswerLaws.{column_seen}, PickedLaws.{list_is}}},
-  frame_merge.specs.{Headings.{AreAmong, label_beside, merged_headings}, declared.keys.MergeKeys.{MergeKeys as NumberedKeys}, Keys.{keys_value, cell_labels, keys_told, keys_checked, kinds_of, AreMergeKeys, keys_seen, labels_on}, Calls.{is_merge, merge_of, with_reshape, reshape_of, IsMergeCall}},
+  frame_merge.specs.{Headings.{AreAmong, label_beside, merged_headings}, declared.keys.MergeKeys.{MergeKeys as NumberedKeys}, Keys.{keys_value, cell_labels, keys_told, keys_checked, kinds_of, AreMergeKeys, keys_seen, labels_on}, Calls.{IsMergeCall}},
   meaning_join.specs.declared.{How.{How}, Validate.{Validate}},
   frame_signatures.{specs.{Bound.{given_in, stands_at, IsBound}, declared.bound.Bound.{Bound as BoundArguments}}, proofs.RuleLaws.{filled}},
 }
@@ -193,18 +193,7 @@ pub checked_by : (texts : List Text) (l r : NumberedTable) (keys : NumberedKeys)
     → keys_checked (table_value texts l) (table_value texts r) told ≡ (if a then (if b then Err limit else Ok (keys_value keys)) else Err (bad_value key_kinds))
 checked_by texts l r keys _ a b is kinds count = cc (kinds_seen texts l keys.left, kinds_seen texts r keys.right)
 
--- Calls of `merge` and their arguments; no Series has it.
-merge_of_frame : (shape : Shape) → fits_shape (Other Merge) shape ≡ true → shape ≡ Frame
-unfolding method_names
-merge_of_frame = search of_frame
-
-merge_is_of_frame : (shape : Shape) (name : Text) → is_merge (method_named shape name) ≡ true → shape ≡ Frame
-merge_is_of_frame shape name is = by _ refl is
-  where
-    by : (o : Option Method) → method_named shape name ≡ o → is_merge o ≡ true → shape ≡ Frame
-    by (Some (Other Merge)) named _ = merge_of_frame _ (named_fits _ _ _ named)
-    by o named is = cc
-
+-- the arguments of a call
 pub is_call : (w : World) (ps : List Parameter) (args : List Named) (b : BoundArguments) → ps ≡ parameters_of (Other Merge) → AreKnownArguments w args → IsBound w ps args (Ok b) → IsMergeCall w b
 is_call = grind (arith, filled, slice_get)
 
@@ -273,45 +262,3 @@ module _ (w : World) (b : BoundArguments) (h : IsMergeCall w b) (on other : ObjI
 
 pub right_shape : (w : World) (b : BoundArguments) → IsMergeCall w b → (other : ObjId) (r : NumberedTable) → w.tables other.0 ≡ Some r → Some (object_value w.tables w.texts other) ≡ object_in (stands_at w.tables w.texts b 0) → r.shape ≡ Frame
 right_shape w b h other r at right = grind (arith, ⊎_elim, frame_taken)
-
-other_if : (b : Bool) (x : ObjId) → (if b then Some x else None) ≡ None → b ≡ false
-other_if = grind arith
-
-pub frame_called : (tables : Tables) (on : Value) (chain : Chain) (id : ObjId) → merge_of tables on chain ≡ Some id → (on ≡ Object id) × (shape_at tables id ≡ Frame)
-frame_called _ (Object x) (Plain name) _ is = grind (arith, merge_is_of_frame)
-frame_called _ on _ _ is = cc
-
--- which of the three answers a method of a table
-merge_chosen : (o : Option Method) (name : Text) (gs : List NamedGiven) (t : Table) → is_merge o ≡ true → table_call o name gs t ≡ merge_call t gs
-merge_chosen (Some (Other Merge)) _ _ _ _ = refl
-merge_chosen _ _ _ _ is = cc
-
-reshape_chosen : (id : ObjId) (o : Option Method) (found : ObjId × ReshapeMethod) (name : Text) (gs : List NamedGiven) (t : Table) → with_reshape id o ≡ Some found
-    → (found.0 ≡ id) × (o ≡ Some (Reshape found.1)) × (table_call o name gs t ≡ reshape_call found.1 t gs)
-reshape_chosen id (Some (Reshape m)) found _ _ _ is = grind arith
-reshape_chosen _ _ _ _ _ _ is = cc
-
-any_chosen : (id : ObjId) (o : Option Method) (name : Text) (gs : List NamedGiven) (t : Table) → is_merge o ≡ false → with_reshape id o ≡ None → table_call o name gs t ≡ called o name gs t
-any_chosen _ (Some (Other Merge)) _ _ _ is none = cc
-any_chosen _ (Some (Reshape m)) _ _ _ is none = cc
-any_chosen _ _ _ _ _ _ _ = refl
-
-pub merge_called : (w : World) (on : Value) (chain : Chain) (gs : List NamedGiven) (id : ObjId) → merge_of w.tables on chain ≡ Some id → call_result (entry_in w on) (chain_in w chain) gs ≡ merge_call (object_value w.tables w.texts id) gs
-merge_called w on = grind (arith, merge_chosen)
-
--- an object and its method of another shape
-pub record IsReshape (w : World) (on : Value) (chain : Chain) (found : ObjId × ReshapeMethod) : Type 0 where
-  pub fits : fits_shape (Reshape found.1) (shape_at w.tables found.0) ≡ true
-  pub meant : (gs : List NamedGiven) → call_result (entry_in w on) (chain_in w chain) gs ≡ reshape_call found.1 (object_value w.tables w.texts found.0) gs
-
-pub reshape_called : (w : World) (on : Value) (chain : Chain) (found : ObjId × ReshapeMethod) → reshape_of w.tables on chain ≡ Some found → IsReshape w on chain found
-reshape_called w (Object id) (Plain name) found is =
-    let chosen = λ (gs : List NamedGiven). reshape_chosen id _ found name gs (object_value w.tables w.texts id) is in
-    record {
-      fits = rw (chosen []).0 (named_fits _ name _ (chosen []).1);
-      meant = λ gs. (chosen gs).2 ∙ ap (λ x. reshape_call found.1 (object_value w.tables w.texts x) gs) (sym (chosen gs).0);
-    }
-reshape_called w _ _ found is = cc
-
-pub other_called : (w : World) (on : Value) (chain : Chain) (gs : List NamedGiven) → is_plain chain ≡ true → merge_of w.tables on chain ≡ None → reshape_of w.tables on chain ≡ None → method_result (entry_in w on) (last_name chain) gs ≡ call_result (entry_in w on) (chain_in w chain) gs
-other_called w on = grind (arith, other_if, any_chosen)

@@ -1,5 +1,5 @@
 -- The rows of two frames that have equal keys, with texts by number and with texts.
-use Rattle.{frame_parts.proofs.Common.{arith, ◌≡◌, ◌∙◌, ◌+◌, ap, refl, sym, ℕ, Bool, true, false, cond, List, [], ◌∷◌, ◌++◌, map, All, Option, Some, None, ◌≤◌, length, Result, Ok, Err, map-append, length-map, All-head, All-tail, All-map, length-range_with_len, nat_tests, IfSome, IfOk, flat_map, Text, first_where, first_repeated, All-append as all_append, all_distinct, first_map, distinct_map, Label, AreDistinct, CellColumn, IsPlaceOf, HaveLevels, tuple_less, IsSettled, NumberedTable, Table, table_value, tuple_value, Entry, same_tuple, tuple_by_number, tuples_settled, labels_value, Refuses, settled_by}, column_core.{proofs.cells.Common.{option_map, Side as MeantSide}, specs.cells.FaultOf.{side_of}}, frame_methods.specs.sorting.Sorting.{in_order}, meaning_join.{specs.{pick.Rows.{rows_where}, align.Joins.{Entry as KeyEntry, entries_of, keys_in_order}, declared.{How.{How, TheVariants.{Outer}}, Validate.{Validate}}, Pairs.{pair, partners, pairs_from, pair_of_entry, key_pairs, RepeatedKey, repeated_on, repeated_key, Pair, JoinRefusal, not_one_to_one, within, joined_within}}, proofs.{pick.RowLaws.{rows_where-map}, align.OrderLaws.{all_in_order, in_order_map}}}, merge_concat.{proofs.CodeLaws.{with_seen}, specs.{declared.{fault.MergeFault.{MergeFault}, pairs.Pairs.{Pairs}}, Pairs.{JoinsBy}, Joining.{IsJoinOf}}}, cell_core.specs.declared.{cell.Side.{Side}, code.Code.TheVariants.{BadMerge}}, factorize.{specs.{row_keys.Keys.{same_tuple as same_numbers}, Keys.{column_keys, levels_of}}, proofs.LabelLaws.{columns_alike}}, frame_labels.{specs.method.{Groups.{row_keys}, Merge.{unless_twice}}, proofs.{IndexingLaws.{all_rows, tuples_seen}, KeyLaws.{numbered_keys}}}, frame_merge.specs.{declared.keys.MergeKeys.{MergeKeys}, Keys.{keys_value}, Rows.{repeated_in, pairs_in, met_result, AreRowsMet, MeetsBy}}}
+use Rattle.{frame_parts.proofs.Common.{arith, ◌≡◌, ◌∙◌, ◌+◌, ap, refl, sym, ℕ, Bool, true, false, cond, List, [], ◌∷◌, ◌++◌, map, All, Option, Some, None, ◌≤◌, length, Result, Ok, Err, map-append, length-map, All-head, All-tail, All-map, length-range_with_len, nat_tests, IfSome, IfOk, flat_map, Text, first_where, first_repeated, All-append as all_append, all_distinct, first_map, distinct_map, Label, AreDistinct, CellColumn, IsPlaceOf, HaveLevels, tuple_less, IsSettled, NumberedTable, Table, table_value, tuple_value, Entry, same_tuple, tuple_by_number, tuples_settled, labels_value, Refuses, settled_by}, column_core.{proofs.cells.Common.{option_map, Side as MeantSide}, specs.cells.FaultOf.{side_of}}, factorize.specs.group.sorting.Sorting.{in_order}, meaning_join.{specs.{pick.Rows.{rows_where}, align.Joins.{Entry as KeyEntry, entries_of, keys_in_order}, declared.{How.{How, TheVariants.{Outer}}, Validate.{Validate}}, Pairs.{pair, partners, pairs_from, pair_of_entry, key_pairs, RepeatedKey, repeated_on, repeated_key, Pair, JoinRefusal, not_one_to_one, within, joined_within}}, proofs.{pick.RowLaws.{rows_where-map}, align.OrderLaws.{all_in_order, in_order_map}}}, merge_concat.{proofs.CodeLaws.{with_seen}, specs.{declared.{fault.MergeFault.{MergeFault}, pairs.Pairs.{Pairs}}, Pairs.{JoinsBy}, Joining.{IsJoinOf}}}, cell_core.specs.declared.{cell.Side.{Side}, code.Code.TheVariants.{BadMerge}}, factorize.{specs.{row_keys.Keys.{same_tuple as same_numbers}, Keys.{column_keys, levels_of}}, proofs.LabelLaws.{columns_alike}}, frame_labels.{specs.method.{Groups.{row_keys}, Merge.{unless_twice}}, proofs.{IndexingLaws.{all_rows, tuples_seen}, KeyLaws.{numbered_keys}}}, frame_merge.specs.{declared.keys.MergeKeys.{MergeKeys}, Keys.{keys_value}, Rows.{repeated_in, pairs_in, met_result, AreRowsMet, MeetsBy}}}
 use Rattle.meaning_join.specs.Pairs as join
 use Rattle.merge_concat.specs.declared.fault.MergeFault.TheVariants as fault
 

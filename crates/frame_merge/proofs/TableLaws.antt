@@ -4,9 +4,9 @@ use Rattle.{
   std.proofs.Common.{min, nat_le},
   frame_select.{proofs.{AnswerLaws.{column_seen}, HeadingLaws.{repeated_seen}, RefusalLaws.{repeated_settled}}, specs.Headings.{NamesRepeated, repeated_heading}},
   meaning_join.specs.{Pairs.{Pair}, declared.{How.{How}, Validate.{Validate}}},
-  frame_labels.{specs.method.{Rows.{all_places}, Merge.{MergeKeys, is_key, right_key, right_places, key_cell, left_column, column_of_side, suffixed_heading, merged, merged_rows}}, proofs.{NamedLaws.{is_other, others_meant}, TableLaws.{limited_within}}},
+  frame_labels.{specs.method.{Rows.{all_places}, Merge.{MergeKeys, is_key, right_key, right_places, key_cell, left_column, column_of_side, suffixed_heading, merged, merged_rows}}, proofs.{NamedLaws.{is_other, others_meant}, TableLaws.{limited_within, frame_heads}}},
   frame_merge.specs.{Columns.{key_cell_at, key_cells, column_on, joined_or_left, left_column_on, merged_columns}, declared.keys.MergeKeys.{MergeKeys as NumberedKeys}, Keys.{keys_value, AreMergeKeys}, Rows.{MeetsBy, AreRowsMet, repeated_in, pairs_in}, Headings.{merged_headings}},
-  frame_methods.proofs.{sorting.RankLaws.{below_range}, RenameLaws.{frame_heads}},
+  factorize.proofs.sorting.RankLaws.{below_range},
   merge_concat.specs.{declared.pairs.Pairs.{Pairs}, Pairs.{ArePairs}},
 }
 use Rattle.frame_labels.specs.method.Merge as meant

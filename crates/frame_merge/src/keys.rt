@@ -18,8 +18,8 @@ ghost use Rattle.frame_merge.specs.Keys.{cell_labels, labels_on, keys_seen, kind
 use crate::headings::heading_set;
 use cell_core::{Cells, Code, Grid, NoMemory, Places, Reason, TextDict};
 use frame_labels::cell_of;
-use frame_select::{column_places, places_below};
-use frame_signatures::{Bound, scalars_of};
+use frame_select::{argument_columns, places_below};
+use frame_signatures::{Bound, arguments, scalars_of};
 use frame_store::{ObjRef, OpFault};
 use std::alloc::Global;
 
@@ -37,16 +37,16 @@ pub(crate) fn labels_told(alloc: Global, bound: &Bound<'_>) -> Result<Option<Cel
     ensures { IfOk result (λ told. (live : Tables) (texts : List Text)
         → option_map (cell_labels texts) told ≡ labels_on (stands_at live texts bound.now 2)) }
 {
-    if bound.is_none(2) {
+    if bound.is_none(arguments::MERGE_ON) {
         return Ok(None);
     }
-    match bound.scalar_or_none(2) {
+    match bound.scalar_or_none(arguments::MERGE_ON) {
         Some(cell) => {
             let mut cells = Cells::new(alloc);
             cells.push(cell)?;
             Ok(Some(cells))
         }
-        None => match bound.list_or_none(2) {
+        None => match bound.list_or_none(arguments::MERGE_ON) {
             Some(items) => {
                 let cells = scalars_of(alloc, items)?;
                 Ok(Some(cells))
@@ -103,8 +103,8 @@ fn keys_named(
         (table_value dict.now l.now) (table_value dict.now r.now) (cell_labels dict.now labels.now)) }
     ensures paired { IfOk result (ArePaired l.now r.now) }
 {
-    let left = column_places(alloc, dict, l, labels)?;
-    let right = column_places(alloc, dict, r, labels)?;
+    let left = argument_columns(alloc, dict, l, labels)?;
+    let right = argument_columns(alloc, dict, r, labels)?;
     Ok(MergeKeys { left, right })
 }
 

@@ -1,8 +1,6 @@
 //! What `merge` of a frame answers: the rows of two frames that have equal keys, as a frame.
 //!
-//! [`method`] calls a method of a value by its name. `merge` of a frame is answered here, by its definition on whole
-//! tables (`meaning_method/specs/Merge.antt`); a method of another shape is handed to `frame_reshape`, and any other
-//! method to `frame_methods`.
+//! [`merge`] answers it by its definition on whole tables (`meaning_method/specs/Merge.antt`).
 //!
 //! The arguments are bound and read (`arguments`), and the key columns of both frames are found and tested (`keys`).
 //! The rows are joined by `merge_concat`, by the cells of the key columns (`rows`). A label that columns of both frames
@@ -13,7 +11,7 @@
 //! // `left.merge(right, on="city")`
 //! args.push(Named { name: None, value: Argument::One(Value::Object(right)) })?;
 //! args.push(Named { name: Some(on), value: Argument::One(Value::Scalar(Cell::Text(city))) })?;
-//! let joined = method(alloc, &mut store, &mut dict, left, &Chain::Plain(merge), &args)?;
+//! let joined = merge(alloc, &mut store, &mut dict, left, args.as_slice())?;
 //! ```
 #![tactic(auto)]
 
@@ -27,4 +25,4 @@ mod places;
 mod rows;
 mod suffixes;
 
-pub use calling::method;
+pub use calling::merge;

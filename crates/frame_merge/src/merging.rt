@@ -21,7 +21,7 @@ use cell_core::{Code, Grid, Shape, TextDict};
 use frame_labels::places_besides;
 use frame_parts::{common_name, rows_within, within_limits};
 use frame_select::different_headings;
-use frame_signatures::Bound;
+use frame_signatures::{Bound, arguments};
 use frame_store::{ObjId, ObjRef, OpFault, Store, Table};
 use meaning_join::{How, Validate};
 use multi_index::Axis;
@@ -84,9 +84,9 @@ pub(crate) fn merged(
         (meant.merge_result (object_value w.tables dict.old on) (given_in w bound.now)) }
 {
     let l = store.read(on);
-    let r = store.read(bound.frame(0));
-    let how = how_named(bound.text(dict, 1));
-    let once = once_in(bound.text_or_none(dict, 3));
+    let r = store.read(bound.frame(arguments::MERGE_RIGHT));
+    let how = how_named(bound.text(dict, arguments::MERGE_HOW));
+    let once = once_in(bound.text_or_none(dict, arguments::MERGE_VALIDATE));
     let told = labels_told(alloc, bound)?;
     let keys = keys_of_merge(alloc, dict, told, &l, &r)?;
     merged_rows(alloc, dict, &l, &r, &keys, how, once)

@@ -3,9 +3,9 @@ use Rattle.{
   frame_parts.proofs.Common.{◌≡◌, ◌∙◌, ◌<◌, ◌+◌, refl, ap, sym, ℕ, Bool, true, false, List, [], ◌∷◌, map, length, drop, get_or, Option, Some, None, Result, Ok, Err, All, if◌then◌else◌, arith, drop-cons, All-map, IsSome, IfOk, IfErr, option_map, list_all, lookup, Cell, Label, Frame, AreDistinct, same_by_number, MakesBy, Text, LabelValue, datum, label_datum, cell_label, FaultValue, wrong_kind, then_value, IsSettled, NumberedTable, Table, table_value, heading_value, AreHeadings, Entry, Given, dict_in, scalar_in, same_label, unless_repeated, limited, with_pair, pairs_onto, pairs_in, Tables, argument_of, entries_of, arguments_of, HeadingList, OpFault, Refused, NoMemory, Argument, One, Shown, headings_value, FormAnswers},
   indexmap.specs.IndexMap.{insert_entry, insert_all},
   frame_store.specs.tables.Value.{GivenPairs},
-  frame_labels.specs.method.Methods.{is_scalar_pair, new_label, renamed_heading, renamed_frame},
+  frame_labels.{specs.method.Methods.{is_scalar_pair, new_label, renamed_heading, renamed_frame}, proofs.TableLaws.{frame_heads}},
   frame_signatures.{specs.{Bound.{Tells}, declared.bound.Bound.{Bound}}, proofs.ToldLaws.{told_settled}},
-  frame_select.{specs.{Picked.{headed_by}, Headings.{NamesRepeated, same_number, repeated_heading}}, proofs.{HeadingLaws.{label_decides, head_settled, rest_settled, repeated_seen, different}, RefusalLaws.{repeated_settled}}},
+  frame_select.{specs.{Picked.{headed_by}, Headings.{NamesRepeated, same_number, repeated_heading}}, proofs.{HeadingLaws.{label_decides, head_settled, rest_settled, repeated_seen}, RefusalLaws.{repeated_settled}}},
   frame_methods.specs.Renames.{label_pair, given_label, given_labels, pair_seen, pairs_seen, have_labels, found_label, heading_by, label_from, heading_from, relabelled, labels_seen},
 }
 
@@ -190,10 +190,6 @@ under t hs = record t { headings = hs }
 
 abbrev pub limited_under : Table → Result (HeadingValues) FaultValue → Result Entry FaultValue
 limited_under t r = then_value r (λ hs. limited (under t hs))
-
--- labels of a frame's columns of which none stands twice
-pub frame_heads : (name : Option Label) (labels : List (Option Label)) → All IsSome labels → repeated_heading labels ≡ None → AreHeadings Frame name labels
-frame_heads = grind (arith, different)
 
 labelled : (es : Labels) (h : Option Label) → IsSome h → IsSome (heading_by es h)
 labelled = grind arith

@@ -1,22 +1,21 @@
-// Calls of methods on objects.
+// What methods of objects answer, by what they make.
 ghost use Rattle.std.specs.Prelude.{◌≡◌, true, List, IsSome, Result, IfOk};
 ghost use Rattle.column_core.specs.cells.Text.{Text as OneText};
 ghost use Rattle.column_core.specs.cells.Cell.{IsLonger};
 ghost use Rattle.column_core.specs.cells.Fault.{FaultValue};
 ghost use Rattle.frame_store.specs.tables.Settled.{IsSettled};
 ghost use Rattle.frame_store.specs.tables.Value.{Entry};
-ghost use Rattle.frame_labels.specs.method.Calls.{method_result};
-ghost use Rattle.meaning_call.specs.declared.Method.TheVariants.{Rows, Levels, Labels, Table as Whole};
+ghost use Rattle.meaning_call.specs.declared.Method.TheVariants.{Columns, Summary, Rows, Levels, Labels, Table as Whole};
+ghost use Rattle.meaning_call.specs.Signature.{fits_shape};
 ghost use Rattle.frame_parts.specs.Makes.{MakesBy};
-ghost use Rattle.frame_store.specs.Arguments.{object_value, shape_at, IsLive};
+ghost use Rattle.frame_store.specs.Arguments.{object_value, shape_at};
 ghost use Rattle.frame_store.specs.Objects.{tables};
 ghost use Rattle.frame_store.specs.Shown.{Makes};
-ghost use Rattle.frame_store.specs.World.{world, entry_in, arguments_in, IsSettledWorld, AreKnownArguments, Forms};
-ghost use Rattle.frame_labels.specs.Chains.{is_plain, last_name};
-ghost use Rattle.frame_methods.specs.Calls.{answer_in, IsCall};
+ghost use Rattle.frame_store.specs.World.{world, arguments_in, IsSettledWorld, AreKnownArguments, Forms};
+ghost use Rattle.frame_methods.specs.Calls.{answer_in, own_call, IsCall};
 ghost use Rattle.frame_methods.specs.Made.{made_value};
 
-use crate::binding::{BoundCall, bound_call};
+use crate::binding::bound_call;
 use crate::column_ops::columns_answer;
 use crate::csv::to_csv;
 use crate::duplicates::duplicated;
@@ -27,14 +26,16 @@ use crate::sorts::{sort_index, sort_values};
 use crate::summaries::{summarize, summary_of};
 use cell_core::{Grid, TextDict};
 use frame_labels::{
-    drop_columns, drop_level, level_names, named_places, no_attribute, reindex, rename_axis,
-    renumber, reset_levels, set_index, subset_places, swap_levels, xs,
+    drop_columns, drop_level, level_names, named_places, reindex, rename_axis, renumber,
+    reset_levels, selected_places, set_index, subset_places, swap_levels, xs,
 };
 use frame_parts::name_of;
 use frame_select::{copied, places_below};
-use frame_signatures::Bound;
-use frame_store::{Chain, Named, NamedList, ObjId, OpFault, Store, Table, Value, placed};
-use meaning_call::{LabelMethod, LevelMethod, Method, RowMethod, TableMethod};
+use frame_signatures::{Bound, arguments};
+use frame_store::{Named, ObjId, OpFault, Store, Table, Value, derived, derived_behind, placed};
+use meaning_call::{
+    ColumnMethod, LabelMethod, LevelMethod, Method, RowMethod, SummaryMethod, TableMethod,
+};
 use std::alloc::Global;
 
 // The answer for what a method made: a scalar, or a new object.
@@ -84,56 +85,74 @@ fn rows_made(
         }
         RowMethod::SortValuesSeries => {
             let places = places_below(alloc, source.columns())?;
-            sort_values(alloc, dict, &source, &places, bound.truth(0))
+            sort_values(
+                alloc,
+                dict,
+                &source,
+                &places,
+                bound.truth(arguments::SORT_ASCENDING),
+            )
         }
         RowMethod::SortValuesFrame => {
-            let ascending = bound.truth(1);
+            let ascending = bound.truth(arguments::SORT_FRAME_ASCENDING);
             let places = named_places(alloc, store, dict, bound, on)?;
             sort_values(alloc, dict, &source, &places, ascending)
         }
-        RowMethod::SortIndex => sort_index(alloc, dict, &source, bound.truth(0)),
+        RowMethod::SortIndex => {
+            sort_index(alloc, dict, &source, bound.truth(arguments::SORT_ASCENDING))
+        },
     }
 }
 
-// The table that a method makes of the levels of the rows.
+// The answer of a method of the levels of the rows.
 #[tactic(auto, using(frame_store::proofs::Settling::longer_self))]
-fn levels_made(
+fn levels_answer(
     alloc: Global,
-    store: &Store,
+    store: &mut Store,
     dict: &mut TextDict,
     method: LevelMethod,
     bound: &Bound<'_>,
     on: ObjId,
-) -> Result<Table, OpFault>
-    requires live { IsSome (tables store.now on.0) }
-    requires settled { IsSettledWorld (world store.now dict.old) }
-    requires call { IsCall (world store.now dict.old) (Levels method) bound.now
-        (shape_at (tables store.now) on) }
-    ensures longer { IsLonger dict.old dict.new }
-    ensures answer { Makes dict.new result (answer_in (world store.now dict.old)
-        (Levels method) bound.now (object_value (tables store.now) dict.old on)) }
+) -> Result<Value, OpFault>
+    requires live { IsSome (tables store.old on.0) }
+    requires settled { IsSettledWorld (world store.old dict.old) }
+    requires call { IsCall (world store.old dict.old) (Levels method) bound.now
+        (shape_at (tables store.old) on) }
+    ensures { Forms result (answer_in (world store.old dict.old) (Levels method) bound.now
+        (object_value (tables store.old) dict.old on))
+        (world store.old dict.old) (world store.new dict.new) }
 {
     let source = store.read(on);
     match method {
         LevelMethod::RenameAxis => {
             let names = level_names(alloc, bound)?;
-            rename_axis(alloc, &source, names.as_slice())
+            let made = rename_axis(alloc, &source, names.as_slice());
+            derived(store, dict, on, made)
         }
         LevelMethod::SetIndex => {
             let places = named_places(alloc, store, dict, bound, on)?;
-            set_index(alloc, dict, &source, &places)
+            let made = set_index(alloc, dict, &source, &places);
+            derived(store, dict, on, made)
         }
         LevelMethod::ResetIndex => {
-            if bound.truth(0) {
-                renumber(alloc, &source)
+            if bound.truth(arguments::RESET_INDEX_DROP) {
+                let made = renumber(alloc, &source);
+                derived(store, dict, on, made)
             } else {
-                reset_levels(alloc, dict, &source)
+                let made = reset_levels(alloc, dict, &source);
+                derived_behind(store, dict, on, made)
             }
         }
-        LevelMethod::Droplevel => drop_level(alloc, dict, &source, bound.scalar_or_none(0)),
+        LevelMethod::Droplevel => {
+            let level = bound.scalar_or_none(arguments::DROPLEVEL_LEVEL);
+            let made = drop_level(alloc, dict, &source, level);
+            derived(store, dict, on, made)
+        }
         LevelMethod::Swaplevel => {
-            let first = bound.scalar_or_none(0);
-            swap_levels(alloc, dict, &source, first, bound.scalar_or_none(1))
+            let first = bound.scalar_or_none(arguments::SWAPLEVEL_I);
+            let second = bound.scalar_or_none(arguments::SWAPLEVEL_J);
+            let made = swap_levels(alloc, dict, &source, first, second);
+            derived(store, dict, on, made)
         }
     }
 }
@@ -157,16 +176,17 @@ fn labels_made(
 {
     match method {
         LabelMethod::ReindexSeries => {
-            reindex(alloc, store, dict, bound.list_or_none(0), None, on)
+            let rows = bound.list_or_none(arguments::REINDEX_SERIES_INDEX);
+            reindex(alloc, store, dict, rows, None, on)
         }
         LabelMethod::ReindexFrame => {
-            let rows = bound.list_or_none(0);
-            let columns = bound.list_or_none(1);
+            let rows = bound.list_or_none(arguments::REINDEX_FRAME_INDEX);
+            let columns = bound.list_or_none(arguments::REINDEX_FRAME_COLUMNS);
             reindex(alloc, store, dict, rows, columns, on)
         }
         LabelMethod::Xs => {
-            let key = bound.scalar(0);
-            let level = bound.scalar_or_none(1);
+            let key = bound.scalar(arguments::XS_KEY);
+            let level = bound.scalar_or_none(arguments::XS_LEVEL);
             xs(alloc, dict, &store.read(on), key, level)
         }
     }
@@ -192,120 +212,186 @@ fn table_answer(
 {
     match method {
         TableMethod::Copy => copied(alloc, store, dict, on),
-        TableMethod::Head => head(alloc, store, on, bound.whole(0)),
-        TableMethod::Tail => tail(alloc, store, on, bound.whole(0)),
+        TableMethod::Head => head(alloc, store, on, bound.whole(arguments::HEAD_N)),
+        TableMethod::Tail => tail(alloc, store, on, bound.whole(arguments::HEAD_N)),
         TableMethod::RenameSeries => {
-            let name = name_of(bound.scalar_or_none(0));
+            let name = name_of(bound.scalar_or_none(arguments::RENAME_SERIES_NAME));
             rename_series(alloc, store, dict, name, on)
         }
-        TableMethod::RenameFrame => rename_frame(alloc, store, dict, bound.dict(0), on),
+        TableMethod::RenameFrame => {
+            let pairs = bound.dict(arguments::RENAME_FRAME_COLUMNS);
+            rename_frame(alloc, store, dict, pairs, on)
+        }
         TableMethod::ToFrame => to_frame(alloc, store, dict, on),
         TableMethod::DropColumns => {
-            let places = named_places(alloc, store, dict, bound, on)?;
+            let places = selected_places(alloc, store, dict, bound, on)?;
             drop_columns(alloc, store, dict, &places, on)
         }
         TableMethod::ToCsv => {
-            let text = to_csv(alloc, store, dict, bound.truth(0), on);
+            let text = to_csv(alloc, store, dict, bound.truth(arguments::TO_CSV_INDEX), on);
             answer_made(store, dict, text)
         }
     }
 }
 
-// The answer of a call.
-fn answer(
-    alloc: Global,
-    store: &mut Store,
-    dict: &mut TextDict,
-    call: &BoundCall<'_>,
-    on: ObjId,
-) -> Result<Value, OpFault>
-    requires live { IsSome (tables store.old on.0) }
-    requires settled { IsSettledWorld (world store.old dict.old) }
-    requires call { IsCall (world store.old dict.old) call.now.method call.now.bound
-        (shape_at (tables store.old) on) }
-    ensures { Forms result (answer_in (world store.old dict.old) call.now.method call.now.bound
-        (object_value (tables store.old) dict.old on))
-        (world store.old dict.old) (world store.new dict.new) }
-{
-    let bound = &call.bound;
-    match call.method {
-        Method::Columns(method) => columns_answer(alloc, store, dict, method, bound, on),
-        Method::Summary(method) => {
-            let made = summarize(alloc, dict, summary_of(method), &store.read(on));
-            answer_made(store, dict, made)
-        }
-        Method::Rows(method) => {
-            let table = rows_made(alloc, store, dict, method, bound, on);
-            placed(store, dict, table)
-        }
-        Method::Levels(method) => {
-            let table = levels_made(alloc, store, dict, method, bound, on);
-            placed(store, dict, table)
-        }
-        Method::Labels(method) => {
-            let table = labels_made(alloc, store, dict, method, bound, on);
-            placed(store, dict, table)
-        }
-        Method::Table(method) => table_answer(alloc, store, dict, method, bound, on),
-        Method::Reshape(_) | Method::Other(_) => unreachable!(),
-    }
-}
-
-// A method of a value, by its name.
-fn call(
-    alloc: Global,
-    store: &mut Store,
-    dict: &mut TextDict,
-    on: Value,
-    name: &str,
-    args: &[Named],
-) -> Result<Value, OpFault>
-    requires live { IsLive (tables store.old) on }
-    requires settled { IsSettledWorld (world store.old dict.old) }
-    requires arguments { AreKnownArguments (world store.old dict.old) args.now }
-    ensures { Forms result (method_result (entry_in (world store.old dict.old) on)
-        name.now (arguments_in (world store.old dict.old) args.now))
-        (world store.old dict.old) (world store.new dict.new) }
-{
-    let Value::Object(id) = on else {
-        return Err(no_attribute(alloc, name));
-    };
-    let call = bound_call(alloc, store, dict, id, name, args)?;
-    answer(alloc, store, dict, &call, id)
-}
-
-/// A method of a value: `s.name(..)`.
-///
-/// The answer is a scalar, or a new object whose table is that of its own rows; no other object
-/// changes. The scalar that `to_csv` answers is a text, to which the dictionary gives a number. The
-/// methods are those of the API reference of pandas, "Series" and "DataFrame".
+/// What a method that makes new columns answers, with these arguments: a new object.
 ///
 /// # Errors
 ///
-/// In this order: `NoAttribute` where the value has no such method (a scalar has none), or one that isn't
-/// answered here (`merge`, one of another shape, and `groupby`, `rolling` and `expanding`, which stand in
-/// forms of their own); `WrongKind` of arguments that are unknown, missing, too many, given twice or of a
-/// form that the method doesn't take; `BadValue(Argument)` of a value that isn't listed; the method's own
-/// refusals; `Limit`. `NoMemory` may come in place of any answer. After a refusal all objects are as they
-/// were.
-pub fn method(
+/// In this order: `WrongKind` of arguments that are unknown, missing, too many, given twice or of a form that the
+/// method doesn't take; `BadValue(Argument)` of a value that isn't listed; the first column's refusal; `Limit`.
+/// `NoMemory` may come in place of any answer. After a refusal all objects are as they were.
+pub fn column_method(
     alloc: Global,
     store: &mut Store,
     dict: &mut TextDict,
-    on: Value,
-    chain: &Chain,
-    args: &NamedList,
+    on: ObjId,
+    method: ColumnMethod,
+    args: &[Named],
 ) -> Result<Value, OpFault>
-    requires chain { is_plain chain.now ≡ true }
-    requires live { IsLive (tables store.old) on }
+    requires live { IsSome (tables store.old on.0) }
+    requires shape { fits_shape (Columns method) (shape_at (tables store.old) on) ≡ true }
     requires settled { IsSettledWorld (world store.old dict.old) }
     requires arguments { AreKnownArguments (world store.old dict.old) args.now }
     ensures { let w = world store.old dict.old in
-        Forms result (method_result (entry_in w on) (last_name chain.now)
+        Forms result (own_call (Columns method) (object_value w.tables w.texts on)
         (arguments_in w args.now)) w (world store.new dict.new) }
 {
-    match chain {
-        Chain::Plain(name) => call(alloc, store, dict, on, name.as_str(), args.as_slice()),
-        Chain::Group(_, _, _) | Chain::Rolling(_, _) | Chain::Expanding(_, _) => unreachable!(),
-    }
+    let bound = bound_call(store, dict, Method::Columns(method), on, args)?;
+    columns_answer(alloc, store, dict, method, &bound, on)
+}
+
+/// What a method that makes one cell of each column answers, with these arguments: a scalar for a Series, and a
+/// new object for a frame.
+///
+/// # Errors
+///
+/// Those of the arguments, as of [`column_method`]; the method's own; `Limit`. `NoMemory` may come in place of any
+/// answer. After a refusal all objects are as they were.
+pub fn summary_method(
+    alloc: Global,
+    store: &mut Store,
+    dict: &mut TextDict,
+    on: ObjId,
+    method: SummaryMethod,
+    args: &[Named],
+) -> Result<Value, OpFault>
+    requires live { IsSome (tables store.old on.0) }
+    requires shape { fits_shape (Summary method) (shape_at (tables store.old) on) ≡ true }
+    requires settled { IsSettledWorld (world store.old dict.old) }
+    requires arguments { AreKnownArguments (world store.old dict.old) args.now }
+    ensures { let w = world store.old dict.old in
+        Forms result (own_call (Summary method) (object_value w.tables w.texts on)
+        (arguments_in w args.now)) w (world store.new dict.new) }
+{
+    let _bound = bound_call(store, dict, Method::Summary(method), on, args)?;
+    let made = summarize(alloc, dict, summary_of(method), &store.read(on));
+    answer_made(store, dict, made)
+}
+
+/// What a method that takes rows, tells them apart or puts them in order answers, with these arguments: a new object.
+///
+/// # Errors
+///
+/// Those of the arguments, as of [`column_method`]; the method's own; `Limit`. `NoMemory` may come in place of any
+/// answer. After a refusal all objects are as they were.
+pub fn row_method(
+    alloc: Global,
+    store: &mut Store,
+    dict: &mut TextDict,
+    on: ObjId,
+    method: RowMethod,
+    args: &[Named],
+) -> Result<Value, OpFault>
+    requires live { IsSome (tables store.old on.0) }
+    requires shape { fits_shape (Rows method) (shape_at (tables store.old) on) ≡ true }
+    requires settled { IsSettledWorld (world store.old dict.old) }
+    requires arguments { AreKnownArguments (world store.old dict.old) args.now }
+    ensures { let w = world store.old dict.old in
+        Forms result (own_call (Rows method) (object_value w.tables w.texts on)
+        (arguments_in w args.now)) w (world store.new dict.new) }
+{
+    let bound = bound_call(store, dict, Method::Rows(method), on, args)?;
+    let table = rows_made(alloc, store, dict, method, &bound, on);
+    placed(store, dict, table)
+}
+
+/// What a method of the levels of the rows answers, with these arguments: a new object.
+///
+/// # Errors
+///
+/// Those of the arguments, as of [`column_method`]; the method's own; `Limit`. `NoMemory` may come in place of any
+/// answer. After a refusal all objects are as they were.
+pub fn level_method(
+    alloc: Global,
+    store: &mut Store,
+    dict: &mut TextDict,
+    on: ObjId,
+    method: LevelMethod,
+    args: &[Named],
+) -> Result<Value, OpFault>
+    requires live { IsSome (tables store.old on.0) }
+    requires shape { fits_shape (Levels method) (shape_at (tables store.old) on) ≡ true }
+    requires settled { IsSettledWorld (world store.old dict.old) }
+    requires arguments { AreKnownArguments (world store.old dict.old) args.now }
+    ensures { let w = world store.old dict.old in
+        Forms result (own_call (Levels method) (object_value w.tables w.texts on)
+        (arguments_in w args.now)) w (world store.new dict.new) }
+{
+    let bound = bound_call(store, dict, Method::Levels(method), on, args)?;
+    levels_answer(alloc, store, dict, method, &bound, on)
+}
+
+/// What a method of the rows, or of the columns, that labels name answers, with these arguments: a new object.
+///
+/// # Errors
+///
+/// Those of the arguments, as of [`column_method`]; the method's own; `Limit`. `NoMemory` may come in place of any
+/// answer. After a refusal all objects are as they were.
+pub fn label_method(
+    alloc: Global,
+    store: &mut Store,
+    dict: &mut TextDict,
+    on: ObjId,
+    method: LabelMethod,
+    args: &[Named],
+) -> Result<Value, OpFault>
+    requires live { IsSome (tables store.old on.0) }
+    requires shape { fits_shape (Labels method) (shape_at (tables store.old) on) ≡ true }
+    requires settled { IsSettledWorld (world store.old dict.old) }
+    requires arguments { AreKnownArguments (world store.old dict.old) args.now }
+    ensures { let w = world store.old dict.old in
+        Forms result (own_call (Labels method) (object_value w.tables w.texts on)
+        (arguments_in w args.now)) w (world store.new dict.new) }
+{
+    let bound = bound_call(store, dict, Method::Labels(method), on, args)?;
+    let table = labels_made(alloc, store, dict, method, &bound, on);
+    placed(store, dict, table)
+}
+
+/// What a method of the whole table answers, with these arguments: a new object, or for `to_csv` a text, to which
+/// the dictionary gives a number.
+///
+/// # Errors
+///
+/// Those of the arguments, as of [`column_method`]; the method's own; `Limit`. `NoMemory` may come in place of any
+/// answer. After a refusal all objects are as they were.
+pub fn table_method(
+    alloc: Global,
+    store: &mut Store,
+    dict: &mut TextDict,
+    on: ObjId,
+    method: TableMethod,
+    args: &[Named],
+) -> Result<Value, OpFault>
+    requires live { IsSome (tables store.old on.0) }
+    requires shape { fits_shape (Whole method) (shape_at (tables store.old) on) ≡ true }
+    requires settled { IsSettledWorld (world store.old dict.old) }
+    requires arguments { AreKnownArguments (world store.old dict.old) args.now }
+    ensures { let w = world store.old dict.old in
+        Forms result (own_call (Whole method) (object_value w.tables w.texts on)
+        (arguments_in w args.now)) w (world store.new dict.new) }
+{
+    let bound = bound_call(store, dict, Method::Table(method), on, args)?;
+    table_answer(alloc, store, dict, method, &bound, on)
 }

@@ -19,7 +19,7 @@ use crate::tables::columns_placed;
 use cell_core::{Cell, Kind, NoMemory, TextDict};
 use column_core::{ColRef, Column, shift};
 use column_operators::{fillna, isin, isna, notna};
-use frame_signatures::Bound;
+use frame_signatures::{Bound, arguments};
 use frame_store::{ObjId, OpFault, Store, Value};
 use meaning_call::ColumnMethod;
 use nullable_array::{ArrayFault, Cumulation, cast, cumulate};
@@ -147,19 +147,19 @@ pub(crate) fn columns_answer(
         ColumnMethod::Isna => columns_placed(alloc, store, dict, &Marked { missing: true }, on),
         ColumnMethod::Notna => columns_placed(alloc, store, dict, &Marked { missing: false }, on),
         ColumnMethod::Fillna => {
-            let value = bound.scalar(0);
+            let value = bound.scalar(arguments::FILLNA_VALUE);
             columns_placed(alloc, store, dict, &Filled { value }, on)
         }
         ColumnMethod::Isin => {
-            let values = listed_cells(alloc, dict, bound.list(0))?;
+            let values = listed_cells(alloc, dict, bound.list(arguments::ISIN_VALUES))?;
             columns_placed(alloc, store, dict, &ListedCells { values }, on)
         }
         ColumnMethod::Astype => {
-            let kind = bound.kind(dict, 0);
+            let kind = bound.kind(dict, arguments::ASTYPE_DTYPE);
             columns_placed(alloc, store, dict, &Cast { kind }, on)
         }
         ColumnMethod::Shift => {
-            let periods = bound.whole(0);
+            let periods = bound.whole(arguments::SHIFT_PERIODS);
             columns_placed(alloc, store, dict, &Shifted { periods }, on)
         }
         ColumnMethod::Cumsum => {

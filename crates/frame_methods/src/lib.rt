@@ -1,10 +1,11 @@
-//! The methods of Series and frames.
+//! The methods of Series and frames, by what they make.
 //!
-//! [`method`] calls a method of a value by its name, with the arguments of a script, and answers a
-//! scalar or a new object. [`exists`] says whether a value has a method of a name. What a method
-//! answers for its arguments is its definition on whole tables (`meaning_method/specs/Methods.antt`);
-//! the refusals that all methods share come from the table of signatures (the crate `frame_signatures`).
-//! What a call makes is told by the family of its method (`calling`).
+//! One function answers each family of methods: [`column_method`] new columns, [`summary_method`] one cell of each,
+//! [`row_method`] rows, [`level_method`] levels, [`label_method`] what labels name, [`table_method`] the whole table. It
+//! takes the arguments of a script and answers a scalar or a new object. What a method answers for its arguments is its
+//! definition on whole tables (`meaning_method/specs/Methods.antt`); the refusals that all methods share come from the
+//! table of signatures (the crate `frame_signatures`), to which a call's arguments are bound first (`binding`). Which
+//! method a name means is told above, in `frame_calls`.
 //!
 //! A method that makes new cells makes them column by column (`columns`), each by an operation of its
 //! own (`column_ops`); one that gives an object's rows again under other headings does so by
@@ -14,17 +15,13 @@
 //! `frame_format` (`csv`).
 //!
 //! What the methods of levels and labels make, and the columns that an argument names, is in the
-//! crate `frame_labels` below; calls behind `groupby` are in `frame_groups`, those behind `rolling` and
-//! `expanding` in `frame_windows`, methods of another shape in `frame_reshape`, and joins of frames in
-//! `frame_merge`. A call of another crate that makes each column by itself is an operation, too: a
+//! crate `frame_labels` below. A call of another crate that makes each column by itself is an operation, too: a
 //! [`ColumnOp`], of which [`columns_placed`] makes an object.
 //!
 //! ```text
 //! let mut args = NamedList::new(alloc);
 //! args.push(Named { name: None, value: Argument::One(Value::Scalar(Cell::Int(0))) })?;
-//! let mut name = Words::new(alloc);
-//! name.push_str("fillna")?;
-//! let filled = method(alloc, &mut store, &mut dict, on, &Chain::Plain(name), &args)?;
+//! let filled = column_method(alloc, &mut store, &mut dict, on, ColumnMethod::Fillna, args.as_slice())?;
 //! ```
 #![tactic(auto)]
 
@@ -44,7 +41,8 @@ mod sorts;
 mod summaries;
 mod tables;
 
-pub use binding::exists;
-pub use calling::method;
+pub use calling::{
+    column_method, label_method, level_method, row_method, summary_method, table_method,
+};
 pub use columns::{ColumnOp, MadeColumn};
 pub use tables::columns_placed;

@@ -1,13 +1,11 @@
 // What rows are sorted by.
-ghost use Rattle.std.specs.Prelude.{◌≡◌, ◌<◌, length, map, IfOk};
+ghost use Rattle.std.specs.Prelude.{◌≡◌, ◌<◌, length, IfOk};
 ghost use Rattle.std.specs.List.{range_with_len};
 ghost use Rattle.sorting.specs.Sorting.{in_order};
-ghost use Rattle.frame_store.specs.Parts.{AreColumnsOf};
 ghost use Rattle.frame_methods.specs.Sorts as sorts;
 
 use cell_core::{Label, NoMemory, Places, TextDict};
 use column_core::ColRef;
-use frame_store::ObjRef;
 use multi_index::Axis;
 use sorting::{LabelKeys, rows_by_labels};
 use std::alloc::Global;
@@ -74,21 +72,4 @@ pub(crate) fn rows_by_keys(
         IfOk result (λ made. made ≡ in_order before (range_with_len 0 rows)) }
 {
     rows_by_labels(alloc, dict, keys, ascending, rows)
-}
-
-// The columns at these places.
-#[tactic(auto, using(crate::proofs::SortLaws::one_place_more))]
-pub(crate) fn columns_at<'a>(
-    alloc: Global,
-    on: &'a ObjRef<'_>,
-    places: &Places,
-) -> Result<Vec<ColRef<'a>>, NoMemory>
-    requires { AreColumnsOf on.now places.now }
-    ensures { IfOk result (λ columns. columns.items ≡ map (sorts.column_of on.now) places.now) }
-{
-    let mut columns = Vec::new(alloc);
-    for k in 0..places.len() {
-        columns.push(on.column(*places.at(k)))?;
-    }
-    Ok(columns)
 }

@@ -10,8 +10,9 @@ ghost use Rattle.frame_store.specs.Parts.{AreColumnsOf};
 ghost use Rattle.frame_methods.specs.Sorts.{AreKeys};
 
 use crate::rows::rows_table;
-use crate::sort_keys::{SortKeys, columns_at, rows_by_keys};
+use crate::sort_keys::{SortKeys, rows_by_keys};
 use cell_core::{Grid, Places, TextDict};
+use frame_labels::columns_at;
 use frame_store::{ObjRef, OpFault, Table};
 use std::alloc::Global;
 

@@ -9,7 +9,7 @@ ghost use Rattle.frame_store.specs.tables.Valid.{IsWhole};
 ghost use Rattle.frame_parts.specs.form.Finish.{column_labels};
 ghost use Rattle.frame_parts.specs.form.Infix as meant;
 ghost use Rattle.frame_parts.specs.form.Infix.{columns_or_missing, column_or_missing};
-ghost use Rattle.frame_store.specs.Parts.{columns_of, table_column, IsSingle};
+ghost use Rattle.frame_store.specs.Parts.{labelled, columns_of, table_column, IsSingle};
 ghost use Rattle.frame_store.specs.Shown.{labels_value};
 ghost use Rattle.frame_store.specs.World.{IsKnownTable};
 ghost use Rattle.frame_parts.specs.Makes.{MakesBy};
@@ -56,7 +56,7 @@ pub(crate) fn heading_tuples(alloc: Global, on: &ObjRef<'_>) -> Result<Tuples, N
 #[tactic(auto, using(crate::proofs::WideLaws::tuples_alike))]
 fn labels_axis(alloc: Global, dict: &TextDict, on: &ObjRef<'_>) -> Result<Axis, NoMemory>
     requires { length on.now.headings ≡ length on.now.columns }
-    ensures { IfOk result (λ axis. axis ≡ labels_axis on.now) }
+    ensures { IfOk result (λ axis. labelled axis ≡ labels_axis on.now) }
 {
     let tuples = heading_tuples(alloc, on)?;
     Axis::from_tuples(alloc, dict, &tuples, 1)

@@ -1,5 +1,5 @@
 -- The frame that `melt` makes is the one that is meant.
-use Rattle.{frame_parts.proofs.Common.{◌≡◌, ◌∙◌, ap, refl, sym, subst, arith, ℕ, suc, zero, ◌<◌, ◌≤◌, ◌^◌, pos, true, false, List, [], ◌∷◌, ◌++◌, map, length, replicate, flat_map, All, Option, None, IsSome, Result, Ok, Err, nat_tests, append_assoc, map-append, length-map, length-append, length-replicate, get_or-map, length-map-range_with_len, All-map, All-append, All-cons, All-nil, Cell, Label, Kind, Frame, Limit, WrongKind, AreDistinct, IsLonger, Text, datum, CellValue, FaultValue, then_value, int, fault_of, CellBlock, AxisValue, range_axis, default_labels, default_seen, IsSettled, ColumnOf, NumberedTable, Table, table_value, column_value, heading_value, tuple_value, column_at, AreHeadings, IsWhole, Entry, table, OpFault, Refused, NoMemory, HeadingList, columns_of, single_block, table_column, CellColumn, table_of, table_settled, settled_by, settled_later, seen_later, IsKnownTable, columns_value, headings_value, cells_value, Makes, MakesBy, column_listed, within_limits, limited, finished, unless_repeated, refused_on}, column_core.proofs.{cells.Common.{◌*◌}, CellRows.{map-map}}, frame_parts.specs.form.Finish.{first_repeated}, frame_select.{specs.Headings.{NamesRepeated, repeated_heading}, proofs.{AnswerLaws.{column_seen}, HeadingLaws.{repeated_seen, different}, RefusalLaws.{repeated_settled}}}, frame_labels.{specs.method.{Concat.{columns_below}, Reshape.{value_labels, label_column, melted_headings, melted, melt_of}}, proofs.{TableLaws.{limited_within}, IndexingLaws.{labelled, headings_seen}}}, frame_reshape.{specs.{Checks.{kinds_at, are_one}, Melts.{heading_cell, heading_cells, label_cells, kept_column, melted_value, IsMelted}, declared.melting.Melted.{Melted}}, proofs.MeltCells.{first_kind, below, below_meant, below_count, rows_of_columns, headings_meant}}}
+use Rattle.{frame_parts.proofs.Common.{◌≡◌, ◌∙◌, ap, refl, sym, subst, arith, ℕ, suc, zero, ◌<◌, ◌≤◌, ◌^◌, pos, true, false, List, [], ◌∷◌, ◌++◌, map, length, replicate, flat_map, All, Option, None, IsSome, Result, Ok, Err, nat_tests, append_assoc, map-append, length-map, length-append, length-replicate, get_or-map, length-map-range_with_len, All-map, All-append, All-cons, All-nil, Cell, Label, Kind, Frame, Limit, WrongKind, AreDistinct, IsLonger, Text, datum, CellValue, FaultValue, then_value, int, fault_of, CellBlock, AxisValue, range_axis, default_labels, default_seen, IsSettled, ColumnOf, NumberedTable, Table, table_value, column_value, heading_value, tuple_value, column_at, IsWhole, Entry, table, OpFault, Refused, NoMemory, HeadingList, columns_of, single_block, table_column, CellColumn, table_of, table_settled, settled_by, settled_later, seen_later, IsKnownTable, columns_value, headings_value, cells_value, Makes, MakesBy, column_listed, within_limits, limited, finished, unless_repeated, refused_on}, column_core.proofs.{cells.Common.{◌*◌}, CellRows.{map-map}}, frame_parts.specs.form.Finish.{first_repeated}, frame_select.{specs.Headings.{NamesRepeated, repeated_heading}, proofs.{AnswerLaws.{column_seen}, HeadingLaws.{repeated_seen}, RefusalLaws.{repeated_settled}}}, frame_labels.{specs.method.{Concat.{columns_below}, Reshape.{value_labels, label_column, melted_headings, melted, melt_of}}, proofs.{TableLaws.{limited_within, frame_heads}, IndexingLaws.{labelled, headings_seen}}}, frame_reshape.{specs.{Checks.{kinds_at, are_one}, Melts.{heading_cell, heading_cells, label_cells, kept_column, melted_value, IsMelted}, declared.melting.Melted.{Melted}}, proofs.MeltCells.{first_kind, below, below_meant, below_count, rows_of_columns, headings_meant}}}
 use Rattle.frame_labels.specs.method.Reshape as meant
 
 -- the columns of the frame, and as they are seen
@@ -96,9 +96,6 @@ pub labels_some : (old new : List Text) (t : NumberedTable) (kept : List ℕ) (l
 labels_some old new t kept labels whole frame there is =
     let own = rw (headings_seen old t kept) at (headings_some old _ (labelled t kept (whole.headings.labelled frame) (rw (sym whole.headed) at there))) in
     some_headings new labels (subst (All IsSome) (sym is) (All-append IsSome _ _ own (grind arith)))
-
-frame_heads : (labels : List (Option Label)) → All IsSome labels → repeated_heading labels ≡ None → AreHeadings Frame None labels
-frame_heads = grind (arith, different)
 
 -- as many rows as are numbered
 rows_numbered : (count : ℕ) → length (range_axis count).tuples ≡ count
@@ -210,5 +207,5 @@ module _ (old new : List Text) (t : NumberedTable) (m : Melted) (known : IsKnown
           rw same (record {
             headed = labels_counted;
             filled = rw (rows_numbered count ∙ rows_are ∙ ap (λ n. length m.values * n) (length-map t.labels (tuple_value old))) (columns_filled t m kind known.whole there);
-            headings = frame_heads labels some (rw sliced at none);
+            headings = frame_heads _ labels some (rw sliced at none);
           })

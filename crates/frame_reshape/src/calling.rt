@@ -23,7 +23,7 @@ use crate::stacking::stack;
 use crate::told::pivoted_in;
 use crate::unstacking::unstack;
 use cell_core::TextDict;
-use frame_signatures::{Bound, bind, parameters};
+use frame_signatures::{Bound, arguments, bind, parameters};
 use frame_store::{Named, ObjId, OpFault, Store, Table, Value, placed};
 use group_by::GroupOp;
 use meaning_call::{Method, ReshapeMethod};
@@ -64,14 +64,21 @@ fn reshaped(
     let source = store.read(on);
     match method {
         ReshapeMethod::Stack => stack(alloc, dict, &source),
-        ReshapeMethod::Unstack => unstack(alloc, dict, &source, bound.scalar_or_none(0)),
+        ReshapeMethod::Unstack => {
+            let level = bound.scalar_or_none(arguments::UNSTACK_LEVEL);
+            unstack(alloc, dict, &source, level)
+        }
         ReshapeMethod::Pivot => {
-            let told = pivoted_in(alloc, store, dict, bound, 0, 2, on)?;
+            let columns = arguments::PIVOT_COLUMNS;
+            let values = arguments::PIVOT_VALUES;
+            let told = pivoted_in(alloc, store, dict, bound, columns, values, on)?;
             pivot(alloc, dict, &source, &told)
         }
         ReshapeMethod::PivotTable => {
-            let told = pivoted_in(alloc, store, dict, bound, 2, 0, on)?;
-            let op = reduction_named(bound.text(dict, 3));
+            let columns = arguments::PIVOT_TABLE_COLUMNS;
+            let values = arguments::PIVOT_TABLE_VALUES;
+            let told = pivoted_in(alloc, store, dict, bound, columns, values, on)?;
+            let op = reduction_named(bound.text(dict, arguments::PIVOT_TABLE_AGGFUNC));
             pivot_table(alloc, dict, &source, &told, op)
         }
         ReshapeMethod::Melt => {

@@ -23,7 +23,7 @@ use column_core::Column;
 use frame_labels::{cell_of, column_label, columns_at, places_besides, told_places};
 use frame_parts::{CellList, list_kind};
 use frame_select::{different_headings, headings_at};
-use frame_signatures::Bound;
+use frame_signatures::{Bound, arguments};
 use frame_store::{Blocks, ObjId, ObjRef, OpFault, Store, Table};
 use multi_index::Axis;
 use reshape::melt_block;
@@ -53,10 +53,10 @@ fn value_places(
         (meant.values_named (object_value (tables store.now) dict.now on) kept.now
         (stands_in (world store.now dict.now) bound.now 1)) }
 {
-    if bound.is_none(1) {
+    if bound.is_none(arguments::MELT_VALUE_VARS) {
         return Ok(places_besides(alloc, store.read(on).columns(), kept)?);
     }
-    told_places(alloc, store, dict, bound, 1, on)
+    told_places(alloc, store, dict, bound, arguments::MELT_VALUE_VARS, on)
 }
 
 // The columns that the arguments name. None stay where none are named, and all others become rows.
@@ -76,7 +76,7 @@ pub(crate) fn melted_in(
         (stands_in w bound.now 0) (stands_in w bound.now 1)) }
     ensures columns { IfOk result (IsMelted (table_at (tables store.now) on.0)) }
 {
-    let kept = told_places(alloc, store, dict, bound, 0, on)?;
+    let kept = told_places(alloc, store, dict, bound, arguments::MELT_ID_VARS, on)?;
     let values = value_places(alloc, store, dict, bound, &kept, on)?;
     Ok(Melted { kept, values })
 }

@@ -4,6 +4,7 @@ ghost use Rattle.cell_core.specs.declared.grid.Shape.TheVariants.{Frame};
 ghost use Rattle.frame_store.specs.tables.Table.{table_value};
 ghost use Rattle.frame_store.specs.tables.Valid.{IsWhole};
 ghost use Rattle.frame_labels.specs.method.Reshape as meant;
+ghost use Rattle.frame_store.specs.Parts.{labelled};
 ghost use Rattle.frame_store.specs.Shown.{Makes};
 ghost use Rattle.frame_store.specs.World.{IsKnownTable};
 ghost use Rattle.frame_labels.specs.Labels.{column_tuple};
@@ -71,7 +72,7 @@ fn stacked_tuples(alloc: Global, on: &ObjRef<'_>) -> Result<Tuples, NoMemory>
 fn stacked_axis(alloc: Global, dict: &TextDict, on: &ObjRef<'_>) -> Result<Axis, NoMemory>
     requires whole { IsWhole on.now }
     requires few { length on.now.level_names ≤ 3 }
-    ensures { IfOk result (λ axis. axis ≡ words.stacked_axis on.now) }
+    ensures { IfOk result (λ axis. labelled axis ≡ words.stacked_axis on.now) }
 {
     let tuples = stacked_tuples(alloc, on)?;
     let levels = on.axis().levels();

@@ -13,8 +13,8 @@ ghost use Rattle.frame_reshape.specs.Pivots.{pivoted_value, pivoted_seen, IsPivo
 
 use cell_core::{Code, Label, NoMemory, Places, TextDict};
 use frame_labels::told_places;
-use frame_select::column_place;
-use frame_signatures::Bound;
+use frame_select::argument_column;
+use frame_signatures::{Bound, arguments};
 use frame_store::{ObjId, OpFault, Store};
 use std::alloc::Global;
 
@@ -70,11 +70,11 @@ fn told_place(
     ensures inside { IfOk result (λ at. at < length (table_at (tables store.now) on.0).columns) }
 {
     let label = Label::from(bound.scalar(place));
-    column_place(alloc, dict, &store.read(on), label)
+    argument_column(alloc, dict, &store.read(on), label)
 }
 
-// The columns that the arguments name, the labels of rows first and one of them at least. They stand at the place 1 of the
-// arguments of both methods, and those of columns and cells at these.
+// The columns that the arguments name, the labels of rows first and one of them at least. They stand at the same place in
+// both methods, and those of columns and cells at these.
 pub(crate) fn pivoted_in(
     alloc: Global,
     store: &Store,
@@ -92,7 +92,7 @@ pub(crate) fn pivoted_in(
         (stands_in w bound.now 1) (stands_in w bound.now columns) (stands_in w bound.now values)) }
     ensures told { IfOk result (IsPivoted (table_at (tables store.now) on.0)) }
 {
-    let index = told_places(alloc, store, dict, bound, 1, on)?;
+    let index = told_places(alloc, store, dict, bound, arguments::PIVOT_INDEX, on)?;
     if index.len() == 0 {
         return Err(OpFault::Refused(Code::WrongKind));
     }

@@ -4,9 +4,9 @@ use Rattle.{
   column_core.{proofs.{cells.Common.{map-id, get_or-map as get_or-map_at, drop-map, option_and_then}, CellRows.{range-same}}, specs.Columns.{column_with}},
   std.proofs.lemmas.{List.Folds.{map_fixed}, Option.{slice_get-get_or}},
   frame_store.specs.tables.Change.{cut_columns},
-  indexers.{proofs.SpanLaws.{all_listed}, specs.pick.Rows.{rows_of}},
+  indexers.{proofs.SpanLaws.{all_listed}, specs.{declared.keys.Picked.{Picked}, pick.Rows.{rows_of}}},
   meaning_select.specs.{Keys.{Reach}, Select.{picked_result, without_leading, column_rows, rows_taken, kind_across, one_kind, cut, first_cell, row_name, row_series, row_result, as_series, shown_as, Way, way_reach, select_result}},
-  frame_select.{specs.{Plans.{reach_of_plan, rows_in, levels_lost, taken_table, AreTakenFrom, CanTake, has_single_row, has_single_column, PlansBy}, declared.{reaching.Reach.{Reach as CodeReach}, planning.{Plan.{Plan}, Taken.{Taken, TheVariants.{Slice, Listed, Under}}, Extent.{Extent}}}, Reaches.{reach_value, columns_axis, tuples_value}, Chosen.{cells_by_place, cells_at, columns_at, chosen, chosen_under, AreSettledHeadings}, Across.{cell_across}, Selected.{as_it_is, headings_at}, Headings.{NamesRepeated, repeated_heading}, Picked.{headed_by}}, proofs.HeadingLaws.{heading_seen, repeated_seen, different, repeated_settled}},
+  frame_select.{specs.{Plans.{reach_of_plan, rows_in, levels_lost, taken_table, AreTakenFrom, CanTake, has_single_row, has_single_column, PlansBy}, declared.{planning.{Plan.{Plan}, Taken.{Taken, TheVariants.{Slice, Listed, Under}}, Extent.{Extent}}}, Reaches.{picked_reach, columns_axis, tuples_value}, Chosen.{cells_by_place, cells_at, columns_at, chosen, chosen_under, AreSettledHeadings}, Across.{cell_across}, Selected.{as_it_is, headings_at}, Headings.{NamesRepeated, repeated_heading}, Picked.{headed_by}}, proofs.HeadingLaws.{heading_seen, repeated_seen, different, repeated_settled}},
 }
 use Rattle.frame_store.specs.tables.Value as value
 use Rattle.frame_select.specs.declared.planning.Extent.TheVariants as answer
@@ -98,10 +98,10 @@ only_place (p ∷ []) _ one at = search
 only_place (p ∷ (q ∷ ps)) _ one at = cc
 
 -- what is reached is what is taken
-pub reached_plan : (texts : List Text) (t : NumberedTable) (meant_reach : Result Reach FaultValue) (reach : CodeReach) (plan : Plan) → meant_reach ≡ Ok (reach_value texts reach)
-    → picked_result (table_value texts t) (reach_of_plan plan) ≡ picked_result (table_value texts t) (reach_value texts reach)
+pub reached_plan : (texts : List Text) (t : NumberedTable) (meant_reach : Result Reach FaultValue) (rows columns : Picked) (plan : Plan) → meant_reach ≡ Ok (picked_reach rows columns)
+    → picked_result (table_value texts t) (reach_of_plan plan) ≡ picked_result (table_value texts t) (picked_reach rows columns)
     → then_value meant_reach (picked_result (table_value texts t)) ≡ picked_result (table_value texts t) (reach_of_plan plan)
-reached_plan _ t _ _ _ is same = cc
+reached_plan _ t _ _ _ _ is same = cc
 
 -- Rows that are taken from a column.
 
@@ -318,7 +318,7 @@ module _ (texts : List Text) (t : NumberedTable) where
   headings_seen [] = refl
   headings_seen (p ∷ ps) = search (heading_seen, headings_seen ps)
 
-headings_settled : (texts : List Text) (t : NumberedTable) (places : List ℕ) → IsSettled headings_value texts t.headings → IsSettled headings_value texts (headings_at t places)
+pub headings_settled : (texts : List Text) (t : NumberedTable) (places : List ℕ) → IsSettled headings_value texts t.headings → IsSettled headings_value texts (headings_at t places)
 headings_settled texts t places = settled_by headings_value headings_value (λ hs. map (λ p. slice_index_or hs p None) places) texts t.headings (headings_at t places) (λ ts. sym (headings_seen ts t places))
 
 all_labelled : (t : NumberedTable) (places : List ℕ) → All IsSome t.headings → All (λ p. p < length t.headings) places → All IsSome (headings_at t places)
@@ -389,7 +389,7 @@ module _ (texts : List Text) (t : NumberedTable) where
 
   -- unless a heading stands again, by numbers
   module _ (columns : List ℕ) (distinct : AreDistinct texts) (settled : IsSettled headings_value texts t.headings) where
-    finished_is : (lost : ℕ) (rows : List ℕ) (found : Option Label) → repeated_heading (headings_at t columns) ≡ found
+    pub finished_is : (lost : ℕ) (rows : List ℕ) (found : Option Label) → repeated_heading (headings_at t columns) ≡ found
         → finished (without_leading lost (cut (table_value texts t) rows columns)) ≡ unless_repeated (heading_value texts found) (limited (without_leading lost (cut (table_value texts t) rows columns)))
     finished_is _ _ _ is = cc (headings_seen texts t columns, repeated_seen texts (headings_at t columns) distinct (headings_settled texts t columns settled))
 

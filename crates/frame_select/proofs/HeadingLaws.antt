@@ -1,6 +1,6 @@
 -- Headings that are told apart by the numbers of their texts.
 use Rattle.{
-  frame_parts.{proofs.{Common.{◌≡◌, ◌<◌, ◌+◌, refl, ℕ, zero, suc, Bool, false, ◌||◌, cond, List, [], ◌∷◌, map, length, drop, slice_index_or, Option, Some, None, All, if◌then◌else◌, arith, rules, true, ◌++◌, ap, append_assoc, append-nil, Result, Ok, Err, ℤ, ◌-◌, ◌&&◌, take, drop_more, length-map, list_any-append, list_any_at, get_or_from_slice_get, slice_get_within, get_or-map, drop-cons, drop-length, ◌≢◌, IsSome, AllPairs, slice_get, Decides, list_any, list_all, lookup, option_map, Label, Cell, Na, Code, NoKey, AreDistinct, Text, label_datum, na_cell, LabelValue, datum, CellValue, fault_of, cell_label, FaultValue, then_value, IsSettled, heading_value, NumberedTable, Table, table_value, tuple_value, IsWhole, cell, table, GivenList, one, many, no_given, more_given, try_all, place_of_label, column_place, cells_of, same_by_number, heading_label, value_decides, label_of, headings_value, cells_value, Item, Tables, items_of}, LabelLaws.{label_given, label_one}}, specs.form.{Finish.{first_repeated}, Select.{found}, Given.{count_of, each, is_scalar, is_truth}}},
+  frame_parts.{proofs.{Common.{◌≡◌, ◌<◌, ◌+◌, refl, ℕ, zero, suc, Bool, false, ◌||◌, cond, List, [], ◌∷◌, map, length, drop, slice_index_or, Option, Some, None, All, if◌then◌else◌, arith, rules, true, ◌++◌, ap, append_assoc, append-nil, Result, Ok, Err, ℤ, ◌-◌, ◌&&◌, take, drop_more, length-map, list_any-append, list_any_at, get_or_from_slice_get, slice_get_within, get_or-map, drop-cons, drop-length, ◌≢◌, IsSome, AllPairs, slice_get, Decides, list_any, list_all, lookup, option_map, Label, Cell, Na, Code, NoKey, AreDistinct, Text, label_datum, na_cell, LabelValue, datum, CellValue, fault_of, cell_label, FaultValue, then_value, IsSettled, heading_value, NumberedTable, Table, table_value, tuple_value, IsWhole, cell, table, GivenList, one, many, no_given, more_given, try_all, place_of_label, argument_column, cells_of, same_by_number, heading_label, value_decides, label_of, headings_value, cells_value, Item, Tables, items_of}, LabelLaws.{label_given, label_one}}, specs.form.{Finish.{first_repeated}, Select.{found}, Given.{count_of, each, is_scalar, is_truth}}},
   column_core.proofs.cells.Common.{position_from},
   indexmap.specs.IndexSet.{insert_key},
   cell_core.specs.declared.code.{Code.TheVariants.{BadValue}, Reason.TheVariants.{Repeated}},
@@ -156,7 +156,7 @@ module _ (texts : List Text) where
     from_label = grind (arith, drop-cons, length-map, get_or-map cell_label (cells_value texts cells) k na_cell, cell_seen, slice_get_within cells k cell at)
 
     -- or none
-    pub place_refused : (t : Table) (places : List ℕ) (fault : FaultValue) (whole : Result (List ℕ) FaultValue) → column_place t (label_datum texts label) ≡ Err fault → made_after (column_place t) places (drop k (labels_seen texts cells)) ≡ whole
+    pub place_refused : (t : Table) (places : List ℕ) (fault : FaultValue) (whole : Result (List ℕ) FaultValue) → argument_column t (label_datum texts label) ≡ Err fault → made_after (argument_column t) places (drop k (labels_seen texts cells)) ≡ whole
         → whole ≡ Err fault
     place_refused = grind (arith, from_label)
 
@@ -180,7 +180,7 @@ module _ (texts : List Text) where
 
   -- what the entries have for a label
   pub looked_up : (es : List (Option Label × ℕ)) (t : NumberedTable) (label : Label) (place : Option ℕ) → AreDistinct texts → IsSettled headings_value texts t.headings → IsSettled label_datum texts label
-      → HaveFirstPlaces es 0 t.headings → place ≡ lookup (same_heading (Some label)) es → column_place (table_value texts t) (label_datum texts label) ≡ found (label_datum texts label) place
+      → HaveFirstPlaces es 0 t.headings → place ≡ lookup (same_heading (Some label)) es → argument_column (table_value texts t) (label_datum texts label) ≡ found (label_datum texts label) place
   looked_up _ t label place distinct settled here first is = grind (arith, first (Some label), position_seen 0 t.headings label distinct settled here)
 
 pub looked_inside : (es : List (Option Label × ℕ)) (t : NumberedTable) (label : Label) (place : ℕ) → IsWhole t → HaveFirstPlaces es 0 t.headings → Some place ≡ lookup (same_heading (Some label)) es → place < length t.columns
@@ -256,6 +256,6 @@ module _ (texts : List Text) where
 
   -- all rows of some columns
   module _ (t : NumberedTable) (plan : Plan) (all : TakesAll t plan.rows) where
-    pub column_planned : (label : LabelValue) (place : ℕ) → form.column_place (table_value texts t) label ≡ Ok place → plan.columns ≡ place ∷ [] → plan.extent ≡ answer.Column
+    pub column_planned : (label : LabelValue) (place : ℕ) → form.selected_column (table_value texts t) label ≡ Ok place → plan.columns ≡ place ∷ [] → plan.extent ≡ answer.Column
         → then_value (column_reach (table_value texts t) label) (picked_result (table_value texts t)) ≡ picked_result (table_value texts t) (reach_of_plan plan)
     column_planned = grind (arith, length-map)

@@ -12,5 +12,6 @@ pub mod BracketLaws
 pub mod TruthLaws
 pub mod TakenLaws
 pub mod CutLaws
+pub mod ListedLaws
 pub mod CarryLaws
 pub mod Hints

@@ -256,6 +256,10 @@ module _ (texts : List Text) where
   labels_are [] _ = refl
   labels_are (h ∷ hs) some = grind (arith, labels_are hs (λ k d lt. some (suc k) d (omega arith)), some 0 h (omega arith))
 
+  -- the labels of a key that is settled are settled too
+  pub key_settled : (sub : List Text → GivenSub) (k : LocKey) (levels : ℕ) → IsGiven texts sub → IsKeyOf levels sub k → IsSettled label_key_value texts k
+  key_settled = grind arith
+
   module _ (t : NumberedTable) where
     pub all_labels : (places : List ℕ) → All IsSome t.headings → places ≡ range_with_len 0 (length t.headings)
         → tuples_value texts (map (λ place. heading_tuple (slice_index_or t.headings place None)) places) ≡ column_labels (table_value texts t)
@@ -268,13 +272,15 @@ module _ (texts : List Text) where
         ∙ ap (map _) (listed_is seen None)
         ∙ labels_are _ some
 
+    -- the rows of a key of `loc` are those of its labels
+    pub loc_is : (axis : AxisValue) (sub : List Text → GivenSub) (k : LocKey) (levels : ℕ) → levels ≡ length t.level_names → axis ≡ axis_of t → None ≡ object_key (sub texts) → IsKeyOf levels sub k
+        → meant.loc_rows (table_value texts t) (sub texts) ≡ found_labels (length axis.names) (tuples_value texts axis.tuples) (label_key_value texts k)
+    loc_is = grind (arith, length-map)
+
     -- what a key of labels finds
     module _ (axis : AxisValue) (sub : List Text → GivenSub) (k : LocKey) (out : Result Picked OpFault) (settled : IsGiven texts sub) (found : IsFound texts axis k out) where
-      key_settled : (levels : ℕ) → IsKeyOf levels sub k → IsSettled label_key_value texts k
-      key_settled = grind arith
-
       pub loc_found : (levels : ℕ) → levels ≡ length t.level_names → axis ≡ axis_of t → None ≡ object_key (sub texts) → IsKeyOf levels sub k → MakesBy pick_value texts out (meant.loc_rows (table_value texts t) (sub texts))
-      loc_found = grind (arith, length-map, key_settled)
+      loc_found levels count same none is = rw (loc_is axis sub k levels count same none is) (found (key_settled sub k levels settled is))
 
       pub columns_found : (places : List ℕ) → All IsSome t.headings → places ≡ range_with_len 0 (length t.headings) → axis ≡ columns_axis t places → is_row (sub texts) ≡ false → IsKeyOf 1 sub k
           → MakesBy pick_value texts out (meant.loc_columns (table_value texts t) (sub texts))

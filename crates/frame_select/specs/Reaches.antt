@@ -1,5 +1,5 @@
 -- Keys and what they pick, as they are meant.
-use Rattle.std.specs.Prelude.{◌≡◌, ℕ, ℤ, ◌<◌, nat_eq, Bool, true, false, List, [], ◌∷◌, length, map, slice_index_or, Option, Some, None, option_map, Result, Ok, Err, All, ⊤, if◌then◌else◌}
+use Rattle.std.specs.Prelude.{◌≡◌, ℕ, ℤ, ◌<◌, ◌^◌, nat_eq, Bool, true, false, List, [], ◌∷◌, length, map, slice_index_or, Option, Some, None, IfSome, option_map, Result, Ok, Err, All, ⊤, if◌then◌else◌}
 use Rattle.std.specs.Option.{is_some}
 use Rattle.cell_core.specs.declared.cell.Label.{Label}
 use Rattle.cell_core.specs.declared.grid.Shape.{Shape}
@@ -16,7 +16,7 @@ use Rattle.frame_parts.specs.form.Given.{each, is_scalar, is_tuple_of}
 use Rattle.frame_parts.specs.form.Select.{labels_of}
 use Rattle.column_core.specs.cells.Operator.{cell_label}
 use Rattle.multi_index.specs.Axes.{AxisValue, HaveLevels}
-use Rattle.indexers.specs.pick.Keys.{LabelKey, all_rows, one_key, each_key, between, PlaceKey, Pick}
+use Rattle.indexers.specs.pick.Keys.{LabelKey, all_rows, one_key, each_key, between, PlaceKey, Pick, listed_pick}
 use Rattle.meaning_select.specs.Keys.{Reach}
 use Rattle.frame_store.specs.declared.arguments.Selector.{Selector}
 use Rattle.frame_store.specs.declared.arguments.Selector.TheVariants as selector
@@ -30,6 +30,7 @@ use Rattle.indexers.specs.declared.keys.KeyFault.{KeyFault}
 use Rattle.indexers.specs.declared.keys.KeyFault.TheVariants as fault
 use Rattle.indexers.specs.Keys.{place_key}
 use Rattle.indexers.specs.Picks.{pick_of, IsSpanned}
+use Rattle.frame_store.specs.Shown.{Refuses}
 use Rattle.frame_store.specs.World.{IsKnownTable}
 use Rattle.frame_select.specs.Selected.{scalars_in}
 use Rattle.frame_select.specs.declared.reaching.Reach.{Reach as CodeReach}
@@ -83,8 +84,33 @@ accessor_of selector.Iat = iat
 abbrev pub pick_value : List Text → Picked → Pick
 pick_value texts picked = pick_of picked
 
-abbrev pub reach_value : List Text → CodeReach → Reach
-reach_value texts reach = record { rows = pick_of reach.rows; columns = pick_of reach.columns }
+-- what is picked is what is meant, or that is a list of more rows than a table may have
+abbrev pub IsPicked : Option Picked → Result Pick FaultValue → Type 0
+IsPicked (Some picked) meant = meant ≡ Ok (pick_of picked)
+IsPicked None meant = (rows : List ℕ) × (2 ^ 26 < length rows) × (meant ≡ Ok (listed_pick rows))
+
+-- rows are found so, or the first fault is answered. Want of memory may come in place of any answer
+abbrev pub FindsBy : List Text → Result (Option Picked) OpFault → Result Pick FaultValue → Type 0
+FindsBy texts (Ok found) meant = IsPicked found meant
+FindsBy texts (Err (op.Refused why)) meant = Refuses texts why meant
+FindsBy texts (Err op.NoMemory) meant = Unit {0}
+
+-- rows that are picked, or a list of them, and columns
+abbrev pub picked_reach : Picked → Picked → Reach
+picked_reach rows columns = record { rows = pick_of rows; columns = pick_of columns }
+
+abbrev pub listed_reach : List ℕ → Picked → Reach
+listed_reach rows columns = record { rows = listed_pick rows; columns = pick_of columns }
+
+-- the same of rows and columns
+abbrev pub IsReached : Option Picked → Picked → Result Reach FaultValue → Type 0
+IsReached (Some rows) columns meant = meant ≡ Ok (picked_reach rows columns)
+IsReached None columns meant = (rows : List ℕ) × (2 ^ 26 < length rows) × (meant ≡ Ok (listed_reach rows columns))
+
+abbrev pub ReachesBy : List Text → Result CodeReach OpFault → Result Reach FaultValue → Type 0
+ReachesBy texts (Ok reach) meant = IsReached reach.rows reach.columns meant
+ReachesBy texts (Err (op.Refused why)) meant = Refuses texts why meant
+ReachesBy texts (Err op.NoMemory) meant = Unit {0}
 
 -- places among so many, which the span lists too where there is one; a single one is one, and neither loses a level
 pub record PicksBelow (count : ℕ) (picked : Picked) : Type 0 where
@@ -96,8 +122,8 @@ pub record PicksBelow (count : ℕ) (picked : Picked) : Type 0 where
 
 -- rows and columns of a table, of whose levels one is left; a Series has a single column
 pub record ReachesWithin (t : NumberedTable) (reach : CodeReach) : Type 0 where
-  pub rows : PicksBelow (length t.labels) reach.rows
-  pub left : reach.rows.dropped < length t.level_names
+  pub rows : IfSome reach.rows (PicksBelow (length t.labels))
+  pub left : IfSome reach.rows (λ picked. picked.dropped < length t.level_names)
   pub columns : PicksBelow (length t.columns) reach.columns
   pub frame : reach.columns.single ≡ false → t.shape ≡ Frame
 

@@ -47,8 +47,8 @@ pub fn place_of_label(dict: &TextDict, on: &ObjRef<'_>, label: Label) -> Option<
     None
 }
 
-/// The place of the first column with the label, or `NoKey` where no column has it.
-pub fn column_place(
+/// The place of the column that a label names as the argument of a call, or `NoKey` where no column has it.
+pub fn argument_column(
     alloc: Global,
     dict: &TextDict,
     on: &ObjRef<'_>,
@@ -58,7 +58,7 @@ pub fn column_place(
     requires settled { IsSettled headings_value dict.now on.now.headings }
     requires label { IsSettled label_datum dict.now label }
     ensures answer { MakesBy as_it_is dict.now result
-        (meant.column_place (table_value dict.now on.now) (label_datum dict.now label)) }
+        (meant.argument_column (table_value dict.now on.now) (label_datum dict.now label)) }
     ensures inside { IfOk result (λ place. place < length on.now.columns) }
 {
     match place_of_label(dict, on, label) {
@@ -67,9 +67,27 @@ pub fn column_place(
     }
 }
 
-/// The places of the columns with these labels, in their order, or `NoKey` of the first one that no
-/// column has. `NoMemory` may come in place of any answer.
-pub fn column_places(
+/// The place of the column that a label selects, or `NoKey` where no column has it.
+pub fn selected_column(
+    alloc: Global,
+    dict: &TextDict,
+    on: &ObjRef<'_>,
+    label: Label,
+) -> Result<usize, OpFault>
+    requires whole { IsWhole on.now }
+    requires settled { IsSettled headings_value dict.now on.now.headings }
+    requires label { IsSettled label_datum dict.now label }
+    ensures answer { MakesBy as_it_is dict.now result
+        (meant.selected_column (table_value dict.now on.now) (label_datum dict.now label)) }
+    ensures inside { IfOk result (λ place. place < length on.now.columns) }
+{
+    // No two columns have one label, so it selects the column that it names.
+    argument_column(alloc, dict, on, label)
+}
+
+/// The places of the columns that these labels name as an argument of a call, in their order, or `NoKey` of the first
+/// one that no column has. `NoMemory` may come in place of any answer.
+pub fn argument_columns(
     alloc: Global,
     dict: &TextDict,
     on: &ObjRef<'_>,
@@ -78,7 +96,7 @@ pub fn column_places(
     requires whole { IsWhole on.now }
     requires settled { IsSettled headings_value dict.now on.now.headings }
     requires cells { IsSettled cells_value dict.now cells.now }
-    ensures answer { MakesBy as_it_is dict.now result (meant.column_places
+    ensures answer { MakesBy as_it_is dict.now result (meant.argument_columns
         (table_value dict.now on.now) (map cell_label (cells_value dict.now cells.now))) }
     ensures inside { IfOk result (All (λ place. place < length on.now.columns)) }
 {
@@ -94,6 +112,25 @@ pub fn column_places(
         places.push(*place)?;
     }
     Ok(places)
+}
+
+/// The places of the columns that these labels select, in their order, or `NoKey` of the first one that no
+/// column has. `NoMemory` may come in place of any answer.
+pub fn selected_columns(
+    alloc: Global,
+    dict: &TextDict,
+    on: &ObjRef<'_>,
+    cells: &Cells,
+) -> Result<Places, OpFault>
+    requires whole { IsWhole on.now }
+    requires settled { IsSettled headings_value dict.now on.now.headings }
+    requires cells { IsSettled cells_value dict.now cells.now }
+    ensures answer { MakesBy as_it_is dict.now result (meant.selected_columns
+        (table_value dict.now on.now) (map cell_label (cells_value dict.now cells.now))) }
+    ensures inside { IfOk result (All (λ place. place < length on.now.columns)) }
+{
+    // No two columns have one label, so each selects the column that it names.
+    argument_columns(alloc, dict, on, cells)
 }
 
 /// The headings of the columns at these places. `NoMemory` is the only refusal.

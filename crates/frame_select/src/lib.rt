@@ -29,7 +29,10 @@ mod taking;
 
 pub use headings::different_headings;
 pub use keys::{joined_key, listed_keys};
-pub use labels::{column_place, column_places, headings_at, place_of_label};
+pub use labels::{
+    argument_column, argument_columns, headings_at, place_of_label, selected_column,
+    selected_columns,
+};
 pub use new_objects::{as_frame, copied, places_below, renamed};
 pub use reaching::{all_columns, columns_by, may_stand_alone, rows_by};
 pub use selecting::{columns_of, select, sliced};

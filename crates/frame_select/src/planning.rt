@@ -1,5 +1,5 @@
 // Plans of selections: what they take from a table that is read.
-ghost use Rattle.std.specs.Prelude.{◌≡◌, ◌<◌, ◌∷◌, [], List, length, IfOk};
+ghost use Rattle.std.specs.Prelude.{◌≡◌, ℕ, ◌<◌, ◌^◌, ◌∷◌, [], List, length, Some, None, Ok, Err, IfOk, IfErr, All};
 ghost use Rattle.cell_core.specs.declared.grid.Shape.TheVariants.{Frame};
 ghost use Rattle.column_core.specs.cells.Text.{Text as OneText};
 ghost use Rattle.frame_store.specs.tables.Settled.{IsSettled};
@@ -11,13 +11,15 @@ ghost use Rattle.frame_store.specs.Objects.{Tables, tables};
 ghost use Rattle.frame_store.specs.Arguments.{object_value, items_of, subscript_of, IsLiveObject};
 ghost use Rattle.frame_store.specs.World.{world, entry_in, subscript_in, IsKnownValue, IsKnownSubscript, IsKnownTable, IsSettledWorld};
 ghost use Rattle.frame_select.specs.Plans.{rows_in, TakesPicked, TakesAll, has_single_row, has_single_column, reach_of_plan, IsPlanFor, PlansBy};
-ghost use Rattle.frame_select.specs.Reaches.{accessor_of, reach_value, PicksBelow, ReachesWithin, CanSelect};
-ghost use Rattle.frame_select.specs.Selected.{IsKnownSecond, second_in, each_truth, way_of};
+ghost use Rattle.frame_select.specs.Headings.{repeated_heading, NamesRepeated};
+ghost use Rattle.frame_select.specs.Reaches.{accessor_of, picked_reach, listed_reach, PicksBelow, ReachesWithin, CanSelect};
+ghost use Rattle.frame_select.specs.Selected.{headings_at as meant_headings, IsKnownSecond, second_in, each_truth, way_of};
 
-use crate::labels::{column_place, column_places};
+use crate::headings::different_headings;
+use crate::labels::{headings_at, selected_column, selected_columns};
 use crate::reaching::{Reach, all_columns, mask_rows, reach_by};
 use crate::subscripts::scalars_alone;
-use cell_core::{Cell, Grid, Label, Places, Rows, Shape, TextDict};
+use cell_core::{Cell, Code, Grid, Label, Places, Rows, Shape, TextDict};
 use frame_parts::wrong_kind;
 use frame_store::{Argument, Item, ObjId, ObjRef, OpFault, Selector, Store, Subscript, Value};
 use indexers::Picked;
@@ -108,18 +110,52 @@ fn rows_taken(rows: Picked) -> Taken
     }
 }
 
-// What is taken where keys reach this.
-fn plan_of(reach: Reach) -> Plan
-    ensures plan { (texts : List OneText) (t : NumberedTable) → ReachesWithin t reach
+// What is taken where keys reach these rows and columns.
+fn plan_of(rows: Picked, columns: Picked) -> Plan
+    ensures plan { (texts : List OneText) (t : NumberedTable)
+        → ReachesWithin t (record { rows = Some rows; columns = columns })
         → meant.picked_result (table_value texts t) (reach_of_plan result)
-        ≡ meant.picked_result (table_value texts t) (reach_value texts reach) }
-    ensures whole { (t : NumberedTable) → ReachesWithin t reach → IsPlanFor t result }
+        ≡ meant.picked_result (table_value texts t) (picked_reach rows columns) }
+    ensures whole { (t : NumberedTable)
+        → ReachesWithin t (record { rows = Some rows; columns = columns }) → IsPlanFor t result }
 {
-    let extent = extent_of(reach.rows.single, reach.columns.single);
+    let extent = extent_of(rows.single, columns.single);
     Plan {
-        rows: rows_taken(reach.rows),
-        columns: reach.columns.places,
+        rows: rows_taken(rows),
+        columns: columns.places,
         extent,
+    }
+}
+
+// Tests that none of these columns has the label of another one.
+fn expect_different(alloc: Global, on: &ObjRef<'_>, columns: &Places) -> Result<(), OpFault>
+    requires { All (λ place. place < length on.now.columns) columns.now }
+    ensures different { IfOk result (λ done.
+        repeated_heading (meant_headings on.now columns.now) ≡ None) }
+    ensures refused { IfErr result (λ fault. NamesRepeated fault
+        (repeated_heading (meant_headings on.now columns.now))) }
+{
+    let labels = headings_at(alloc, on, columns)?;
+    let _ = different_headings(alloc, on.columns_name(), &labels)?;
+    Ok(())
+}
+
+// What a selection of more rows than a table may have answers: the first column that is listed twice, else `Limit`.
+#[tactic(auto, using(crate::proofs::Hints::beyond_limits))]
+fn beyond_limits(alloc: Global, dict: &TextDict, on: &ObjRef<'_>, columns: &Picked) -> OpFault
+    requires known { IsKnownTable dict.now on.now }
+    requires columns { PicksBelow (length on.now.columns) columns.now }
+    ensures { (rows : List ℕ) → 2 ^ 26 < length rows
+        → PlansBy dict.now on.now (Err result) (Ok (listed_reach rows columns.now)) }
+{
+    // Equal texts have equal numbers: `TextDict::len` says so.
+    let _ = dict.len();
+    if columns.single {
+        return OpFault::Refused(Code::Limit);
+    }
+    match expect_different(alloc, on, &columns.places) {
+        Ok(()) => OpFault::Refused(Code::Limit),
+        Err(fault) => fault,
     }
 }
 
@@ -163,7 +199,7 @@ fn list_plan(
 {
     match scalars_alone(alloc, items)? {
         Some(cells) => {
-            let places = column_places(alloc, dict, on, &cells)?;
+            let places = selected_columns(alloc, dict, on, &cells)?;
             Ok(whole_columns(on, places, Extent::Frame))
         }
         None => Err(wrong_kind()),
@@ -188,7 +224,7 @@ fn mask_plan(
 {
     let rows = mask_rows(alloc, store, dict, on, mask)?;
     let columns = all_columns(alloc, on)?;
-    Ok(plan_of(Reach { rows, columns }))
+    Ok(plan_of(rows, columns))
 }
 
 // What a value in brackets takes from a frame: the column of a label, or the rows of a mask.
@@ -210,7 +246,7 @@ fn value_plan(
 {
     match value {
         Value::Scalar(cell) => {
-            let place = column_place(alloc, dict, on, Label::from(cell))?;
+            let place = selected_column(alloc, dict, on, Label::from(cell))?;
             let mut columns = Places::new(alloc);
             columns.push(place)?;
             Ok(whole_columns(on, columns, Extent::Column))
@@ -268,6 +304,7 @@ fn is_truth_list(key: &Subscript) -> bool
 }
 
 // What an accessor takes.
+#[tactic(auto, using(crate::proofs::Hints::access_plan))]
 fn access_plan(
     alloc: Global,
     store: &Store,
@@ -286,8 +323,11 @@ fn access_plan(
         (second_in (world store.now dict.now) second.entry)) }
     ensures whole { IfOk result (IsPlanFor on.now) }
 {
-    let reach = reach_by(alloc, store, dict, on, by, first, second)?;
-    Ok(plan_of(reach))
+    let Reach { rows, columns } = reach_by(alloc, store, dict, on, by, first, second)?;
+    match rows {
+        Some(rows) => Ok(plan_of(rows, columns)),
+        None => Err(beyond_limits(alloc, dict, on, &columns)),
+    }
 }
 
 // What brackets take. Those of a Series are `loc`, but for lists of truth values.

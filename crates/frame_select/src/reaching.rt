@@ -9,11 +9,15 @@ ghost use Rattle.frame_store.specs.tables.Valid.{IsWhole};
 ghost use Rattle.meaning_select.specs.Keys as meant;
 ghost use Rattle.frame_parts.specs.Makes.{MakesBy};
 ghost use Rattle.frame_store.specs.Objects.{Tables, tables};
+ghost use Rattle.frame_store.specs.Parts.{labelled};
 ghost use Rattle.frame_store.specs.Arguments.{object_value, subscript_of, IsLiveObject, IsLiveSubscript};
 ghost use Rattle.frame_store.specs.tables.Settled.{IsSettled};
 ghost use Rattle.frame_store.specs.World.{world, subscript_in, IsKnownSubscript, IsSettledWorld};
+ghost use Rattle.multi_index.specs.Axes.{HaveLevels};
 ghost use Rattle.indexers.specs.Keys.{FitsLevels};
-ghost use Rattle.frame_select.specs.Reaches.{label_key_value, tuples_value, accessor_of, pick_value, reach_value, refusal_of, found_result, columns_axis, object_key, PicksBelow, ReachesWithin, CanSelect, is_series, is_row};
+ghost use Rattle.indexers.specs.declared.keys.LocKey.TheVariants.{Many};
+ghost use Rattle.indexers.specs.pick.Keys.{each_key};
+ghost use Rattle.frame_select.specs.Reaches.{label_key_value, tuples_value, accessor_of, pick_value, refusal_of, found_result, columns_axis, object_key, FindsBy, PicksBelow, ReachesBy, ReachesWithin, CanSelect, is_series, is_row};
 ghost use Rattle.frame_select.specs.Selected.{IsKnownSecond, second_in};
 
 use crate::keys::{joined_key, label_key, position_key, whole_key};
@@ -21,15 +25,18 @@ use crate::new_objects::places_below;
 use cell_core::{Code, Grid, Kind, NoMemory, Places, Reason, Rows, Shape, TextDict, Tuple, Tuples};
 use frame_parts::wrong_kind;
 use frame_store::{Argument, ObjId, ObjRef, OpFault, Selector, Store, Subscript};
-use indexers::{KeyFault, LocKey, Picked, iloc_places, loc_places, mask_places};
+use indexers::{KeyFault, LocKey, Picked, iloc_places, listed_places, loc_places, mask_places};
 use multi_index::Axis;
 use std::alloc::Global;
+
+// As many rows as a table may have.
+const MOST_ROWS: usize = 67108864;
 
 /// Rows and columns of a table that are picked together.
 #[derive(Drop)]
 pub(crate) struct Reach {
-    /// The rows.
-    pub rows: Picked,
+    /// The rows, which aren't listed where a list of labels meets more than a table may have.
+    pub rows: Option<Picked>,
     /// The columns.
     pub columns: Picked,
 }
@@ -77,6 +84,55 @@ fn labelled(alloc: Global, dict: &TextDict, axis: &Axis, key: &LocKey) -> Result
     found(loc_places(alloc, dict, axis, key))
 }
 
+// The rows of an axis that a list of labels picks. None where they are more than a table may have.
+fn listed_rows(
+    alloc: Global,
+    dict: &TextDict,
+    axis: &Axis,
+    labels: &Tuples,
+) -> Result<Option<Picked>, OpFault>
+    requires some { 1 ≤ length axis.now.names }
+    requires fits { HaveLevels (length axis.now.names) labels.now }
+    requires given { IsSettled tuples_value dict.now axis.now.tuples }
+    ensures rows { IsSettled label_key_value dict.now (Many labels.now) → FindsBy dict.now result
+        (meant.found_labels (length axis.now.names) (tuples_value dict.now axis.now.tuples)
+        (each_key (tuples_value dict.now labels.now))) }
+    ensures within { IfOk result (λ found. IfSome found (PicksBelow (length axis.now.tuples))) }
+    ensures left { IfOk result (λ found. IfSome found
+        (λ picked. picked.dropped < length axis.now.names)) }
+{
+    // Equal texts have equal numbers: `TextDict::len` says so.
+    let _ = dict.len();
+    match listed_places(alloc, axis, labels, MOST_ROWS) {
+        Ok(Some(places)) => Ok(Some(Picked::listed(places))),
+        Ok(None) => Ok(None),
+        Err(fault) => Err(refusal(fault)),
+    }
+}
+
+// The rows of an axis that a key by label picks. None where those of a list are more than a table may have.
+fn labelled_within(
+    alloc: Global,
+    dict: &TextDict,
+    axis: &Axis,
+    key: &LocKey,
+) -> Result<Option<Picked>, OpFault>
+    requires some { 1 ≤ length axis.now.names }
+    requires fits { FitsLevels (length axis.now.names) key.now }
+    requires given { IsSettled tuples_value dict.now axis.now.tuples }
+    ensures rows { IsSettled label_key_value dict.now key.now → FindsBy dict.now result
+        (meant.found_labels (length axis.now.names) (tuples_value dict.now axis.now.tuples)
+        (label_key_value dict.now key.now)) }
+    ensures within { IfOk result (λ found. IfSome found (PicksBelow (length axis.now.tuples))) }
+    ensures left { IfOk result (λ found. IfSome found
+        (λ picked. picked.dropped < length axis.now.names)) }
+{
+    match key {
+        LocKey::Many(labels) => listed_rows(alloc, dict, axis, labels),
+        _ => Ok(Some(labelled(alloc, dict, axis, key)?)),
+    }
+}
+
 // The object that a key is.
 pub(crate) fn object_of(key: &Subscript) -> Option<ObjId>
     ensures table { (live : Tables) (texts : List OneText)
@@ -115,12 +171,7 @@ pub(crate) fn mask_rows(
         return Err(wrong_kind());
     }
     let places = found(mask_places(alloc, on.axis(), mask.axis(), mask.column(0)))?;
-    Ok(Picked {
-        places,
-        single: false,
-        dropped: 0,
-        span: None,
-    })
+    Ok(Picked::listed(places))
 }
 
 // The rows of a key of `loc`.
@@ -230,6 +281,58 @@ pub fn rows_by(
     }
 }
 
+// The rows of a key of `loc`, for a selection. None where a list meets more than a table may have.
+fn loc_rows_within(
+    alloc: Global,
+    store: &Store,
+    dict: &TextDict,
+    on: &ObjRef<'_>,
+    key: &Subscript,
+) -> Result<Option<Picked>, OpFault>
+    requires table { CanSelect dict.now on.now }
+    requires settled { IsSettledWorld (world store.now dict.now) }
+    requires key { IsKnownSubscript (world store.now dict.now) key.now }
+    ensures rows { FindsBy dict.now result (meant.loc_rows
+        (table_value dict.now on.now) (subscript_in (world store.now dict.now) key.now)) }
+    ensures within { IfOk result (λ found. IfSome found (PicksBelow (length on.now.labels))) }
+    ensures left { IfOk result (λ found. IfSome found
+        (λ picked. picked.dropped < length on.now.level_names)) }
+{
+    let axis = on.axis();
+    let levels = axis.levels();
+    if let Some(mask) = object_of(key) {
+        return Ok(Some(mask_rows(alloc, store, dict, on, mask)?));
+    }
+    let key = label_key(alloc, levels, key)?;
+    labelled_within(alloc, dict, axis, &key)
+}
+
+/// The rows that a key picks for a selection, as [`rows_by`] picks them. None where a list of labels meets more rows
+/// than a table may have: they are counted before they are listed.
+pub(crate) fn rows_within(
+    alloc: Global,
+    store: &Store,
+    dict: &TextDict,
+    on: &ObjRef<'_>,
+    by: Selector,
+    key: &Subscript,
+) -> Result<Option<Picked>, OpFault>
+    requires table { CanSelect dict.now on.now }
+    requires settled { IsSettledWorld (world store.now dict.now) }
+    requires key { IsKnownSubscript (world store.now dict.now) key.now }
+    ensures rows { FindsBy dict.now result (meant.rows_by (accessor_of by)
+        (table_value dict.now on.now) (subscript_in (world store.now dict.now) key.now)) }
+    ensures within { IfOk result (λ found. IfSome found (PicksBelow (length on.now.labels))) }
+    ensures left { IfOk result (λ found. IfSome found
+        (λ picked. picked.dropped < length on.now.level_names)) }
+{
+    match by {
+        Selector::Plain => loc_rows_within(alloc, store, dict, on, key),
+        Selector::Loc => loc_rows_within(alloc, store, dict, on, key),
+        _ => Ok(Some(rows_by(alloc, store, dict, on, by, key)?)),
+    }
+}
+
 /// The labels of the columns at these places as an axis, whose level has the columns' name.
 pub(crate) fn columns_axis(
     alloc: Global,
@@ -240,7 +343,7 @@ pub(crate) fn columns_axis(
     requires whole { IsWhole on.now }
     requires shape { on.now.shape ≡ Frame }
     requires places { All (λ place. place < length on.now.columns) places.now }
-    ensures { IfOk result (λ axis. axis ≡ columns_axis on.now places.now) }
+    ensures { IfOk result (λ axis. labelled axis ≡ columns_axis on.now places.now) }
 {
     let mut labels = Tuples::new(alloc);
     for place in places.as_slice() {
@@ -390,6 +493,7 @@ fn rows_by_two(
 }
 
 /// What the keys of an accessor reach: one key on a Series, or two that are one tuple, and one or two on a frame.
+#[tactic(auto, using(crate::proofs::Hints::reach_by))]
 pub(crate) fn reach_by(
     alloc: Global,
     store: &Store,
@@ -403,7 +507,7 @@ pub(crate) fn reach_by(
     requires settled { IsSettledWorld (world store.now dict.now) }
     requires first { IsKnownSubscript (world store.now dict.now) first.now }
     requires second { IsKnownSecond (world store.now dict.now) second }
-    ensures reach { MakesBy reach_value dict.now result (meant.reach_by on.now.shape
+    ensures reach { ReachesBy dict.now result (meant.reach_by on.now.shape
         (accessor_of by) (table_value dict.now on.now)
         (subscript_in (world store.now dict.now) first.now)
         (second_in (world store.now dict.now) second.entry)) }
@@ -411,23 +515,23 @@ pub(crate) fn reach_by(
 {
     match (on.shape(), second) {
         (Shape::Series, None) => {
-            let rows = rows_by(alloc, store, dict, on, by, first)?;
+            let rows = rows_within(alloc, store, dict, on, by, first)?;
             let columns = all_columns(alloc, on)?;
             Ok(Reach { rows, columns })
         }
         (Shape::Series, Some(second)) => {
-            let rows = rows_by_two(alloc, store, dict, on, by, first, second)?;
+            let rows = Some(rows_by_two(alloc, store, dict, on, by, first, second)?);
             let columns = all_columns(alloc, on)?;
             Ok(Reach { rows, columns })
         }
         (Shape::Frame, None) if may_stand_alone(by, first) => {
-            let rows = rows_by(alloc, store, dict, on, by, first)?;
+            let rows = rows_within(alloc, store, dict, on, by, first)?;
             let columns = all_columns(alloc, on)?;
             Ok(Reach { rows, columns })
         }
         (Shape::Frame, None) => Err(wrong_kind()),
         (Shape::Frame, Some(second)) => {
-            let rows = rows_by(alloc, store, dict, on, by, first)?;
+            let rows = rows_within(alloc, store, dict, on, by, first)?;
             let columns = columns_by(alloc, dict, on, by, second)?;
             Ok(Reach { rows, columns })
         }

@@ -1,5 +1,5 @@
 // Selections: a plan of a table that is read, which one call of the store carries out.
-ghost use Rattle.std.specs.Prelude.{◌≡◌, ◌<◌, ◌^◌, ◌∷◌, [], true, false, List, length, slice_index_or, All, Some, None, IfOk, OnErr};
+ghost use Rattle.std.specs.Prelude.{◌≡◌, ◌<◌, ◌^◌, ◌∷◌, [], true, false, List, length, slice_index_or, All, IfOk, OnErr};
 ghost use Rattle.cell_core.specs.Grids.{AreRowsBelow, place_from, IsPlace};
 ghost use Rattle.cell_core.specs.declared.grid.Shape.TheVariants.{Frame};
 ghost use Rattle.column_core.specs.cells.Text.{Text as OneText};
@@ -10,7 +10,7 @@ ghost use Rattle.meaning_select.specs.Select as meant;
 ghost use Rattle.indexers.specs.pick.Rows.{rows_of};
 ghost use Rattle.multi_index.specs.Axes.{taken_axis};
 ghost use Rattle.frame_parts.specs.Makes.{MakesBy};
-ghost use Rattle.frame_store.specs.Objects.{tables, table_at, with_object};
+ghost use Rattle.frame_store.specs.Objects.{tables, table_at, IsFree, Becomes, Stays};
 ghost use Rattle.frame_store.specs.Arguments.{object_value, shape_at, IsLiveObject};
 ghost use Rattle.frame_store.specs.Shown.{Makes};
 ghost use Rattle.frame_store.specs.World.{world, entry_in, subscript_in, IsKnownValue, IsKnownSubscript, IsKnownTable, IsSettledWorld, Forms};
@@ -161,11 +161,10 @@ fn make_taken(
     requires live { IsLiveObject (tables store.old) on }
     requires taken { CanTake shape headings rows.now columns.now
         (table_at (tables store.old) on.0) }
-    ensures fresh { IfOk result (λ id. tables store.old id.0 ≡ None) }
-    ensures ok { IfOk result (λ id. tables store.new ≡ with_object (tables store.old) id.0
-        (Some (taken_table shape headings rows.now columns.now
-        (table_at (tables store.old) on.0)))) }
-    ensures err { OnErr result (tables store.new ≡ tables store.old) }
+    ensures fresh { IfOk result (IsFree store.old) }
+    ensures ok { IfOk result (λ id. Becomes store.old store.new id (taken_table shape headings
+        rows.now columns.now (table_at (tables store.old) on.0))) }
+    ensures err { OnErr result (Stays store.old store.new) }
 {
     match rows {
         Taken::Slice(rows) => {

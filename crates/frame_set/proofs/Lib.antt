@@ -2,6 +2,7 @@ pub mod AlignLaws
 pub mod CellLaws
 pub mod ColumnLaws
 pub mod FillLaws
+pub mod FitLaws
 pub mod GrowLaws
 pub mod MoveLaws
 pub mod PutCases

@@ -1,7 +1,7 @@
 -- What settings make of the table of an object.
 use Rattle.{
   column_core.proofs.cells.Common.{cond_both, all_pairs_remove, option_map},
-  frame_parts.proofs.Common.{nat_tests, ◌≡◌, ℕ, ◌<◌, List, ◌++◌, length, refl, arith, nat_eq, Option, Some, None, Result, Ok, Err, ◌≢◌, IsSome, Frame, Cell, Label, Code, Text, datum, label_datum, cell_label, FaultValue, then_value, fault_of, loc, IsSettled, NumberedTable, Table, table_value, AreHeadings, IsWhole, Given, GivenSub, column_place, MakesBy, Value, Object, Scalar, Subscript, ObjId, OpFault, Refused, NoMemory, Tables, with_object, table_at, entry_of, subscript_of, shown, World, Sets, map-remove, longer_self, settled_by, settled_with, object_settled},
+  frame_parts.proofs.Common.{nat_tests, ◌≡◌, ℕ, ◌<◌, List, ◌++◌, length, refl, arith, nat_eq, Option, Some, None, Result, Ok, Err, ◌≢◌, IsSome, Frame, Cell, Label, Code, Text, datum, label_datum, cell_label, FaultValue, then_value, fault_of, loc, IsSettled, NumberedTable, Table, table_value, AreHeadings, IsWhole, Given, GivenSub, selected_column, MakesBy, Value, Object, Scalar, Subscript, ObjId, OpFault, Refused, NoMemory, Tables, with_object, table_at, entry_of, subscript_of, shown, World, Sets, map-remove, longer_self, settled_by, settled_with, object_settled},
   frame_store.{specs.tables.Change.{without_column}, proofs.{ColumnLaws.{All-remove}, Settling.{shown_with}}},
   frame_select.specs.select.{Set.{removal_result, added_label, assign_result, table_set}, Select.{Way}},
   frame_set.specs.{declared.changes.Setting.{Setting}, Assigned.{without}, Changes.{ended, table_after, RefusesBy, SetsBy}},
@@ -45,7 +45,7 @@ removed_headed t _ whole frame inside = record {
 }
 
 pub removal_set : (texts : List Text) (tables tables' : Tables) (on v : Value) (id : ObjId) (c : Cell) (t : NumberedTable) (l : Label) (place : ℕ) → on ≡ Object id → v ≡ Scalar c → tables id.0 ≡ Some t → t.shape ≡ Frame
-    → label_datum texts l ≡ cell_label (datum texts c) → IsSettled shown texts tables → column_place (table_value texts t) (label_datum texts l) ≡ Ok place → tables' ≡ with_object tables id.0 (Some (without_column (table_at tables id.0) place))
+    → label_datum texts l ≡ cell_label (datum texts c) → IsSettled shown texts tables → selected_column (table_value texts t) (label_datum texts l) ≡ Ok place → tables' ≡ with_object tables id.0 (Some (without_column (table_at tables id.0) place))
     → Sets (Ok tt) on (removal_result (entry_of tables texts on) (entry_of tables texts v)) (in_world texts tables) (in_world texts tables')
 removal_set texts _ _ _ v id c t l place on_is v_is there frame seen settled placed put =
     rw (on_is, v_is) (set_made _ _ _ id _ _ settled (removed_settled texts t place (search object_settled)) (grind arith) (grind (arith, removed_is)))

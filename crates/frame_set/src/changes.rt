@@ -1,6 +1,6 @@
 // Changes of one object, which are tested whole before they are carried out.
-ghost use Rattle.std.specs.Prelude.{◌≡◌, Some, IsSome, IfSome, OnOk, OnErr};
-ghost use Rattle.frame_store.specs.Objects.{tables, table_at, with_object};
+ghost use Rattle.std.specs.Prelude.{Some, IsSome, IfSome, OnOk, OnErr};
+ghost use Rattle.frame_store.specs.Objects.{tables, table_at, with_object, Stays, Alters, Turns};
 ghost use Rattle.frame_set.specs.Changes.{changed, table_after, ended, IsChangeOf, IsSettingOf, MayEnd};
 
 use cell_core::{Cells, Label, NoMemory, Places};
@@ -43,9 +43,8 @@ pub(crate) enum Setting {
 fn carry_change(store: &mut Store, on: ObjId, change: Change) -> Result<(), NoMemory>
     requires live { IsSome (tables store.old on.0) }
     requires change { IsChangeOf (table_at (tables store.old) on.0) change }
-    ensures ok { OnOk result (tables store.new ≡ with_object (tables store.old) on.0
-        (Some (changed (table_at (tables store.old) on.0) change))) }
-    ensures err { OnErr result (tables store.new ≡ tables store.old) }
+    ensures ok { OnOk result (Alters store.old store.new on (λ t. changed t change)) }
+    ensures err { OnErr result (Stays store.old store.new) }
 {
     match change {
         Change::Cells {
@@ -69,7 +68,7 @@ fn carry_change(store: &mut Store, on: ObjId, change: Change) -> Result<(), NoMe
 // Ends an object, if there is one to end.
 fn end(store: &mut Store, ends: Option<ObjId>)
     requires { IfSome ends (λ id. IsSome (tables store.old id.0)) }
-    ensures { tables store.new ≡ ended ends (tables store.old) }
+    ensures { Turns store.old store.new (ended ends) }
 {
     if let Some(id) = ends {
         store.drop_object(id);
@@ -88,9 +87,9 @@ pub(crate) fn carry_out(
     requires setting { IsSettingOf (tables store.old) ends
         (table_at (tables store.old) on.0) setting }
     requires ends { IfSome ends (MayEnd (tables store.old) on) }
-    ensures ok { OnOk result (tables store.new ≡ with_object (ended ends (tables store.old)) on.0
-        (Some (table_after (tables store.old) (table_at (tables store.old) on.0) setting))) }
-    ensures err { OnErr result (tables store.new ≡ tables store.old) }
+    ensures ok { OnOk result (Turns store.old store.new (λ live. with_object (ended ends live) on.0
+        (Some (table_after live (table_at live on.0) setting)))) }
+    ensures err { OnErr result (Stays store.old store.new) }
 {
     match setting {
         Setting::Change(change) => {

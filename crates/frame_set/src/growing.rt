@@ -1,7 +1,7 @@
 // Tables that get a row or a column.
 ghost use Rattle.std.specs.Prelude.{◌≡◌, ◌<◌, ◌*◌, length, map, All, IfOk};
 ghost use Rattle.frame_store.specs.tables.Change.{with_values};
-ghost use Rattle.frame_store.specs.Parts.{IsSingle, IsHeld, block_column, AreHeld};
+ghost use Rattle.frame_store.specs.Parts.{labelled, IsSingle, IsHeld, block_column, AreHeld};
 ghost use Rattle.frame_select.specs.Reaches.{CanSelect};
 ghost use Rattle.frame_store.specs.tables.Valid.{IsWhole};
 ghost use Rattle.frame_set.specs.Values.{cells_reached, IsTargetOf, IsFreshIn};
@@ -25,7 +25,7 @@ fn axis_with(
 ) -> Result<Axis, NoMemory>
     requires table { CanSelect dict.now on.now }
     requires one { length on.now.level_names ≡ 1 }
-    ensures { IfOk result (λ axis. axis ≡ axis_with on.now label) }
+    ensures { IfOk result (λ axis. labelled axis ≡ axis_with on.now label) }
 {
     let mut labels = Tuples::new(alloc);
     for row in 0..on.rows() {

@@ -7,7 +7,7 @@
 //! the keys reach (`targets`), and the cells for them (`filling`) or a whole column (`putting`), of
 //! which those of a Series are aligned to the rows (`aligning`).
 //! A table that grows is made anew and takes the old one's place at the end, so that a refusal
-//! leaves all as it was and ends no object.
+//! leaves all as it was and ends no object. [`values_fit_columns`] says which values fit.
 //!
 //! ```text
 //! // `f["price"] = 7`: `price` is a key, the text
@@ -24,11 +24,13 @@ mod changes;
 mod columns;
 mod filling;
 mod growing;
+mod laws;
 mod putting;
 mod removing;
 mod targets;
 mod values;
 
 pub use assigning::assign;
+pub use laws::values_fit_columns;
 pub use removing::remove;
 pub use values::NewValue;

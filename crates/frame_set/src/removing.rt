@@ -4,7 +4,7 @@ ghost use Rattle.frame_store.specs.World.{world, entry_in, IsKnownValue, IsSettl
 
 use cell_core::{Grid, Label, Shape, TextDict};
 use frame_parts::wrong_kind;
-use frame_select::column_place;
+use frame_select::selected_column;
 use frame_store::{OpFault, Store, Value};
 use std::alloc::Global;
 
@@ -38,7 +38,7 @@ pub fn remove(
     if source.shape() == Shape::Series {
         return Err(wrong_kind());
     }
-    let place = column_place(alloc, dict, &source, Label::from(cell))?;
+    let place = selected_column(alloc, dict, &source, Label::from(cell))?;
     store.remove_column(id, place)?;
     Ok(())
 }

@@ -5,7 +5,8 @@
 //! that are listed. [`bind`] says whether a signature takes the arguments of a call, by Python's rules
 //! for positional and keyword arguments, and makes every refusal that all calls share. It gives the
 //! [`Bound`] arguments; what stands at a place of the signature is then read by a function for each
-//! form, as [`Bound::whole`]. Nothing here changes anything, and [`scalars_of`] alone takes memory.
+//! form, as [`Bound::whole`], and places have names ([`arguments`]). Nothing here changes anything, and
+//! [`scalars_of`] alone takes memory.
 //!
 //! The signatures are those of the pandas API reference, as far as this library has them; their
 //! definition is `specs/Signature.antt` of the crate `meaning_call`, and that of binding is
@@ -16,12 +17,13 @@
 //! let method = method_named(Shape::Series, "head");
 //! assert!(rt; method == Some(Method::Table(TableMethod::Head)));
 //! let signature = parameters(Method::Table(TableMethod::Head));
-//! assert_eq!(rt; bind(&store, &dict, signature, args)?.whole(0), 3);
+//! assert_eq!(rt; bind(&store, &dict, signature, args)?.whole(arguments::HEAD_N), 3);
 //! // without arguments, the default stands there
-//! assert_eq!(rt; bind(&store, &dict, signature, &[])?.whole(0), 5);
+//! assert_eq!(rt; bind(&store, &dict, signature, &[])?.whole(arguments::HEAD_N), 5);
 //! ```
 #![tactic(auto)]
 
+pub mod arguments;
 mod binding;
 mod bound;
 mod forms;

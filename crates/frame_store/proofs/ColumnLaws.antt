@@ -1,10 +1,10 @@
 -- Columns that are put and removed, and whole tables.
 use Rattle.{
-  meaning_tables.{proofs.cells.Common.{cond_both, map-set, map-append, length-map, length-set, take-map, drop-map, All-set, All-push, All-map, All-append, All-take, All-drop, length-remove, rules, ◌≡◌, ◌∙◌, ℕ, suc, ◌<◌, List, length, take, drop, map, sym, arith, nat_lt, Option, All, remove, Rows, Shape, Series, Cell, Na, Label}, specs.{Table.{ColumnOf, NumberedTable, column_at}, Change.{put_at, strided_column, cut_columns, with_column, without_column}, Valid.{AreHeadings, IsWhole}}},
-  std.proofs.lemmas.List.{length-append},
+  meaning_tables.{proofs.cells.Common.{cond_both, map-set, map-append, length-map, length-set, take-map, drop-map, All-set, All-push, All-map, All-append, All-take, All-drop, length-remove, rules, ◌≡◌, ◌∙◌, ℕ, suc, ◌<◌, ◌+◌, ◌*◌, List, length, take, drop, map, sym, arith, nat_lt, Option, All, remove, Rows, Shape, Series, Cell, Na, Label, pos, refl, ap, [], ◌∷◌, slice_index_or}, specs.{cells.Block.{strided}, Table.{ColumnOf, NumberedTable, column_at, no_column}, Change.{put_at, strided_column, cut_columns, with_column, without_column}, Valid.{AreHeadings, IsWhole}}},
+  std.proofs.lemmas.List.{length-append, FromFn.{fill_by_all}},
   multi_index.specs.Axes.{AxisValue},
   column_core.{specs.Blocks.{CellBlock}, proofs.ColumnLaws.{length-tabulate}},
-  frame_store.specs.Parts.{HeadingList, table_with, block_column},
+  frame_store.specs.{Parts.{HeadingList, table_with, cut_table, block_column, AreColumnsOf}, Derivations.{derived_table, CanDerive}, declared.derivations.Derivation.{Derivation}},
 }
 
 -- an item is replaced or appended
@@ -39,6 +39,25 @@ cut_is_whole _ axis _ columns _ rows places is labels headed fits =
     (λ k d lt. length-tabulate rows.count _ ∙ sym labels)
     in
     grind (arith, length-map)
+
+-- all rows of columns are the columns
+abbrev pub all_rows : ℕ → Rows
+all_rows count = record { start = 0; step = pos 1; count = count }
+
+all_cells : (cells : List Cell) (count : ℕ) → length cells ≡ count → strided Na cells (all_rows count) ≡ cells
+all_cells cells count is = sym (fill_by_all _ cells count Na is (λ k lt. let e : k ≡ 0 + k * 1 = omega arith in ap (λ place. slice_index_or cells place Na) e))
+
+module _ (t : NumberedTable) (count : ℕ) (whole : IsWhole t) (is : count ≡ length t.labels) where
+  all_of_column : (place : ℕ) → place < length t.columns → strided_column Na (all_rows count) (column_at t.columns place) ≡ column_at t.columns place
+  all_of_column place lt = ap (λ (cells : List Cell). record (column_at t.columns place) { cells = cells }) (all_cells _ count (whole.filled place no_column lt ∙ sym is))
+
+  pub all_cut : (places : List ℕ) → AreColumnsOf t places → cut_columns Na t.columns (all_rows count) places ≡ map (column_at t.columns) places
+  all_cut [] below = refl
+  all_cut (p ∷ ps) below = λ j. all_of_column p (below 0 p (omega arith)) j ∷ all_cut ps (λ k d lt. below (suc k) d (omega arith)) j
+
+-- what is cut of all rows is what is derived
+pub cut_is_derived : (t : NumberedTable) (d : Derivation) (count : ℕ) → IsWhole t → CanDerive t d → count ≡ length t.labels → derived_table t d ≡ cut_table d.shape d.axis d.headings t (all_rows count) d.columns
+cut_is_derived t d count whole fits rows = cc (all_cut t count whole rows d.columns fits.columns)
 
 -- a table with another column is whole
 pub put_is_whole : (t : NumberedTable) (place : ℕ) (heading : Option Label) (c : ColumnOf Cell) → IsWhole t → length c.cells ≡ length t.labels → AreHeadings t.shape t.columns_name (put_at t.headings place heading)

@@ -1,8 +1,8 @@
 -- Blocks of one column, and columns that are cut from others.
 use Rattle.{
-  meaning_tables.{proofs.cells.Common.{◌≡◌, ℕ, ◌+◌, ◌<◌, List, [], ◌∷◌, ◌++◌, length, take, map, ap, arith, Some, All, take_more, map-append, get_or-map, length-map, All-push, get_or_from_slice_get, slice_index_or, slice_get, AreRowsBelow, Rows, Cell, Na}, specs.{Table.{ColumnOf, column_at}, Change.{strided_column, cut_columns}}},
-  column_core.specs.Blocks.{CellBlock},
-  frame_store.specs.Parts.{block_column, single_block, IsSingle, HaveRows},
+  meaning_tables.{proofs.cells.Common.{◌≡◌, ℕ, ◌+◌, ◌<◌, List, [], ◌∷◌, ◌++◌, length, take, map, ap, arith, append_assoc, Some, All, take_more, map-append, get_or-map, length-map, All-push, get_or_from_slice_get, slice_index_or, slice_get, AreRowsBelow, Rows, Cell, Na}, specs.{Table.{ColumnOf, column_at}, Change.{strided_column, cut_columns}}},
+  column_core.specs.{Blocks.{CellBlock}, Columns.{CellColumn}},
+  frame_store.specs.Parts.{block_column, single_block, table_column, IsSingle, HaveRows},
 }
 
 -- a block of one column
@@ -26,6 +26,11 @@ one_more_cut blocks rows places k _ _ copied made _ before inside at lt here cop
     let cut_at : ℕ → ColumnOf Cell = λ p. strided_column Na rows (column_at columns p) in
     let column : block_column copied ≡ cut_at (slice_index_or places k 0) = grind (arith, column_of_block, get_or_from_slice_get) in
     cc (map-append block_column made (copied ∷ []), take_more places k 0 inside, map-append cut_at (take k places) (slice_index_or places k 0 ∷ []))
+
+-- one more column behind those of others
+pub one_more_behind : (columns : List (ColumnOf Cell)) (place : ℕ) (c : CellColumn) (first blocks blocks' : List CellBlock) → place < length columns → column_at columns place ≡ table_column c → blocks' ≡ blocks ++ single_block (table_column c) ∷ []
+    → map block_column blocks ≡ map block_column first ++ take place columns → map block_column blocks' ≡ map block_column first ++ take (place + 1) columns
+one_more_behind = grind (arith, map-append, append_assoc, take_more)
 
 -- each block has as many rows as the columns
 pub block_rows : (blocks : List CellBlock) (place count : ℕ) (block : CellBlock) → HaveRows count (map block_column blocks) → place < length blocks → block ≡ slice_index_or blocks place block

@@ -44,7 +44,7 @@ module _ {C : Type 0} where
 
   module _ (rows places : List ℕ) (column row : ℕ) (d : C) where
     -- the value of a number goes to the cell
-    abbrev Goes : ℕ → Type 0
+    abbrev pub Goes : ℕ → Type 0
     Goes n = (slice_index places (n % length places) ≡ column) × (slice_index rows (n / length places) ≡ row)
 
     kept_from : (k : ℕ) (columns : List (ColumnOf C)) (xs : List C) → ((n : ℕ) → k ≤ n → n < k + length xs → Goes n → ⊥) → cell_in (with_values_from k columns rows places xs) column row d ≡ cell_in columns column row d
@@ -80,14 +80,14 @@ module _ {C : Type 0} where
 
     -- the value is given for the cell
     module _ (n : ℕ) where
-      goes : IsGivenFor rows places column row n → Goes n
+      pub goes : IsGivenFor rows places column row n → Goes n
       goes given =
           let lt : given.j < length places = slice_get_within places given.j column given.column_there in
           let quotient : n / length places ≡ given.i = ap (λ (m : ℕ). m / length places) given.is ∙ div-mul-add given.i (length places) given.j lt in
           let rest : n % length places ≡ given.j = ap (λ (m : ℕ). m % length places) given.is ∙ mod-mul-add given.i (length places) given.j lt in
           (ap (slice_index places) rest ∙ get_or_from_slice_get places given.j column 0 given.column_there, ap (slice_index rows) quotient ∙ get_or_from_slice_get rows given.i row 0 given.row_there)
 
-      given : n < length rows * length places → Goes n → IsGivenFor rows places column row n
+      pub given : n < length rows * length places → Goes n → IsGivenFor rows places column row n
       given lt there =
           let some : 0 < length places = some_wide n (length rows) (length places) lt in
           record {

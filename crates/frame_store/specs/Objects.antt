@@ -36,17 +36,20 @@ IsLiveIn s id = IsSome (tables s id.0)
 abbrev pub IsFree : Store → ObjId → Type 0
 IsFree s id = tables s id.0 ≡ None
 
--- each object has the table that it had
+-- What a call does to a store, here and in the forms that stand above it: what a `World` knows of objects changes by these
+-- words alone. Each object has the table that it had; the object has this table, and each other one has what it had; the table
+-- of the object is changed so, and no other one; the tables are changed so.
 abbrev pub Stays : Store → Store → Type 0
 Stays old new = tables new ≡ tables old
 
--- the object has this table, and each other one has what it had
 abbrev pub Becomes : Store → Store → ObjId → NumberedTable → Type 0
 Becomes old new id t = tables new ≡ with_object (tables old) id.0 (Some t)
 
--- the table of the object is changed so, and no other one
 abbrev pub Alters : Store → Store → ObjId → (NumberedTable → NumberedTable) → Type 0
 Alters old new id change = Becomes old new id (change (table_on old id))
+
+abbrev pub Turns : Store → Store → (Tables → Tables) → Type 0
+Turns old new change = tables new ≡ change (tables old)
 
 -- the tables after the column of a Series, which ends, was put into the table of another object
 abbrev pub with_moved : Tables → ℕ → ℕ → Option Label → ℕ → Tables

@@ -76,6 +76,10 @@ table_with shape axis headings columns =
 abbrev pub table_of : Shape → AxisValue → HeadingList → List CellBlock → NumberedTable
 table_of shape axis headings blocks = table_with shape axis headings (columns_of blocks)
 
+-- the table of the blocks' columns, and behind them those of another one
+abbrev pub table_behind : Shape → AxisValue → HeadingList → List CellBlock → NumberedTable → NumberedTable
+table_behind shape axis headings first t = table_with shape axis headings (columns_of first ++ t.columns)
+
 -- the table of these rows and columns of another one
 abbrev pub cut_table : Shape → AxisValue → HeadingList → NumberedTable → Rows → List ℕ → NumberedTable
 cut_table shape axis headings t rows places = table_with shape axis headings (cut_columns Na t.columns rows places)
@@ -86,6 +90,10 @@ TakesHeading t place heading = AreHeadings t.shape t.columns_name (put_at t.head
 
 abbrev pub SparesHeading : NumberedTable → ℕ → Type 0
 SparesHeading t place = AreHeadings t.shape t.columns_name (without_column t place).headings
+
+-- what a table keeps of an axis: its tuples and its names
+abbrev pub labelled : AxisValue → AxisValue
+labelled axis = axis
 
 -- the axis of a table
 abbrev pub axis_of : NumberedTable → AxisValue

@@ -8,9 +8,12 @@
 //!
 //! [`last_value_stays`] says what setting cells leaves.
 //!
-//! Each object keeps columns of its own, one to a block, and `derive` copies them.
+//! Each object keeps columns of its own, one to a block, and `derive` and `derive_behind` copy them.
 //!
 //! A form makes a [`Table`], of its own or as [`table_under`] does, and hands it to [`placed`], which gives it an object.
+//! A form whose answer has the columns of an object as they are makes no table: it says in a [`Derivation`] which they
+//! are and under which labels, and [`derived`] has the store derive it. New columns before them are an [`Extension`],
+//! for [`derived_behind`].
 //!
 //! ```text
 //! let mut price = Column::new(alloc, Kind::Int64);
@@ -28,6 +31,7 @@
 mod arguments;
 mod blocks;
 mod columns;
+mod derivations;
 mod fault;
 mod given;
 mod headings;
@@ -42,6 +46,7 @@ pub use arguments::{
     Argument, Chain, Entries, Item, Items, Named, NamedList, Selector, Subscript, Value,
 };
 pub use blocks::Blocks;
+pub use derivations::{Derivation, Extension, derived, derived_behind};
 pub use fault::OpFault;
 pub use headings::Headings;
 pub use laws::last_value_stays;

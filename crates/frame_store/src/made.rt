@@ -6,7 +6,7 @@ ghost use Rattle.meaning_tables.specs.cells.Text.{Text};
 ghost use Rattle.meaning_tables.specs.cells.Fault.{FaultValue};
 ghost use Rattle.meaning_tables.specs.Valid.{IsWhole};
 ghost use Rattle.meaning_tables.specs.Value.{Entry};
-ghost use Rattle.frame_store.specs.Objects.{tables};
+ghost use Rattle.frame_store.specs.Objects.{Stays};
 ghost use Rattle.frame_store.specs.Parts.{headings_of, headings_with, table_of, table_with, table_column, axis_of, IsSingle};
 ghost use Rattle.frame_store.specs.Shown.{Makes};
 ghost use Rattle.frame_store.specs.World.{world, IsSettledWorld, Forms};
@@ -94,7 +94,7 @@ pub fn placed(
         → IsLonger earlier dict.now → IsSettledWorld (world store.old earlier)
         → Makes dict.now made meant
         → Forms result meant (world store.old earlier) (world store.new dict.now) }
-    ensures err { OnErr result (tables store.new ≡ tables store.old) }
+    ensures err { OnErr result (Stays store.old store.new) }
 {
     let id = store.insert(made?)?;
     Ok(Value::Object(id))

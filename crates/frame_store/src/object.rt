@@ -2,7 +2,7 @@
 ghost use Rattle.std.specs.Prelude.{◌≡◌, ◌<◌, length};
 ghost use Rattle.meaning_tables.specs.Table.{column_at};
 ghost use Rattle.frame_store.specs.Grids.{grid_of};
-ghost use Rattle.frame_store.specs.Parts.{axis_of, table_column};
+ghost use Rattle.frame_store.specs.Parts.{labelled, axis_of, table_column};
 
 use crate::table::Table;
 use cell_core::{Cell, Grid, Kind, Label, Shape};
@@ -31,7 +31,7 @@ impl<'a> Model for ObjRef<'a> {
 impl ObjRef<'_> {
     /// The axis of the rows. Takes no memory.
     pub fn axis(&self) -> &Axis
-        ensures { result.now ≡ axis_of self.now }
+        ensures { labelled result.now ≡ axis_of self.now }
     {
         self.table.axis()
     }

@@ -7,7 +7,7 @@ ghost use Rattle.meaning_tables.specs.Change.{with_column, without_column, with_
 ghost use Rattle.meaning_tables.specs.Valid.{AreHeadings, IsWhole};
 ghost use Rattle.multi_index.specs.Axes.{HaveLevels};
 ghost use Rattle.frame_store.specs.Setting.{AreSet};
-ghost use Rattle.frame_store.specs.Parts.{block_column, table_column, table_of, cut_table, axis_of, AreRowsOf, AreColumnsOf, FitsRows, IsSingle, HaveRows, AreHeld, TakesHeading, SparesHeading};
+ghost use Rattle.frame_store.specs.Parts.{block_column, table_column, table_of, cut_table, labelled, axis_of, AreRowsOf, AreColumnsOf, FitsRows, IsSingle, HaveRows, AreHeld, TakesHeading, SparesHeading, table_behind};
 
 use crate::blocks::Blocks;
 use crate::headings::Headings;
@@ -30,7 +30,7 @@ pub struct Store {
 }
 
 impl Store {
-    ghost use Rattle.frame_store.specs.Objects.{tables, with_object, with_moved, with_replaced, table_on, held_of, IsLiveIn, IsFree, Stays, Becomes, Alters};
+    ghost use Rattle.frame_store.specs.Objects.{tables, with_object, with_moved, with_replaced, table_on, held_of, IsLiveIn, IsFree, Stays, Becomes, Alters, Turns};
 
     /// A store without objects. Takes no memory.
     pub fn new(alloc: Global) -> Store
@@ -99,6 +99,30 @@ impl Store {
         self.add(shape, axis, headings, blocks)
     }
 
+    /// A new object with the blocks, each of which is one column, before all columns of another object,
+    /// which stays as it is, under the axis and the headings, one for each column of both. `NoMemory`
+    /// leaves the store as it was.
+    pub fn derive_behind(
+        &mut self,
+        on: ObjId,
+        shape: Shape,
+        first: Blocks,
+        axis: Axis,
+        headings: Headings,
+    ) -> Result<ObjId, NoMemory>
+        requires live { IsLiveIn self.old on }
+        requires single { All IsSingle first }
+        requires whole { IsWhole (table_behind shape axis headings first
+            (table_on self.old on)) }
+        ensures fresh { IfOk result (IsFree self.old) }
+        ensures ok { IfOk result (λ id. Becomes self.old self.new id
+            (table_behind shape axis headings first (table_on self.old on))) }
+        ensures err { OnErr result (Stays self.old self.new) }
+    {
+        let blocks = self.objects[on.0 as usize].behind(self.alloc, first)?;
+        self.add(shape, axis, headings, blocks)
+    }
+
     /// Puts the values, one for each row and column, row by row. Where a cell is given twice, the
     /// later value stays: each cell is then the last value given for it, else what it was.
     /// `NoMemory` leaves the store as it was.
@@ -163,8 +187,8 @@ impl Store {
         requires rows { length (table_on self.old series).labels
             ≡ length (table_on self.old on).labels }
         requires headings { TakesHeading (table_on self.old on) column heading }
-        ensures ok { OnOk result
-            (tables self.new ≡ with_moved (tables self.old) on.0 column heading series.0) }
+        ensures ok { OnOk result (Turns self.old self.new
+            (λ live. with_moved live on.0 column heading series.0)) }
         ensures err { OnErr result (Stays self.old self.new) }
     {
         let source = self.objects.remove(series.0 as usize);
@@ -194,7 +218,7 @@ impl Store {
         requires live { IsLiveIn self.old on }
         requires by { IsLiveIn self.old by }
         requires different { on.0 ≢ by.0 }
-        ensures { tables self.new ≡ with_replaced (tables self.old) on.0 by.0 }
+        ensures { Turns self.old self.new (λ live. with_replaced live on.0 by.0) }
     {
         let table = self.objects.remove(by.0 as usize);
         self.objects[on.0 as usize] = table;
@@ -219,7 +243,7 @@ impl Store {
     /// Ends an object. Takes no memory.
     pub fn drop_object(&mut self, on: ObjId)
         requires { IsLiveIn self.old on }
-        ensures { tables self.new ≡ with_object (tables self.old) on.0 None }
+        ensures { Turns self.old self.new (λ live. with_object live on.0 None) }
     {
         let _ = self.objects.remove(on.0 as usize);
     }
@@ -249,7 +273,7 @@ impl Store {
     /// The axis of an object. Takes no memory.
     pub fn axis(&self, on: ObjId) -> &Axis
         requires { IsLiveIn self.now on }
-        ensures { result.now ≡ axis_of (table_on self.now on) }
+        ensures { labelled result.now ≡ axis_of (table_on self.now on) }
     {
         self.objects[on.0 as usize].axis()
     }

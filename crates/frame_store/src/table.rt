@@ -1,5 +1,5 @@
 // The table that an object keeps.
-ghost use Rattle.std.specs.Prelude.{◌≡◌, ◌*◌, ◌<◌, ◌≤◌, length, All, IsSome, IfOk, IfErr, OnOk, OnErr, slice_index_or, None};
+ghost use Rattle.std.specs.Prelude.{◌≡◌, ◌*◌, ◌<◌, ◌≤◌, ◌++◌, length, All, IsSome, IfOk, IfErr, OnOk, OnErr, slice_index_or, None};
 ghost use Rattle.cell_core.specs.declared.cell.Cell.TheVariants.{Na};
 ghost use Rattle.cell_core.specs.declared.grid.Shape.TheVariants.{Series, Frame};
 ghost use Rattle.cell_core.specs.Grids.{AreRowsBelow};
@@ -8,7 +8,7 @@ ghost use Rattle.meaning_tables.specs.Change.{cut_columns, with_column, without_
 ghost use Rattle.meaning_tables.specs.Valid.{IsWhole};
 ghost use Rattle.multi_index.specs.Axes.{HaveLevels};
 ghost use Rattle.frame_store.specs.Setting.{AreSet};
-ghost use Rattle.frame_store.specs.Parts.{block_column, columns_of, table_column, table_of, axis_of, count_of, AreRowsOf, AreColumnsOf, FitsRows, IsSingle, HaveRows, AreHeld, TakesHeading, SparesHeading};
+ghost use Rattle.frame_store.specs.Parts.{block_column, columns_of, table_column, table_of, labelled, axis_of, count_of, AreRowsOf, AreColumnsOf, FitsRows, IsSingle, HaveRows, AreHeld, TakesHeading, SparesHeading};
 
 use crate::blocks::Blocks;
 use crate::columns::{cut, put_at};
@@ -75,7 +75,7 @@ impl Table {
     }
 
     pub(crate) fn axis(&self) -> &Axis
-        ensures { result.now ≡ axis_of self.now }
+        ensures { labelled result.now ≡ axis_of self.now }
     {
         &self.axis
     }
@@ -140,6 +140,21 @@ impl Table {
     {
         let items = cut(alloc, self.blocks.as_slice(), rows, places, self.axis.len())?;
         Ok(Blocks { items })
+    }
+
+    /// The blocks, and behind them the columns, each in a block of its own.
+    pub(crate) fn behind(&self, alloc: Global, first: Blocks) -> Result<Blocks, NoMemory>
+        requires { All IsSingle first }
+        ensures columns { IfOk result (λ made. columns_of made
+            ≡ columns_of first ++ self.now.columns) }
+        ensures single { IfOk result (All IsSingle) }
+    {
+        let mut blocks = first;
+        for place in 0..self.columns() {
+            let column = self.column(place).to_column(alloc)?;
+            blocks.push(column.into_block())?;
+        }
+        Ok(blocks)
     }
 
     /// Puts the values, one for each row and column, row by row. Where a cell is given twice, the

@@ -1,20 +1,18 @@
 // Calls behind `rolling` and `expanding` on objects.
-ghost use Rattle.std.specs.Prelude.{◌≡◌, true, Ok};
-ghost use Rattle.frame_labels.specs.method.Calls.{call_result};
+ghost use Rattle.std.specs.Prelude.{Ok};
 ghost use Rattle.frame_labels.specs.method.Windows as meant;
 ghost use Rattle.frame_store.specs.Arguments.{object_value, IsLive, IsLiveObject};
 ghost use Rattle.frame_store.specs.Objects.{tables};
 ghost use Rattle.frame_store.specs.World.{world, entry_in, arguments_in, IsSettledWorld, AreKnownArguments, Forms};
-ghost use Rattle.frame_labels.specs.Chains.{chain_in, is_windowed, IsKnownChain};
-ghost use Rattle.frame_windows.specs.Windows.{windows_of, AreSome};
+ghost use Rattle.frame_windows.specs.Windows.{windows_of, told_of, windowed_result, AreSome};
 
 use crate::calls::window_call;
 use crate::columns::Windowed;
-use crate::windows::{Windows, expanding_windows, rolling_windows};
+use crate::windows::{Windows, WindowsTold, name_of, windows_told};
 use cell_core::TextDict;
 use frame_labels::no_attribute;
 use frame_methods::columns_placed;
-use frame_store::{Chain, Named, NamedList, ObjId, OpFault, Store, Value};
+use frame_store::{Named, ObjId, OpFault, Store, Value};
 use std::alloc::Global;
 
 // A call behind windows of an object.
@@ -39,56 +37,6 @@ fn windowed(
     columns_placed(alloc, store, dict, &Windowed { windows, op }, on)
 }
 
-// A call behind `rolling` of a value.
-fn rolled(
-    alloc: Global,
-    store: &mut Store,
-    dict: &mut TextDict,
-    on: Value,
-    windows: &[Named],
-    name: &str,
-    args: &[Named],
-) -> Result<Value, OpFault>
-    requires live { IsLive (tables store.old) on }
-    requires settled { IsSettledWorld (world store.old dict.old) }
-    requires windows { AreKnownArguments (world store.old dict.old) windows.now }
-    requires arguments { AreKnownArguments (world store.old dict.old) args.now }
-    ensures { let w = world store.old dict.old in
-        Forms result (meant.rolling_result (entry_in w on) (arguments_in w windows.now) name.now
-        (arguments_in w args.now)) w (world store.new dict.new) }
-{
-    let Value::Object(id) = on else {
-        return Err(no_attribute(alloc, "rolling"));
-    };
-    let windows = rolling_windows(store, dict, windows)?;
-    windowed(alloc, store, dict, id, windows, name, args)
-}
-
-// A call behind `expanding` of a value.
-fn expanded(
-    alloc: Global,
-    store: &mut Store,
-    dict: &mut TextDict,
-    on: Value,
-    windows: &[Named],
-    name: &str,
-    args: &[Named],
-) -> Result<Value, OpFault>
-    requires live { IsLive (tables store.old) on }
-    requires settled { IsSettledWorld (world store.old dict.old) }
-    requires windows { AreKnownArguments (world store.old dict.old) windows.now }
-    requires arguments { AreKnownArguments (world store.old dict.old) args.now }
-    ensures { let w = world store.old dict.old in
-        Forms result (meant.expanding_result (entry_in w on) (arguments_in w windows.now) name.now
-        (arguments_in w args.now)) w (world store.new dict.new) }
-{
-    let Value::Object(id) = on else {
-        return Err(no_attribute(alloc, "expanding"));
-    };
-    let windows = expanding_windows(store, dict, windows)?;
-    windowed(alloc, store, dict, id, windows, name, args)
-}
-
 /// A method behind `rolling` or `expanding` of a Series or a frame: `s.rolling(window, ..).name()`.
 ///
 /// The answer is a new object with as many rows, columns and labels as the value has: at each row the sum, the least or the
@@ -109,42 +57,21 @@ pub fn method(
     store: &mut Store,
     dict: &mut TextDict,
     on: Value,
-    chain: &Chain,
-    args: &NamedList,
+    told: WindowsTold<'_>,
+    name: &str,
+    args: &[Named],
 ) -> Result<Value, OpFault>
-    requires chain { is_windowed chain.now ≡ true }
     requires live { IsLive (tables store.old) on }
     requires settled { IsSettledWorld (world store.old dict.old) }
-    requires before { IsKnownChain (world store.old dict.old) chain.now }
+    requires told { AreKnownArguments (world store.old dict.old) (told_of told) }
     requires arguments { AreKnownArguments (world store.old dict.old) args.now }
     ensures { let w = world store.old dict.old in
-        Forms result (call_result (entry_in w on) (chain_in w chain.now)
+        Forms result (windowed_result w (entry_in w on) told.entry name.now
         (arguments_in w args.now)) w (world store.new dict.new) }
 {
-    let args = args.as_slice();
-    match chain {
-        Chain::Rolling(windows, name) => {
-            rolled(
-                alloc,
-                store,
-                dict,
-                on,
-                windows.as_slice(),
-                name.as_str(),
-                args,
-            )
-        }
-        Chain::Expanding(windows, name) => {
-            expanded(
-                alloc,
-                store,
-                dict,
-                on,
-                windows.as_slice(),
-                name.as_str(),
-                args,
-            )
-        }
-        Chain::Plain(_) | Chain::Group(_, _, _) => unreachable!(),
-    }
+    let Value::Object(id) = on else {
+        return Err(no_attribute(alloc, name_of(told)));
+    };
+    let windows = windows_told(store, dict, told)?;
+    windowed(alloc, store, dict, id, windows, name, args)
 }

@@ -8,8 +8,8 @@
 //!
 //! ```text
 //! // `s.rolling(3, min_periods=1).max()`
-//! let chain = Chain::Rolling(windows, max);
-//! let greatest = method(alloc, &mut store, &mut dict, on, &chain, &NamedList::new(alloc))?;
+//! let told = WindowsTold::Rolling(windows.as_slice());
+//! let greatest = method(alloc, &mut store, &mut dict, on, told, "max", &[])?;
 //! ```
 #![tactic(auto)]
 
@@ -19,3 +19,4 @@ mod columns;
 mod windows;
 
 pub use calling::method;
+pub use windows::WindowsTold;

@@ -7,10 +7,10 @@ ghost use Rattle.meaning_call.specs.Binding.{whole_of};
 ghost use Rattle.frame_labels.specs.method.Windows as meant;
 ghost use Rattle.frame_methods.specs.frame_parts.Makes.{MakesBy};
 ghost use Rattle.frame_store.specs.World.{world, arguments_in, AreKnownArguments};
-ghost use Rattle.frame_windows.specs.Windows.{windows_seen, AreSome};
+ghost use Rattle.frame_windows.specs.Windows.{windows_seen, windows_meant, told_name, told_of, AreSome};
 
 use cell_core::{Cell, Code, Reason, TextDict};
-use frame_signatures::{bind, parameters};
+use frame_signatures::{arguments, bind, parameters};
 use frame_store::{Named, OpFault, Store};
 use meaning_call::{Method, OtherMethod};
 
@@ -19,6 +19,25 @@ use meaning_call::{Method, OtherMethod};
 pub(crate) enum Windows {
     Rolling { rows: usize, least: usize },
     Expanding { least: usize },
+}
+
+/// The arguments of `rolling`, or those of `expanding`.
+#[derive(Clone, Copy)]
+pub enum WindowsTold<'a> {
+    /// Those of `rolling`.
+    Rolling(&'a [Named]),
+    /// Those of `expanding`.
+    Expanding(&'a [Named]),
+}
+
+// The name that the arguments are of.
+pub(crate) fn name_of(told: WindowsTold<'_>) -> &'static str
+    ensures { result.now ≡ told_name told.entry }
+{
+    match told {
+        WindowsTold::Rolling(_) => "rolling",
+        WindowsTold::Expanding(_) => "expanding",
+    }
 }
 
 // Windows of so many rows, one at least, of which no more than all must be present.
@@ -62,11 +81,7 @@ fn whole_or(cell: Option<Cell>, other: i64) -> i64
 }
 
 // What the arguments of `rolling` say.
-pub(crate) fn rolling_windows(
-    store: &Store,
-    dict: &TextDict,
-    args: &[Named],
-) -> Result<Windows, OpFault>
+fn rolling_windows(store: &Store, dict: &TextDict, args: &[Named]) -> Result<Windows, OpFault>
     requires { AreKnownArguments (world store.now dict.now) args.now }
     ensures answer { MakesBy windows_seen dict.now result
         (meant.rolling_windows (arguments_in (world store.now dict.now) args.now)) }
@@ -74,16 +89,15 @@ pub(crate) fn rolling_windows(
 {
     let parameters = parameters(Method::Other(OtherMethod::Rolling));
     let bound = bind(store, dict, parameters, args)?;
-    let rows = bound.whole(0);
-    rolling_of(rows, whole_or(bound.scalar_or_none(1), rows))
+    let rows = bound.whole(arguments::ROLLING_WINDOW);
+    rolling_of(
+        rows,
+        whole_or(bound.scalar_or_none(arguments::ROLLING_MIN_PERIODS), rows),
+    )
 }
 
 // What the arguments of `expanding` say.
-pub(crate) fn expanding_windows(
-    store: &Store,
-    dict: &TextDict,
-    args: &[Named],
-) -> Result<Windows, OpFault>
+fn expanding_windows(store: &Store, dict: &TextDict, args: &[Named]) -> Result<Windows, OpFault>
     requires { AreKnownArguments (world store.now dict.now) args.now }
     ensures answer { MakesBy windows_seen dict.now result
         (meant.expanding_windows (arguments_in (world store.now dict.now) args.now)) }
@@ -91,5 +105,22 @@ pub(crate) fn expanding_windows(
 {
     let parameters = parameters(Method::Other(OtherMethod::Expanding));
     let bound = bind(store, dict, parameters, args)?;
-    expanding_of(bound.whole(0))
+    expanding_of(bound.whole(arguments::EXPANDING_MIN_PERIODS))
+}
+
+// What the arguments say.
+pub(crate) fn windows_told(
+    store: &Store,
+    dict: &TextDict,
+    told: WindowsTold<'_>,
+) -> Result<Windows, OpFault>
+    requires { AreKnownArguments (world store.now dict.now) (told_of told) }
+    ensures answer { MakesBy windows_seen dict.now result
+        (windows_meant (world store.now dict.now) told.entry) }
+    ensures some { IfOk result AreSome }
+{
+    match told {
+        WindowsTold::Rolling(args) => rolling_windows(store, dict, args),
+        WindowsTold::Expanding(args) => expanding_windows(store, dict, args),
+    }
 }

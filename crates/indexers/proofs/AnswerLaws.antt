@@ -1,7 +1,7 @@
 -- Answers and refusals that are handed on.
 use Rattle.{
   column_core.proofs.cells.Common.{◌≡◌, ◌∙◌, sym, arith, ℕ, ◌<◌, true, false, List, [], ◌∷◌, All, Some, Result, Ok, Err, length, refl, map, slice_index_or, get_or-map, IfOk, slice_get, pointwise, Label},
-  index_core.{specs.{Labels.{same_number}, pick.{Faults.{PickFault, not_there, pick_seen}, Keys.{Pick}, Labels.{unless_none, rows_of_key}, Leading.{leads}, Rows.{rows_where, are_some}}}, proofs.pick.RowLaws.{some_there, rows_where-same}},
+  index_core.{specs.{Labels.{same_number}, pick.{Faults.{PickFault, not_there}, Keys.{Pick}, Labels.{unless_none, rows_of_key}, Leading.{leads}, Rows.{rows_where, are_some}}}, proofs.pick.RowLaws.{some_there, rows_where-same}},
   multi_index.{specs.Axes.{HaveLevels, single_tuples}, proofs.{PickLaws.{rows_seen}, TupleLaws.{only_label_is}}},
   indexers.specs.{declared.keys.{Picked.{Picked}, KeyFault.{KeyFault}}, Picks.{PicksBy, pick_of, as_it_is}},
 }
@@ -21,13 +21,6 @@ pub handed_on : {A B C D : Type 0} (view : A → B) (view' : C → D) (e : KeyFa
     → PicksBy view (Err e) meant → PicksBy view' (Err e) meant'
 handed_on = grind arith
 
--- an answer or a refusal that is seen otherwise
-pub seen_ok : {A K J : Type 0} (f : K → J) (r : Result A (PickFault K)) (a : A) → pick_seen f r ≡ Ok a → r ≡ Ok a
-seen_ok = grind arith
-
-pub seen_refused : {A B K J : Type 0} (f : K → J) (r : Result A (PickFault K)) (whole : Result B (PickFault K)) → ((e : PickFault K) → r ≡ Err e → whole ≡ Err e) → (e : PickFault J) → pick_seen f r ≡ Err e → pick_seen f whole ≡ Err e
-seen_refused f r whole on e is = grind arith
-
 -- the rows of a label of an axis, by the labels of its only level
 pub label_found : (labels : List Label) (tuples : List (List Label)) (key : List Label) (l : Label) → single_tuples labels ≡ tuples → length key ≡ 1 → slice_get key 0 ≡ Some l → are_some (rows_where (same_number l) 0 labels) ≡ true
     → rows_of_key (leads same_number) tuples key ≡ Ok (rows_where (same_number l) 0 labels)
@@ -46,16 +39,8 @@ leads_whole [] [] _ = refl
 leads_whole (k ∷ key) (l ∷ tuple) same = cc (leads_whole key tuple (omega arith))
 leads_whole _ _ same = search
 
-rows_whole : (n : ℕ) (tuples : List (List Label)) (key : List Label) → HaveLevels n tuples → length key ≡ n → rows_where (leads same_number key) 0 tuples ≡ rows_where (pointwise same_number key) 0 tuples
+pub rows_whole : (n : ℕ) (tuples : List (List Label)) (key : List Label) → HaveLevels n tuples → length key ≡ n → rows_where (leads same_number key) 0 tuples ≡ rows_where (pointwise same_number key) 0 tuples
 rows_whole n _ key alike size = rows_where-same _ _ _ (λ t long. leads_whole key t (size ∙ sym long)) 0 _ alike
-
-pub whole_found : (n : ℕ) (tuples : List (List Label)) (key : List Label) (rows : List ℕ) → HaveLevels n tuples → length key ≡ n → rows ≡ rows_where (pointwise same_number key) 0 tuples → are_some rows ≡ true
-    → rows_of_key (leads same_number) tuples key ≡ Ok rows
-whole_found = grind (arith, rows_whole, some_there)
-
-pub whole_missing : (n : ℕ) (tuples : List (List Label)) (key : List Label) (rows : List ℕ) → HaveLevels n tuples → length key ≡ n → rows ≡ rows_where (pointwise same_number key) 0 tuples → are_some rows ≡ false
-    → rows_of_key (leads same_number) tuples key ≡ Err (not_there key)
-whole_missing = grind (arith, rows_whole, none_there)
 
 -- the rows of a key among those of all
 pub row_found : (f : List Label → List ℕ) (keys : List (List Label)) (found : List (List ℕ)) (rows : List ℕ) (k : ℕ) → k < length keys → rows ≡ slice_index_or found k [] → found ≡ map f keys → rows ≡ f (slice_index_or keys k [])

@@ -1,9 +1,9 @@
 -- Masks, by position and by labels.
 use Rattle.{
-  column_core.proofs.cells.Common.{◌≡◌, ◌∙◌, ap, sym, refl, arith, ℕ, ◌+◌, ◌<◌, Bool, true, false, List, [], ◌∷◌, length, map, All, Some, Ok, Err, slice_index_or, ◌&&◌, same_from_decides, get_or-map, length-map, All-head, All-tail, get_or_from_slice_get, slice_get_within, slice_get, Decides, pointwise, pointwise_decides, as_long, Cell, Label},
-  index_core.{specs.{Labels.{same_number}, pick.{Faults.{no_mask_label, pick_seen}, Masks.{cell_or_fault, kept_rows, kept_by_label, masked_rows}, Rows.{rows_where, only_row}}}, proofs.{NumberLaws.{label_decides}, pick.{InsideLaws.{rows_inside}, RowLaws.{when_so, when_not}, SeenLaws.{kept_by_label-map}}}},
-  multi_index.specs.Axes.{HaveLevels, single_tuples},
-  indexers.specs.Masks.{is_true, as_tuple},
+  column_core.proofs.cells.Common.{◌≡◌, ◌∙◌, ap, sym, refl, arith, ℕ, ◌+◌, ◌<◌, Bool, true, false, List, [], ◌∷◌, length, map, All, Some, Ok, Err, slice_index_or, ◌&&◌, same_from_decides, get_or-map, length-map, All-head, All-tail, get_or_from_slice_get, slice_get_within, slice_get-get_or, slice_get, option_and_then, Decides, pointwise, pointwise_decides, as_long, Cell, Label},
+  index_core.{specs.{Labels.{same_number}, pick.{Faults.{no_mask_label}, Masks.{cell_of_label, cell_or_fault, kept_rows, kept_by_label, masked_rows}, Rows.{rows_where, only_row}}}, proofs.{NumberLaws.{label_decides}, pick.{InsideLaws.{rows_inside}, RowLaws.{when_so, when_not, rows_where-map}}}},
+  multi_index.{specs.Axes.{HaveLevels, single_tuples}, proofs.TupleLaws.{only_label_is}},
+  indexers.specs.Masks.{is_true},
 }
 
 -- a cell of a mask
@@ -30,16 +30,24 @@ alike_inside = grind (arith, length-map, rows_inside)
 pub masked_otherwise : (xs ys : List (List Label)) (mask : List Bool) (r : Bool) → Decides r (xs ≡ ys) → r ≡ false → masked_rows (pointwise same_number) xs ys mask ≡ kept_by_label (pointwise same_number) ys mask 0 xs
 masked_otherwise = grind (arith, when_not, same_from_decides, same_tuples)
 
--- on one level, by the labels
-pub kept_seen : (a b : List Label) (xs ys : List (List Label)) (mask : List Bool) → single_tuples a ≡ xs → single_tuples b ≡ ys
-    → kept_by_label (pointwise same_number) ys mask 0 xs ≡ pick_seen as_tuple (kept_by_label same_number b mask 0 a)
-kept_seen a b _ _ mask first second =
-    (λ j. kept_by_label (pointwise same_number) (sym second j) mask 0 (sym first j))
-    ∙ kept_by_label-map (λ l. Unit {0}) _ _ _ (λ x y t u. both_true _) b _ 0 a _ (λ k d lt. tt)
+-- the rows of a label as a tuple of its own
+pub rows_of_single : (labels : List Label) (label : Label) → rows_where (pointwise same_number (label ∷ [])) 0 (single_tuples labels) ≡ rows_where (same_number label) 0 labels
+rows_of_single labels label = rows_where-map (λ l. Unit {0}) _ _ (λ l. l ∷ []) (λ l t. both_true _) 0 labels (λ k d lt. tt)
   where
     both_true : (b : Bool) → (b && true) ≡ b
     both_true true = refl
     both_true false = refl
+
+-- a row's tuple on one level
+pub single_here : (tuples : List (List Label)) (row : ℕ) (label : Label) → HaveLevels 1 tuples → row < length tuples → option_and_then (λ t. slice_get t 0) (slice_get tuples row) ≡ Some label → slice_index_or tuples row [] ≡ label ∷ []
+single_here tuples row label alike lt at =
+    let there : slice_get tuples row ≡ Some (slice_index_or tuples row []) = search slice_get-get_or in
+    only_label_is _ label (alike row [] lt) (ap (option_and_then (λ t. slice_get t 0)) (sym there) ∙ at)
+
+-- the mask's cell at a row's tuple on one level
+pub cell_here : (labels : List Label) (tuples axis : List (List Label)) (mask : List Bool) (row : ℕ) (label : Label) → single_tuples labels ≡ tuples → HaveLevels 1 axis → row < length axis → option_and_then (λ t. slice_get t 0) (slice_get axis row) ≡ Some label
+    → cell_of_label (pointwise same_number) tuples mask (slice_index_or axis row []) ≡ cell_of_label (pointwise same_number) (single_tuples labels) mask (label ∷ [])
+cell_here labels tuples axis mask row label seen alike lt at = cc (seen, single_here axis row label alike lt at)
 
 -- on different numbers of levels no tuple is in the mask
 unlike : (x y : List Label) → (length x ≡ length y → ⊥) → pointwise same_number x y ≡ false

@@ -1,5 +1,6 @@
 pub mod Keys
 pub mod Picks
+pub mod Lists
 pub mod Masks
 pub mod PythonSlice
 -- definitions of crates below, passed on to the crates above

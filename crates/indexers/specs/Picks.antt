@@ -5,7 +5,7 @@ use Rattle.std.specs.Option.{is_some}
 use Rattle.cell_core.specs.Grids.{AreRowsBelow}
 use Rattle.cell_core.specs.declared.cell.Label.{Label}
 use Rattle.cell_core.specs.declared.grid.Rows.{Rows}
-use Rattle.index_core.specs.pick.Faults.{PickFault, not_there, bound_not_unique, out_of_range, no_mask_label, step_zero, pick_seen}
+use Rattle.index_core.specs.pick.Faults.{PickFault, not_there, bound_not_unique, out_of_range, no_mask_label, step_zero}
 use Rattle.column_core.specs.cells.Text.{Text}
 use Rattle.index_core.specs.pick.Keys.{Pick, LabelKey, picked_by_label}
 use Rattle.index_core.specs.pick.Masks.{cell_or_fault, cell_of_label, kept_by_label, masked_rows}
@@ -15,7 +15,7 @@ use Rattle.multi_index.specs.Axes.{AxisValue}
 use Rattle.multi_index.specs.declared.fault.AxisFault.{AxisFault}
 use Rattle.multi_index.specs.declared.fault.AxisFault.TheVariants as axis
 use Rattle.cell_core.specs.declared.cell.Cell.{Cell}
-use Rattle.indexers.specs.Masks.{is_true, as_tuple}
+use Rattle.indexers.specs.Masks.{is_true}
 use Rattle.indexers.specs.declared.keys.Picked.{Picked}
 use Rattle.indexers.specs.declared.keys.KeyFault.{KeyFault}
 use Rattle.indexers.specs.declared.keys.KeyFault.TheVariants as fault
@@ -63,14 +63,11 @@ loc_pick texts axis key = picked_by_label same_number (order_in texts) (length a
 abbrev pub mask_rows : AxisValue → AxisValue → List Cell → Result (List ℕ) (PickFault (List Label))
 mask_rows axis mask_axis cells = masked_rows (pointwise same_number) axis.tuples mask_axis.tuples (map is_true cells)
 
--- the mask's cell at a label, and the rows that it keeps by their labels
-abbrev pub cell_at : List Label → List Cell → Label → Result Bool (PickFault (List Label))
-cell_at labels cells label = pick_seen as_tuple (cell_of_label same_number labels (map is_true cells) label)
+-- the mask's cell at a tuple, which must stand there once
+abbrev pub cell_at : List (List Label) → List Cell → List Label → Result Bool (PickFault (List Label))
+cell_at tuples cells tuple = cell_of_label (pointwise same_number) tuples (map is_true cells) tuple
 
-abbrev pub rows_by_label : List Label → List Cell → List Label → Result (List ℕ) (PickFault (List Label))
-rows_by_label labels cells axis = pick_seen as_tuple (kept_by_label same_number labels (map is_true cells) 0 axis)
-
--- the same by tuples: the cell at these rows of a mask, and the rows that it keeps
+-- the cell at these rows of a mask, and the rows that it keeps
 abbrev pub cell_there : List Label → List Cell → List ℕ → Result Bool (PickFault (List Label))
 cell_there tuple cells rows = cell_or_fault tuple (map is_true cells) (only_row rows)
 

@@ -1,5 +1,5 @@
 // Keys, and what they pick.
-ghost use Rattle.std.specs.Prelude.{◌≡◌};
+ghost use Rattle.std.specs.Prelude.{◌≡◌, None, false};
 ghost use Rattle.indexers.specs.declared.keys.KeyFault.TheVariants as fault;
 
 use cell_core::{ListOf, NoMemory, Places, Rows, Tuple, Tuples};
@@ -42,6 +42,20 @@ pub struct Picked {
     pub dropped: usize,
     /// The rows as places at equal distances, where the key is `:` or a slice.
     pub span: Option<Rows>,
+}
+
+impl Picked {
+    /// What a list picked.
+    pub fn listed(places: Places) -> Picked
+        ensures { result ≡ record { places = places; single = false; dropped = 0; span = None } }
+    {
+        Picked {
+            places,
+            single: false,
+            dropped: 0,
+            span: None,
+        }
+    }
 }
 
 /// Why a key picks no rows.

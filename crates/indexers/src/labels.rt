@@ -1,18 +1,17 @@
 // The rows of labels.
-ghost use Rattle.std.specs.Prelude.{◌≡◌, ◌<◌, ◌==◌, ◌&&◌, ◌++◌, [], length, nat_lt, if◌then◌else◌, IfOk, OnOk, All};
+ghost use Rattle.std.specs.Prelude.{◌≡◌, ◌<◌, ◌==◌, ◌&&◌, [], length, nat_lt, if◌then◌else◌, IfOk, All};
 ghost use Rattle.index_core.specs.pick.Keys.{has_one};
 ghost use Rattle.index_core.specs.pick.Keys as key;
-ghost use Rattle.index_core.specs.pick.Rows.{are_some};
-ghost use Rattle.multi_index.specs.Axes.{AreLeading, HaveLevels};
+ghost use Rattle.multi_index.specs.Axes.{AreLeading};
 ghost use Rattle.indexers.specs.Keys.{label_key, FitsLevels};
 ghost use Rattle.indexers.specs.Picks.{PicksBy, pick_of, loc_pick, IsSpanned};
 
 use crate::faults::{leading_places, leading_span};
 use crate::keys::{KeyFault, LocKey, Picked};
+use crate::lists::rows_of_list;
 use crate::spans::spanned;
-use cell_core::{NoMemory, Places, Rows, TextDict, Tuple, Tuples};
+use cell_core::{Places, Rows, TextDict, Tuple};
 use multi_index::Axis;
-use row_keys::find_partners;
 use std::alloc::Global;
 
 /// The rows that a key of `loc` picks ("Selection by label", "Slicing with labels" and "Advanced indexing with
@@ -40,7 +39,10 @@ pub fn loc_places(
     match key {
         LocKey::All => all_rows(alloc, axis),
         LocKey::One(labels) => rows_of_key(alloc, axis, labels),
-        LocKey::Many(tuples) => rows_of_keys(alloc, axis, tuples),
+        LocKey::Many(tuples) => {
+            let places = rows_of_list(alloc, axis, tuples)?;
+            Ok(Picked::listed(places))
+        }
         LocKey::Span(from, to) => {
             let rows = leading_span(dict, axis, from.as_ref(), to.as_ref())?;
             Ok(spanned(alloc, rows, axis.len())?)
@@ -92,72 +94,4 @@ fn levels_dropped(named: usize, levels: usize) -> usize
     ensures { result ≡ if nat_lt named levels then named else 0 }
 {
     if named < levels { named } else { 0 }
-}
-
-// The rows of each tuple of a list.
-fn rows_of_keys(alloc: Global, axis: &Axis, tuples: &Tuples) -> Result<Picked, KeyFault>
-    requires { HaveLevels (length axis.now.names) tuples.now }
-    ensures picked { PicksBy pick_of result (loc_pick [] axis.now (key.each_key tuples.now)) }
-    ensures span { IfOk result (IsSpanned (length axis.now.tuples)) }
-{
-    let levels = axis.levels();
-    if levels == 1 {
-        return rows_of_labels(alloc, axis, tuples);
-    }
-    rows_of_tuples(alloc, axis, tuples)
-}
-
-// The rows of each label of a list on one level.
-fn rows_of_labels(alloc: Global, axis: &Axis, labels: &Tuples) -> Result<Picked, KeyFault>
-    requires one { length axis.now.names ≡ 1 }
-    requires full { HaveLevels 1 labels.now }
-    ensures picked { PicksBy pick_of result (loc_pick [] axis.now (key.each_key labels.now)) }
-    ensures span { IfOk result (IsSpanned (length axis.now.tuples)) }
-{
-    let rows = axis.only_level().rows_by_label(alloc)?;
-    let mut places = Places::new(alloc);
-    for k in 0..labels.len() {
-        let label = labels.at(k);
-        if !rows.push_rows(label.at(0), &mut places)? {
-            return Err(KeyFault::NotThere(label.copy()));
-        }
-    }
-    Ok(Picked {
-        places,
-        single: false,
-        dropped: 0,
-        span: None,
-    })
-}
-
-// The rows of each tuple of a list, where all tuples are numbered together.
-fn rows_of_tuples(alloc: Global, axis: &Axis, tuples: &Tuples) -> Result<Picked, KeyFault>
-    requires { HaveLevels (length axis.now.names) tuples.now }
-    ensures picked { PicksBy pick_of result (loc_pick [] axis.now (key.each_key tuples.now)) }
-    ensures span { IfOk result (IsSpanned (length axis.now.tuples)) }
-{
-    let found = find_partners(alloc, tuples, axis, axis.levels())?;
-    let mut places = Places::new(alloc);
-    for k in 0..tuples.len() {
-        if !push_rows(found.rows(k), &mut places)? {
-            return Err(KeyFault::NotThere(tuples.at(k).copy()));
-        }
-    }
-    Ok(Picked {
-        places,
-        single: false,
-        dropped: 0,
-        span: None,
-    })
-}
-
-// Appends rows, and says whether there are some. After `NoMemory` some of them may stand there.
-fn push_rows(rows: &[usize], places: &mut Places) -> Result<bool, NoMemory>
-    ensures rows { OnOk result (places.new ≡ places.old ++ rows.now) }
-    ensures some { IfOk result (λ some. some ≡ are_some rows.now) }
-{
-    for row in rows {
-        places.push(*row)?;
-    }
-    Ok(!rows.is_empty())
 }

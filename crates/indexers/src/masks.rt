@@ -1,15 +1,15 @@
 // The rows that a mask keeps.
-ghost use Rattle.std.specs.Prelude.{◌≡◌, ◌<◌, [], map, length, slice_index_or, IfOk, All};
+ghost use Rattle.std.specs.Prelude.{◌≡◌, ◌<◌, ◌∷◌, [], map, length, slice_index_or, IfOk, All};
 ghost use Rattle.cell_core.specs.declared.cell.Kind.TheVariants.{Boolean};
 ghost use Rattle.index_core.specs.pick.Masks.{kept_rows};
-ghost use Rattle.multi_index.specs.Axes.{HaveLevels};
+ghost use Rattle.multi_index.specs.Axes.{HaveLevels, single_tuples};
 ghost use Rattle.indexers.specs.Masks.{is_true};
-ghost use Rattle.indexers.specs.Picks.{PicksBy, as_it_is, mask_rows, cell_at, rows_by_label, cell_there, rows_by_tuple};
+ghost use Rattle.indexers.specs.Picks.{PicksBy, as_it_is, mask_rows, cell_at, cell_there, rows_by_tuple};
 
 use crate::keys::KeyFault;
 use cell_core::{Cell, Label, NoMemory, Places, Tuple};
 use column_core::ColRef;
-use index_core::{Index, LabelRows};
+use index_core::LabelRows;
 use multi_index::Axis;
 use row_keys::{LevelRows, find_partners};
 use std::alloc::Global;
@@ -57,7 +57,7 @@ fn kept_elsewhere(
         return kept_nowhere(alloc, axis);
     }
     if levels == 1 {
-        return kept_by_label(alloc, axis.only_level(), mask_axis.only_level(), mask);
+        return kept_by_label(alloc, axis, mask_axis, mask);
     }
     kept_by_tuple(alloc, axis, mask_axis, mask)
 }
@@ -100,7 +100,8 @@ fn keeps(
     label: Label,
 ) -> Result<bool, KeyFault>
     requires { length mask.now.cells ≡ length labels.now }
-    ensures { PicksBy as_it_is result (cell_at labels.now mask.now.cells label) }
+    ensures { PicksBy as_it_is result
+        (cell_at (single_tuples labels.now) mask.now.cells (label ∷ [])) }
 {
     match labels.only_row(label) {
         Some(row) => Ok(is_true(mask.cell(row))),
@@ -108,20 +109,24 @@ fn keeps(
     }
 }
 
-// The rows whose label the mask keeps.
+// The rows whose label the mask keeps, where both axes have one level.
 fn kept_by_label(
     alloc: Global,
-    axis: &Index,
-    mask_axis: &Index,
+    axis: &Axis,
+    mask_axis: &Axis,
     mask: ColRef<'_>,
 ) -> Result<Places, KeyFault>
-    requires { length mask.cells ≡ length mask_axis.now }
-    ensures { PicksBy as_it_is result (rows_by_label mask_axis.now mask.entry.cells axis.now) }
+    requires level { length axis.now.names ≡ 1 }
+    requires alike { HaveLevels 1 axis.now.tuples }
+    requires mask_level { length mask_axis.now.names ≡ 1 }
+    requires cells { length mask.cells ≡ length mask_axis.now.tuples }
+    ensures { PicksBy as_it_is result
+        (rows_by_tuple mask_axis.now.tuples mask.entry.cells axis.now.tuples) }
 {
     let labels = mask_axis.rows_by_label(alloc)?;
     let mut rows = Places::new(alloc);
     for row in 0..axis.len() {
-        if keeps(alloc, &labels, &mask, axis.label(row))? {
+        if keeps(alloc, &labels, &mask, axis.label(row, 0))? {
             rows.push(row)?;
         }
     }

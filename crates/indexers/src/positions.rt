@@ -21,8 +21,8 @@ use std::alloc::Global;
 ///
 /// # Errors
 ///
-/// `OutOfRange` of a position that names no row, of several the first one, as it is written and with the number of rows. `StepZero`
-/// exactly where a slice has a step of 0. `NoMemory` may come in place of any answer.
+/// `OutOfRange` of a position that names no row, of several the first one, as it is written and with the number of rows.
+/// `StepZero` exactly where a slice has a step of 0. `NoMemory` may come in place of any answer.
 pub fn iloc_places(alloc: Global, count: usize, key: &PosKey) -> Result<Picked, KeyFault>
     ensures picked { PicksBy pick_of result (picked_by_place count (place_key key.now)) }
     ensures span { IfOk result (IsSpanned count) }

@@ -38,7 +38,7 @@ pub(crate) fn axis_of_rows(
 {
     if both.levels == 1 {
         let labels = first_labels(alloc, both, rows)?;
-        return Ok(Axis::from_labels(alloc, labels));
+        return Axis::from_labels(alloc, dict, labels);
     }
     let tuples = tuples_at(alloc, both.left, both.right, rows)?;
     Axis::from_tuples(alloc, dict, &tuples, both.levels)

@@ -19,12 +19,24 @@ abbrev pub found : LabelValue → Option ℕ → Result ℕ FaultValue
 found l None = Err (no_key (l ∷ []))
 found l (Some place) = Ok place
 
-abbrev pub column_place : Table → LabelValue → Result ℕ FaultValue
-column_place t l = found l (place_of_label t.headings l)
+-- A label stands for a column in two ways: it selects, in brackets, in `del` and in `drop`, or it is an argument, as in
+-- `by`, `keys`, `subset` and `on`. While the labels of a frame differ both find the one column that has it.
 
--- the places of the columns with these labels, or the first label that no column has
-abbrev pub column_places : Table → List LabelValue → Result (List ℕ) FaultValue
-column_places t ls = try_all (column_place t) ls
+-- the column that a label selects
+abbrev pub selected_column : Table → LabelValue → Result ℕ FaultValue
+selected_column t l = found l (place_of_label t.headings l)
+
+-- the columns that these labels select, or the first label that no column has
+abbrev pub selected_columns : Table → List LabelValue → Result (List ℕ) FaultValue
+selected_columns t ls = try_all (selected_column t) ls
+
+-- the column that a label names as an argument
+abbrev pub argument_column : Table → LabelValue → Result ℕ FaultValue
+argument_column t l = found l (place_of_label t.headings l)
+
+-- the columns that these labels name, or the first label that no column has
+abbrev pub argument_columns : Table → List LabelValue → Result (List ℕ) FaultValue
+argument_columns t ls = try_all (argument_column t) ls
 
 abbrev pub heading_at : Table → ℕ → Option LabelValue
 heading_at t place = slice_index_or t.headings place None

@@ -1,7 +1,7 @@
 -- No call of a method or a function has the fault that a file isn't there.
 use Rattle.{
   meaning_script.{proofs.cells.Common.{arith, List, [], ◌∷◌, Bool, Option, ℕ, false, Some, None, Result, ◌≡◌, true, LabelValue, CellValue, Text, FaultValue, Cumulation, Shape, Series, Frame}, specs.{shapes.Reshape.{UnstackRefusal}, group.Reductions.{GroupReduction}, tables.{Table.{ColumnOf, Table}, Value.{Given, object_in, NamedGiven, GivenList, Entry, cell, table}}, call.{declared.{Function.{Function}, Method.{Method}, ReshapeMethod.{ReshapeMethod}}, Binding.{text_in, bound_of, Bound}, Signature.{function_parameters, function_named}}, method.{Merge.{keys_named, keys_under, keys_on, keys_of_merge, merge_result}, Concat.{Concatenation, frames_below, below, along, concat_result, concat_call}, Groups.{Grouping, Values, GroupCall, group_answer, of_bound, grouping_in, values_named, values_in, transform_in, without_arguments, group_call_of, grouped_of, grouped_result}, Calls.{ChainValue, table_call, plain_result, call_result}, Windows.{Windows, rolling_in, expanding_in, window_call, windowed, windows_of, rolling_result, expanding_result}, Reshape.{met_labels, unstacked_at, Pivoted, pivoted_in, pivoted, group_series, melted_in, value_labels, melt_result, reshaped}, Functions.{made_named, function_result}, Readers.{reads_file, read_result}}, select.Select.{shown_as}}},
-  meaning_laws.{specs.FormFault.{HasFormFault}, proofs.{FormFaults.{if_fault, then_value_fault, finished_fault, column_places_fault, on_fault, limited_fault, try_all_fault, of_length_fault, on_bound_fault, made_column_fault, column_place_fault, series_call_fault, frame_call_fault, read_result_fault}, MethodFaults.{each_column_fault, level_of_fault, called_fault}}},
+  meaning_laws.{specs.FormFault.{HasFormFault}, proofs.{FormFaults.{if_fault, then_value_fault, finished_fault, argument_columns_fault, on_fault, limited_fault, try_all_fault, of_length_fault, on_bound_fault, made_column_fault, argument_column_fault, series_call_fault, frame_call_fault, read_result_fault}, MethodFaults.{each_column_fault, level_of_fault, called_fault}}},
 }
 use Rattle.meaning_script.specs.call.declared.Function.TheVariants as function
 use Rattle.meaning_script.specs.call.declared.Method.TheVariants as method
@@ -13,7 +13,7 @@ use Rattle.meaning_script.specs.method.Calls as call
 -- ---- merging
 
 keys_named_fault : (l r : Table) (ls : List LabelValue) → HasFormFault (keys_named l r ls)
-keys_named_fault = search (then_value_fault, column_places_fault)
+keys_named_fault = search (then_value_fault, argument_columns_fault)
 
 under_fault : (l r : Table) (ls : List LabelValue) → HasFormFault (keys_under l r ls)
 under_fault l r [] = tt
@@ -62,12 +62,12 @@ of_bound_fault : {A : Type 0} (read : List Given → Result A FaultValue) (b : B
 of_bound_fault = grind arith
 
 grouping_in_fault : (t : Table) (gs : List Given) → HasFormFault (grouping_in t gs)
-grouping_in_fault = grind (arith, then_value_fault, column_places_fault, if_fault)
+grouping_in_fault = grind (arith, then_value_fault, argument_columns_fault, if_fault)
 
 -- the brackets
 named_fault : (t : Table) (o : Option CellValue) (parts : Option GivenList) → HasFormFault (values_named t o parts)
-named_fault t (Some c) _ = search (then_value_fault, column_place_fault)
-named_fault t None (Some parts) = search (if_fault, then_value_fault, column_places_fault)
+named_fault t (Some c) _ = search (then_value_fault, argument_column_fault)
+named_fault t None (Some parts) = search (if_fault, then_value_fault, argument_columns_fault)
 named_fault t None None = tt
 
 values_fault : (t : Table) (keys : List ℕ) (brackets : Option Given) → HasFormFault (values_in t keys brackets)
@@ -120,7 +120,7 @@ unstacked_fault : (t : Table) (level : ℕ) → HasFormFault (unstacked_at t lev
 unstacked_fault = search (then_value_fault, met_labels_fault, finished_fault)
 
 pivoted_in_fault : (t : Table) (index columns values : Given) → HasFormFault (pivoted_in t index columns values)
-pivoted_in_fault = search (then_value_fault, column_places_fault, if_fault, on_fault, column_place_fault)
+pivoted_in_fault = search (then_value_fault, argument_columns_fault, if_fault, on_fault, argument_column_fault)
 
 pivoted_fault : (p : Pivoted) (s : Table) → HasFormFault (pivoted p s)
 pivoted_fault = search (if_fault, unstacked_fault)
@@ -129,7 +129,7 @@ group_series_fault : (t : Table) (keys : List ℕ) (place : ℕ) (op : GroupRedu
 group_series_fault = search (then_value_fault, try_all_fault, made_column_fault)
 
 melted_in_fault : (t : Table) (ids values : Given) → HasFormFault (melted_in t ids values)
-melted_in_fault = grind (arith, then_value_fault, column_places_fault)
+melted_in_fault = grind (arith, then_value_fault, argument_columns_fault)
 
 labels_fault : (t : Table) (values : List ℕ) → HasFormFault (value_labels t values)
 labels_fault = grind (arith, if_fault)
@@ -162,7 +162,7 @@ call_result_fault v (call.grouped by brackets name) gs = grouped_fault v by brac
 call_result_fault v (call.rolling args name) gs = rolling_fault v args name gs
 call_result_fault v (call.expanding args name) gs = expanding_fault v args name gs
 
-made_named_fault : (f : Option Function) (file : Option (List ℕ)) (name : Text) (gs : List NamedGiven) → HasFormFault (made_named f file name gs)
+pub made_named_fault : (f : Option Function) (file : Option (List ℕ)) (name : Text) (gs : List NamedGiven) → HasFormFault (made_named f file name gs)
 made_named_fault None _ _ _ = tt
 made_named_fault (Some function.Series) _ _ gs = series_call_fault gs
 made_named_fault (Some function.DataFrame) _ _ gs = frame_call_fault gs

@@ -114,7 +114,7 @@ call_result_keeps v (rolling args name) gs h k = rolling_result_keeps v args nam
 call_result_keeps v (expanding args name) gs h k = expanding_result_keeps v args name gs h
 
 -- any function of `pd`
-made_by_keeps : (f : Function) (file : Option (List ℕ)) (gs : List NamedGiven) → AreValidArguments gs → IfOk (made_by f file gs) IsValidEntry
+pub made_by_keeps : (f : Function) (file : Option (List ℕ)) (gs : List NamedGiven) → AreValidArguments gs → IfOk (made_by f file gs) IsValidEntry
 made_by_keeps function.Series _ gs k = series_call_keeps gs
 made_by_keeps function.DataFrame _ gs k = frame_call_keeps gs
 made_by_keeps function.ReadCsv None gs k = read_result_keeps [] gs

@@ -1,6 +1,6 @@
 -- No form on values has the fault that a file isn't there.
 use Rattle.{
-  meaning_script.{proofs.cells.Common.{arith, ℕ, Bool, true, false, List, [], ◌∷◌, Option, Result, Err, if◌then◌else◌, Shape, Series, Frame, CellValue, LabelValue, ColumnValue, ColumnFault, FaultValue, wrong_kind, bad_value, not_aligned, then_value, Binary}, specs.{align.Faults.{AlignRefusal, met_rows}, tables.{Table.{ColumnOf, Table, column_at}, Value.{Entry, cell, table, Given, NamedGiven}}, call.{Binding.{Bound, on_bound}, Functions.{series_call, frame_call}}, form.{Finish.{column_labels, limited_table, limited, unless_repeated, finished, made_column, try_all}, Select.{found, column_place, column_places, length_result}, Infix.{Meeting, has_one, same_tuple, compares, infix_table, on_levels, rows_infix, joined_frames, frame_infix, takes_each, labels_fit, spread_frame, joined_turned, across_unequal, across_infix, table_infix, infix_result, sign_result}, Set.{of_length}, Make.{on, all_of_length}}, method.Readers.{csv_result, read_result}}},
+  meaning_script.{proofs.cells.Common.{arith, ℕ, Bool, true, false, List, [], ◌∷◌, Option, Result, Err, if◌then◌else◌, Shape, Series, Frame, CellValue, LabelValue, ColumnValue, ColumnFault, FaultValue, wrong_kind, bad_value, not_aligned, then_value, Binary}, specs.{align.Faults.{AlignRefusal, met_rows}, tables.{Table.{ColumnOf, Table, column_at}, Value.{Entry, cell, table, Given, NamedGiven}}, call.{Binding.{Bound, on_bound}, Functions.{series_call, frame_call}}, form.{Finish.{column_labels, limited_table, limited, unless_repeated, finished, made_column, try_all}, Select.{found, argument_column, argument_columns, selected_column, selected_columns, length_result}, Infix.{Meeting, has_one, same_tuple, compares, infix_table, on_levels, rows_infix, joined_frames, frame_infix, takes_each, labels_fit, spread_frame, joined_turned, across_unequal, across_infix, table_infix, infix_result, sign_result}, Set.{of_length}, Make.{on, all_of_length}}, method.Readers.{csv_result, read_result}}},
   meaning_laws.specs.FormFault.{HasFormFault},
 }
 
@@ -37,11 +37,17 @@ try_all_fault f (x ∷ xs) each = search (then_value_fault, try_all_fault f xs e
 pub found_fault : (l : LabelValue) (place : Option ℕ) → HasFormFault (found l place)
 found_fault = grind arith
 
-pub column_place_fault : (t : Table) (l : LabelValue) → HasFormFault (column_place t l)
-column_place_fault t l = found_fault l _
+pub argument_column_fault : (t : Table) (l : LabelValue) → HasFormFault (argument_column t l)
+argument_column_fault t l = found_fault l _
 
-pub column_places_fault : (t : Table) (ls : List LabelValue) → HasFormFault (column_places t ls)
-column_places_fault t _ = try_all_fault _ _ (column_place_fault t)
+pub selected_column_fault : (t : Table) (l : LabelValue) → HasFormFault (selected_column t l)
+selected_column_fault t l = found_fault l _
+
+pub argument_columns_fault : (t : Table) (ls : List LabelValue) → HasFormFault (argument_columns t ls)
+argument_columns_fault t _ = try_all_fault _ _ (argument_column_fault t)
+
+pub selected_columns_fault : (t : Table) (ls : List LabelValue) → HasFormFault (selected_columns t ls)
+selected_columns_fault t _ = try_all_fault _ _ (selected_column_fault t)
 
 pub length_result_fault : (v : Entry) → HasFormFault (length_result v)
 length_result_fault = grind arith

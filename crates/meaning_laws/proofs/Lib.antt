@@ -22,5 +22,6 @@ pub mod SelectFaults
 pub mod SetFaults
 pub mod MethodFaults
 pub mod CallFaults
+pub mod SpentLaws
 -- laws of crates below, passed on to the crates above
 pub use Rattle.meaning_script.proofs.cells as cells

@@ -1,7 +1,7 @@
 -- No method has the fault that a file isn't there.
 use Rattle.{
   meaning_script.{proofs.cells.Common.{arith, ℤ, Bool, true, false, List, [], ◌∷◌, Option, Result, Shape, Series, Frame, Text, CellValue, LabelValue, FaultValue}, specs.{tables.{Table.{ColumnOf, Table}, Value.{Given, GivenList, NamedGiven}}, call.declared.Method.{Method}, method.{Rows.{head_result, tail_result, subset_places, duplicated_result, sort_by_result, drop_result}, Methods.{each_column, filled_column, Summary, summary_cell, summary_of, renamed_frame, reset_index_result, csv_answer, answer_for}, Levels.{rename_axis_result, set_index_result, renumbered, level_of, droplevel_result, swaplevel_result}, Reindex.{reindex_result}, Section.{xs_result}, Calls.{called}}}},
-  meaning_laws.{proofs.{FormFaults.{if_fault, then_value_fault, of_length_fault, unless_repeated_fault, met_rows_fault, on_bound_fault, limited_fault, finished_fault, made_column_fault, try_all_fault, found_fault, column_places_fault, on_fault}, SelectFaults.{found_pick_fault, whole_items_fault}}, specs.FormFault.{HasFormFault}},
+  meaning_laws.{proofs.{FormFaults.{if_fault, then_value_fault, of_length_fault, unless_repeated_fault, met_rows_fault, on_bound_fault, limited_fault, finished_fault, made_column_fault, try_all_fault, found_fault, argument_columns_fault, selected_columns_fault, on_fault}, SelectFaults.{found_pick_fault, whole_items_fault}}, specs.FormFault.{HasFormFault}},
 }
 use Rattle.meaning_script.specs.call.declared.Method.TheVariants as method
 use Rattle.meaning_script.specs.call.declared.ColumnMethod.TheVariants as column_method
@@ -38,23 +38,23 @@ tail_fault : (t : Table) (n : ℤ) → HasFormFault (tail_result t n)
 tail_fault = search (if_fault, limited_fault)
 
 subset_fault : (t : Table) (subset : Given) → HasFormFault (subset_places t subset)
-subset_fault = grind (arith, then_value_fault, column_places_fault)
+subset_fault = grind (arith, then_value_fault, argument_columns_fault)
 
 duplicated_fault : (t : Table) (subset : Given) → HasFormFault (duplicated_result t subset)
 duplicated_fault = search (then_value_fault, subset_fault, limited_fault)
 
 sort_by_fault : (t : Table) (ascending : Bool) (by : Given) → HasFormFault (sort_by_result t ascending by)
-sort_by_fault = search (then_value_fault, column_places_fault, limited_fault)
+sort_by_fault = search (then_value_fault, argument_columns_fault, limited_fault)
 
 drop_fault : (t : Table) (columns : Given) → HasFormFault (drop_result t columns)
-drop_fault = search (then_value_fault, column_places_fault, finished_fault)
+drop_fault = search (then_value_fault, selected_columns_fault, finished_fault)
 
 -- levels
 rename_axis_fault : (t : Table) (names : Given) → HasFormFault (rename_axis_result t names)
 rename_axis_fault = search (of_length_fault, limited_fault)
 
 set_index_fault : (t : Table) (keys : Given) → HasFormFault (set_index_result t keys)
-set_index_fault = search (then_value_fault, column_places_fault, unless_repeated_fault, if_fault, limited_fault)
+set_index_fault = search (then_value_fault, argument_columns_fault, unless_repeated_fault, if_fault, limited_fault)
 
 reset_index_fault : (t : Table) (drop : Bool) → HasFormFault (reset_index_result t drop)
 reset_index_fault t true = limited_fault (renumbered t)

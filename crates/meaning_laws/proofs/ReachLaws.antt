@@ -1,7 +1,7 @@
 -- What keys reach lies in the table.
 use Rattle.{
   meaning_script.{proofs.{cells.Common.{rules, Bool, filter, ◌≡◌, ℕ, ◌<◌, ◌≤◌, List, [], ◌∷◌, length, arith, ◌∙◌, refl, ap, sym, ◌-◌, drop, map, nat_tests, length-map, length-drop, All-filter, get_or-range_with_len, length-range_with_len, true, Option, Some, None, Result, Ok, IfOk, false, slice_index_or, All, range_with_len, list_all, as_long, Shape, Series, Frame, Kind, LabelValue, na_cell, Accessor, FaultValue, then_value}, tables.KindLaws.{kind_is}, pick.{InsideLaws.{ok_same, went_on, mask_inside}, KeyLaws.{picked_inside, placed_inside}}}, specs.{tables.{Table.{Table, column_at}, Value.{Entry, cell, table, GivenSub, one, key_given}, Valid.{AreHeadings}}, form.{Finish.{column_labels, same_kind}, Infix.{same_tuple}, Select.{heading_at, length_result}}, pick.{Faults.{PickFault, then_pick}, Keys.{LabelKey, one_key, Pick, key_pick, listed_pick}, Masks.{masked_rows}}, select.{Keys.{found_pick, found_labels, label_key, whole_key, label_pick, marks_of, mask_pick, loc_rows, loc_columns, once, at_rows, rows_by, columns_by, reach_of, reach_by, Reach}, Select.{column_reach, columns_reach, item_reach, Way, way_reach, select_result, rows_taken, without_leading, cut, as_series, first_cell, kind_across, row_series, row_result, shown_as, picked_result}}}},
-  meaning_laws.{specs.Validity.{IsValidObject, IsValidEntry, IsHeldCell}, proofs.{Words.{Has, Tuple, Below, IsFrame, Keeps, Column, Name}, ListLaws.{length_tabulate, then_keeps, any_then, try_keeps, all_made, all_mapped, all_pass, at_or}, TableLaws.{IsShaped, some_labelled, shaped, one_column, limited_keeps, column_of_table, series_heading, frame_headings, column_place_found, different, finished_keeps}, ColumnLaws.{IsColumn, Held, na_held, held_cell, wrap_fits}}},
+  meaning_laws.{specs.Validity.{IsValidObject, IsValidEntry, IsHeldCell}, proofs.{Words.{Has, Tuple, Below, IsFrame, Keeps, Column, Name}, ListLaws.{length_tabulate, then_keeps, any_then, try_keeps, all_made, all_mapped, all_pass, at_or}, TableLaws.{IsShaped, some_labelled, shaped, one_column, limited_keeps, column_of_table, series_heading, frame_headings, selected_column_found, different, finished_keeps}, ColumnLaws.{IsColumn, Held, na_held, held_cell, wrap_fits}}},
 }
 
 -- selections
@@ -213,13 +213,13 @@ reach_by_is = grind (arith, then_keeps, first_below, one_column, rows_by_is, any
 -- brackets on a frame
 column_reach_is : (t : Table) (l : LabelValue) → IsShaped t → IsFrame t → IfOk (column_reach t l) (IsReach t)
 column_reach_is t l s is =
-    let found = column_place_found t l in
+    let found = selected_column_found t l in
     grind (arith, below_all)
 
 columns_reach_is : (t : Table) (ls : Tuple) → IsShaped t → IsFrame t → IfOk (columns_reach t ls) (IsReach t)
 columns_reach_is t ls s is =
     then_keeps (λ places. (length places ≡ length ls) × Below (length t.headings) places) _ _ _
-    (try_keeps (λ _. Unit {0}) (λ place. place < length _) _ (λ l _. column_place_found t l) ls (λ k d lt. tt))
+    (try_keeps (λ _. Unit {0}) (λ place. place < length _) _ (λ l _. selected_column_found t l) ls (λ k d lt. tt))
     (λ places below. record {
       rows = below_all _;
       levels = omega (arith, s.some);

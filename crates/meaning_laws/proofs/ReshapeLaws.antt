@@ -1,7 +1,7 @@
 -- Methods of another shape make valid tables of valid ones.
 use Rattle.{
-  meaning_script.{specs.{cells.Cell.{string, text}, join.Concat.{same_kind}, shapes.Reshape.{SpreadOf, cells_of_row, count_of_rows, column_by_row}, tables.{Table.{Table, column_at}, Value.{Given, scalar_in}}, call.{declared.{ReshapeMethod.{ReshapeMethod}, Method.TheVariants.{Reshape}}, Signature.{method_names, fits_shape}}, form.{Finish.{first_repeated, column_labels, value_of_column, column_of_value}, Infix.{same_tuple, tuple_before}, Select.{column_place}}, select.Select.{row_name}, method.{Concat.{columns_below}, Groups.{keys_of, groups_of, headings_of, keys_in}, Rows.{labels_in, cells_by_row, all_places, without_missing}, Reshape.{stacked_labels, stacked, stack_result, labels_besides, labels_on, met_labels, places_of_column, spread_frame, unstacked_at, unstack_result, Pivoted, place_in, pivoted_in, label_places, under_cells, pivoted, pivot_result, groups_by, group_series, answered_groups, pivot_table_result, Melted, kept_in, values_named, melted_in, heading_cell, kept_column, value_labels, label_column, label_heading, melted, melt_result, reshaped}}, group.Reductions.{GroupReduction, reduce_groups}}, proofs.{cells.Common.{◌≡◌, ◌∙◌, refl, sym, ap, subst, ℕ, ◌+◌, ◌*◌, ◌<◌, ◌≤◌, List, [], ◌∷◌, ◌++◌, length, map, arith, length-append, length-map, length-replicate, length-remove, length-range_with_len, All-nil, All-cons, All-head, All-tail, All-append, All-replicate, Bool, true, false, replicate, remove, slice_index_or, codes, Option, Some, None, IsSome, IfOk, IfSome, All, list_all, flat_map, range_with_len, Kind, Frame, Int64, CellValue, LabelValue, ColumnValue, na_cell, cell_label, nat_tests, is_present}, align.OrderLaws.{all_flat, all_distinct, all_in_order}, tables.KindLaws.{kind_is}, call.ShapeLaws.{of_frame}, pick.InsideLaws.{rows_inside}}},
-  meaning_laws.{specs.Validity.{IsValidEntry}, proofs.{Words.{AllOf, Has, Keeps, Column, Tuple, Levelled, IsFrame}, ListLaws.{both_true, all_made, all_mapped, at_or, length_tabulate, then_keeps, on_keeps, on_some_keeps}, ColumnLaws.{IsColumnOf, IsColumn, Held, na_held, list_keeps}, TableLaws.{IsShaped, shaped, limited_keeps, column_of_table, cells_held, some_labelled, series_heading, frame_headings, different, finished_keeps, column_place_found}, InfixLaws.{gap_held}, RowLaws.{rows_counted}, ReachLaws.{some_below, rows_shaped}, SetLaws.{length_default, default_levels}, GroupLaws.{one_column, places_found, rows_have, under_body, reduce_makes, each_makes, IsBody, frame_keeps, AreBelow, AreKeys}, LevelLaws.{on_levels_keep, IsLevel, level_of_keeps, of_several_keeps, dropped_has, name_there}}},
+  meaning_script.{specs.{cells.Cell.{string, text}, join.Concat.{same_kind}, shapes.Reshape.{SpreadOf, cells_of_row, count_of_rows, column_by_row}, tables.{Table.{Table, column_at}, Value.{Given, scalar_in}}, call.{declared.{ReshapeMethod.{ReshapeMethod}, Method.TheVariants.{Reshape}}, Signature.{method_names, fits_shape}}, form.{Finish.{first_repeated, column_labels, value_of_column, column_of_value}, Infix.{same_tuple, tuple_before}, Select.{argument_column}}, select.Select.{row_name}, method.{Concat.{columns_below}, Groups.{keys_of, groups_of, headings_of, keys_in}, Rows.{labels_in, cells_by_row, all_places, without_missing}, Reshape.{stacked_labels, stacked, stack_result, labels_besides, labels_on, met_labels, places_of_column, spread_frame, unstacked_at, unstack_result, Pivoted, place_in, pivoted_in, label_places, under_cells, pivoted, pivot_result, groups_by, group_series, answered_groups, pivot_table_result, Melted, kept_in, values_named, melted_in, heading_cell, kept_column, value_labels, label_column, label_heading, melted, melt_result, reshaped}}, group.Reductions.{GroupReduction, reduce_groups}}, proofs.{cells.Common.{◌≡◌, ◌∙◌, refl, sym, ap, subst, ℕ, ◌+◌, ◌*◌, ◌<◌, ◌≤◌, List, [], ◌∷◌, ◌++◌, length, map, arith, length-append, length-map, length-replicate, length-remove, length-range_with_len, All-nil, All-cons, All-head, All-tail, All-append, All-replicate, Bool, true, false, replicate, remove, slice_index_or, codes, Option, Some, None, IsSome, IfOk, IfSome, All, list_all, flat_map, range_with_len, Kind, Frame, Int64, CellValue, LabelValue, ColumnValue, na_cell, cell_label, nat_tests, is_present}, align.OrderLaws.{all_flat, all_distinct, all_in_order}, tables.KindLaws.{kind_is}, call.ShapeLaws.{of_frame}, pick.InsideLaws.{rows_inside}}},
+  meaning_laws.{specs.Validity.{IsValidEntry}, proofs.{Words.{AllOf, Has, Keeps, Column, Tuple, Levelled, IsFrame}, ListLaws.{both_true, all_made, all_mapped, at_or, length_tabulate, then_keeps, on_keeps, on_some_keeps}, ColumnLaws.{IsColumnOf, IsColumn, Held, na_held, list_keeps}, TableLaws.{IsShaped, shaped, limited_keeps, column_of_table, cells_held, some_labelled, series_heading, frame_headings, different, finished_keeps, argument_column_found}, InfixLaws.{gap_held}, RowLaws.{rows_counted}, ReachLaws.{some_below, rows_shaped}, SetLaws.{length_default, default_levels}, GroupLaws.{one_column, places_found, rows_have, under_body, reduce_makes, each_makes, IsBody, frame_keeps, AreBelow, AreKeys}, LevelLaws.{on_levels_keep, IsLevel, level_of_keeps, of_several_keeps, dropped_has, name_there}}},
 }
 use Rattle.meaning_script.specs.call.declared.ReshapeMethod.TheVariants as method
 use Rattle.meaning_script.specs.shapes.Reshape as reshape
@@ -147,7 +147,7 @@ record IsPivoted (t : Table) (p : Pivoted) : Type 0 where
 
 module _ (t : Table) (s : IsShaped t) where
   place_keeps : (g : Given) → IfOk (place_in t g) (λ place. place < length t.columns)
-  place_keeps g = on_keeps (λ place. place < length t.columns) (scalar_in g) (λ c. column_place t (cell_label c)) (λ c. rw s.headed at (column_place_found t (cell_label c)))
+  place_keeps g = on_keeps (λ place. place < length t.columns) (scalar_in g) (λ c. argument_column t (cell_label c)) (λ c. rw s.headed at (argument_column_found t (cell_label c)))
 
   index_keeps : (g : Given) → IfOk (keys_in t false g) (AreKeys t false)
   index_keeps g =

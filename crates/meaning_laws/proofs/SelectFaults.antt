@@ -1,7 +1,7 @@
 -- No selection has the fault that a file isn't there.
 use Rattle.{
   meaning_script.{proofs.cells.Common.{arith, ℕ, Bool, true, false, List, Option, Some, None, Result, Shape, Series, Frame, int_cell, LabelValue, Accessor}, specs.{tables.{Table.{Table}, Value.{Entry, cell, table, GivenList, GivenSub, no_given, more_given, one, row, many, key_given, span_given}}, pick.Faults.{PickFault}, select.{Keys.{whole_items, place_key, found_pick, place_pick, loc_rows, loc_columns, rows_by, columns_by, joined_key, reach_by}, Select.{Way, as_series, shown_as, columns_reach, mask_reach, frame_reach, item_reach, select_result}}}},
-  meaning_laws.{specs.FormFault.{HasFormFault}, proofs.FormFaults.{if_fault, then_value_fault, limited_fault, finished_fault, try_all_fault, column_place_fault, column_places_fault}},
+  meaning_laws.{specs.FormFault.{HasFormFault}, proofs.FormFaults.{if_fault, then_value_fault, limited_fault, finished_fault, try_all_fault, selected_column_fault, selected_columns_fault}},
 }
 
 pub whole_items_fault : (levels : ℕ) (parts : GivenList) → HasFormFault (whole_items levels parts)
@@ -41,13 +41,13 @@ reach_by_fault : (s : Shape) (by : Accessor) (t : Table) (first : GivenSub) (sec
 reach_by_fault = grind (arith, then_value_fault, rows_by_fault, joined_key_fault, if_fault, columns_by_fault)
 
 columns_reach_fault : (t : Table) (ls : List LabelValue) → HasFormFault (columns_reach t ls)
-columns_reach_fault t ls = then_value_fault _ _ (column_places_fault t ls) (λ places. tt)
+columns_reach_fault t ls = then_value_fault _ _ (selected_columns_fault t ls) (λ places. tt)
 
 mask_reach_fault : (t m : Table) → HasFormFault (mask_reach t m)
 mask_reach_fault = search (then_value_fault, if_fault, found_pick_fault)
 
 frame_reach_fault : (t : Table) (k : GivenSub) → HasFormFault (frame_reach t k)
-frame_reach_fault t (key_given (one (cell c))) = search (then_value_fault, column_place_fault)
+frame_reach_fault t (key_given (one (cell c))) = search (then_value_fault, selected_column_fault)
 frame_reach_fault t (key_given (one (table m))) = mask_reach_fault t m
 frame_reach_fault t (key_given (many parts)) = search (if_fault, columns_reach_fault)
 frame_reach_fault t k = tt

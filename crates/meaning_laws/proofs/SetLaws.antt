@@ -1,8 +1,8 @@
 -- Settings and removals leave valid tables.
 use Rattle.{
-  meaning_script.{proofs.{cells.Common.{rules, ◌≡◌, ◌≢◌, ◌∙◌, ap, refl, sym, subst, ℕ, zero, suc, ◌+◌, ◌%◌, ◌/◌, ◌<◌, ◌≤◌, pos, nat_eq, List, [], ◌∷◌, length, map, arith, nat_tests, length-map, length-set, length-map-range_with_len, length-remove, All-cons, All-head, All-tail, All-append, All-set, all_pairs_remove, mul-le, Bool, true, false, ◌&&◌, nat_le, remove, slice_index, Option, Some, None, IsSome, IfSome, unwrap_or, Result, Ok, IfOk, All, list_any, CellValue, na_cell, LabelValue, int, holds, Accessor, FaultValue, then_value}, align.FoundLaws.{reindexed_count}}, specs.{tables.{Table.{Table, column_at}, Change.{put_at, with_column, without_column, with_cell, with_values_from}, Valid.{IsValid}, Value.{Entry, Given, GivenSub}}, form.{Finish.{default_labels, missing_column, column_labels}, Infix.{same_tuple}, Select.{place_of_label, column_place}}, pick.Keys.{Pick}, align.Faults.{AlignRefusal, met_rows}, select.{Select.{Way}, Set.{SetValue, same, listed, aligned, set_value, put_result, with_rows, list_set, aligned_rows, column_at_rows, aligned_column, series_set, column_set, Reached, or_added, rows_set, Target, target_of, with_gap, with_row, kind_of_value, with_new_column, fit_from, filled_table, target_set, access_set, assign_result, removal_result}}}},
+  meaning_script.{proofs.{cells.Common.{rules, ◌≡◌, ◌≢◌, ◌∙◌, ap, refl, sym, subst, ℕ, zero, suc, ◌+◌, ◌%◌, ◌/◌, ◌<◌, ◌≤◌, pos, nat_eq, List, [], ◌∷◌, length, map, arith, nat_tests, length-map, length-set, length-map-range_with_len, length-remove, All-cons, All-head, All-tail, All-append, All-set, all_pairs_remove, mul-le, Bool, true, false, ◌&&◌, nat_le, remove, slice_index, Option, Some, None, IsSome, IfSome, unwrap_or, Result, Ok, IfOk, All, list_any, CellValue, na_cell, LabelValue, int, holds, Accessor, FaultValue, then_value}, align.FoundLaws.{reindexed_count}}, specs.{tables.{Table.{Table, column_at}, Change.{put_at, with_column, without_column, with_cell, with_values_from}, Valid.{IsValid}, Value.{Entry, Given, GivenSub}}, form.{Finish.{default_labels, missing_column, column_labels}, Infix.{same_tuple}, Select.{place_of_label, selected_column}}, pick.Keys.{Pick}, align.Faults.{AlignRefusal, met_rows}, select.{Select.{Way}, Set.{SetValue, same, listed, aligned, set_value, put_result, with_rows, list_set, aligned_rows, column_at_rows, aligned_column, series_set, column_set, Reached, or_added, rows_set, Target, target_of, with_gap, with_row, kind_of_value, with_new_column, fit_from, filled_table, target_set, access_set, assign_result, removal_result}}}},
   std.proofs.lemmas.List.{length-append},
-  meaning_laws.{specs.Validity.{IsValidObject, IsHeldCell, IsValidGiven}, proofs.{Words.{Has, Column, Name, Tuple, Cells, Apart, Levelled, IsFrame, IsSeries}, ListLaws.{both_true, all_made, all_mapped, then_keeps, any_then, All-put_at, length-put_at, All-remove, of_length_keeps, where_keeps}, ColumnLaws.{IsColumn, list_keeps, spread_column, Held, na_held}, TableLaws.{IsShaped, shaped, valid, limited_table_keeps, column_of_table, frame_headings, one_column, put_heading, column_place_found}, InfixLaws.{gap_held}}},
+  meaning_laws.{specs.Validity.{IsValidObject, IsHeldCell, IsValidGiven}, proofs.{Words.{Has, Column, Name, Tuple, Cells, Apart, Levelled, IsFrame, IsSeries}, ListLaws.{both_true, all_made, all_mapped, then_keeps, any_then, All-put_at, length-put_at, All-remove, of_length_keeps, where_keeps}, ColumnLaws.{IsColumn, list_keeps, spread_column, Held, na_held}, TableLaws.{IsShaped, shaped, valid, limited_table_keeps, column_of_table, frame_headings, one_column, put_heading, selected_column_found}, InfixLaws.{gap_held}}},
 }
 
 -- a column under a label at a place
@@ -192,9 +192,9 @@ fewer a b m le e = grind (arith, nat_tests)
 three : (a b c b' c' : Bool) → (b ≡ true → b' ≡ true) → (c ≡ true → c' ≡ true) → a && b && c ≡ true → a && b' && c' ≡ true
 three = grind arith
 
-label_removal_keeps : (t : Table) (l : LabelValue) → IsValid t → IsFrame t → IfOk (then_value (column_place t l) (λ place. Ok (without_column t place))) IsValid
+label_removal_keeps : (t : Table) (l : LabelValue) → IsValid t → IsFrame t → IfOk (then_value (selected_column t l) (λ place. Ok (without_column t place))) IsValid
 label_removal_keeps t l v is =
-    then_keeps (λ place. place < length _) _ _ _ (column_place_found t l)
+    then_keeps (λ place. place < length _) _ _ _ (selected_column_found t l)
     (λ place lt.
     let s = shaped t v in
     let columns : length (remove t.columns place) + 1 ≡ length t.columns = grind (arith, length-remove) in

@@ -1,6 +1,6 @@
 -- Tables whose parts fit, before their limits are tested.
 use Rattle.{
-  meaning_script.{proofs.cells.Common.{arith, ◌≡◌, ℕ, ◌<◌, ◌≤◌, List, [], ◌∷◌, length, map, ◌≢◌, refl, suc, nat_tests, set-get_or, All-nil, All-head, All-tail, all_pairs_push, true, None, IsSome, IfOk, All, Bool, false, ◌||◌, nat_lt, slice_index_or, Option, Some, IfSome, option_map, unwrap_or, Decides, list_any, Shape, Series, Frame, Int64, LabelValue, value_decides}, specs.{tables.{Table.{Table, column_at}, Valid.{AreHeadings, IsValid, within_limits}, Change.{put_at}}, form.{Finish.{limited_table, limited, with_columns, same_heading, first_repeated, finished}, Select.{heading_at, place_of_label, found, column_place}}, call.Binding.{same_label}}},
+  meaning_script.{proofs.cells.Common.{arith, ◌≡◌, ℕ, ◌<◌, ◌≤◌, List, [], ◌∷◌, length, map, ◌≢◌, refl, suc, nat_tests, set-get_or, All-nil, All-head, All-tail, all_pairs_push, true, None, IsSome, IfOk, All, Bool, false, ◌||◌, nat_lt, slice_index_or, Option, Some, IfSome, option_map, unwrap_or, Decides, list_any, Shape, Series, Frame, Int64, LabelValue, value_decides}, specs.{tables.{Table.{Table, column_at}, Valid.{AreHeadings, IsValid, within_limits}, Change.{put_at}}, form.{Finish.{limited_table, limited, with_columns, same_heading, first_repeated, finished}, Select.{heading_at, place_of_label, found, argument_column, selected_column}}, call.Binding.{same_label}}},
   meaning_laws.proofs.{Words.{Keeps, Column, Name, Apart, IsFrame, Below}, ColumnLaws.{IsColumn, Held}, ListLaws.{all_made, at_or}},
 }
 
@@ -112,8 +112,11 @@ found_within hs l =
     let found = place_found hs l in
     grind arith
 
-pub column_place_found : (t : Table) (l : LabelValue) → IfOk (column_place t l) (λ place. place < length t.headings)
-column_place_found t l = found_within t.headings l
+pub argument_column_found : (t : Table) (l : LabelValue) → IfOk (argument_column t l) (λ place. place < length t.headings)
+argument_column_found t l = found_within t.headings l
+
+pub selected_column_found : (t : Table) (l : LabelValue) → IfOk (selected_column t l) (λ place. place < length t.headings)
+selected_column_found t l = found_within t.headings l
 
 not_below : (n : ℕ) → nat_lt n n ≡ false
 not_below n = grind (arith, nat_tests)

@@ -21,15 +21,10 @@ abbrev pub has_method : Entry → Text → Bool
 has_method (cell c) name = false
 has_method (table t) name = is_some (method_named t.shape name)
 
+-- A method with its arguments. `groupby`, `rolling` and `expanding` stand in forms of their own, and no value has them without.
 abbrev pub called : Option Method → Text → List NamedGiven → Table → Result Entry FaultValue
 called None name gs t = Err (no_attribute name)
 called (Some m) name gs t = if is_answered m then on_bound (bound_of (parameters_of m) gs) (λ given. answer_for m given t) else Err (no_attribute name)
-
--- a method of a value, but for those that stand below; a scalar has none. `groupby`, `rolling` and `expanding` stand in
--- forms of their own, and no value has them without.
-abbrev pub method_result : Entry → Text → List NamedGiven → Result Entry FaultValue
-method_result (cell c) name gs = Err (no_attribute name)
-method_result (table t) name gs = called (method_named t.shape name) name gs t
 
 -- `merge`, which takes a second table, and the methods of another shape
 abbrev pub merge_call : Table → List NamedGiven → Result Entry FaultValue

@@ -17,7 +17,7 @@ use Rattle.meaning_call.specs.declared.Accepted.TheVariants as accepted
 use Rattle.meaning_call.specs.Signature.{needed, parameters_of}
 use Rattle.meaning_call.specs.Binding.{Bound, not_taken, not_listed, bound, bound_of, each, is_scalar, truth_in, text_in}
 use Rattle.meaning_call.specs.form.Finish.{finished, default_labels, value_of_column, column_of_value, made_column, try_all}
-use Rattle.meaning_call.specs.form.Select.{column_place, column_places, heading_at, labels_of}
+use Rattle.meaning_call.specs.form.Select.{argument_column, argument_columns, heading_at, labels_of}
 use Rattle.meaning_call.specs.form.Make.{on}
 use Rattle.meaning_select.specs.Select.{shown_as}
 use Rattle.meaning_group.specs.Keys.{tuple_rules, group_keys, group_codes}
@@ -126,7 +126,7 @@ as_keys as_index keys = if nat_eq (length keys) 0 then Err wrong_kind else if as
 
 -- the columns that `by` names
 abbrev pub keys_in : Table → Bool → Given → Result (List ℕ) FaultValue
-keys_in t as_index by = then_value (column_places t (labels_in by)) (as_keys as_index)
+keys_in t as_index by = then_value (argument_columns t (labels_in by)) (as_keys as_index)
 
 abbrev pub grouping_in : Table → List Given → Result Grouping FaultValue
 grouping_in t (by ∷ sort ∷ dropna ∷ as_index ∷ []) =
@@ -140,8 +140,8 @@ grouping_of t by = of_bound (grouping_in t) (bound_of (parameters_of (Other Grou
 
 -- the columns that brackets name: that of a label, or those of a list of labels
 abbrev pub values_named : Table → Option CellValue → Option GivenList → Result Values FaultValue
-values_named t (Some c) parts = then_value (column_place t (cell_label c)) (λ place. Ok record { places = place ∷ []; single = true })
-values_named t None (Some parts) = if each is_scalar parts then then_value (column_places t (labels_of parts)) (λ places. Ok record { places = places; single = false }) else Err wrong_kind
+values_named t (Some c) parts = then_value (argument_column t (cell_label c)) (λ place. Ok record { places = place ∷ []; single = true })
+values_named t None (Some parts) = if each is_scalar parts then then_value (argument_columns t (labels_of parts)) (λ places. Ok record { places = places; single = false }) else Err wrong_kind
 values_named t None None = Err wrong_kind
 
 -- without brackets they are all columns but the keys

@@ -9,7 +9,7 @@ use Rattle.meaning_group.specs.pick.Positions.{row_at}
 use Rattle.meaning_select.specs.tables.Table.{ColumnOf, Table}
 use Rattle.meaning_select.specs.tables.Value.{Entry, Given, many, nothing, one, row, entries, scalar_in}
 use Rattle.meaning_call.specs.form.Finish.{limited, finished, first_repeated, unless_repeated, same_heading, default_labels, try_all}
-use Rattle.meaning_call.specs.form.Select.{columns_frame, column_places, heading_at, labels_of, place_of_label, found}
+use Rattle.meaning_call.specs.form.Select.{columns_frame, argument_columns, heading_at, labels_of, place_of_label, found}
 use Rattle.meaning_call.specs.form.Set.{list_column, of_length}
 use Rattle.meaning_select.specs.Keys.{found_pick}
 use Rattle.meaning_method.specs.Rows.{cells_by_row, labels_in, places_besides}
@@ -45,7 +45,7 @@ abbrev pub index_set : Table → List ℕ → Result Entry FaultValue
 index_set t places = unless_repeated (first_repeated (indexed_by t places).headings) (on_levels (length places) (limited (indexed_by t places)))
 
 abbrev pub set_index_result : Table → Given → Result Entry FaultValue
-set_index_result t keys = then_value (column_places t (labels_in keys)) (index_set t)
+set_index_result t keys = then_value (argument_columns t (labels_in keys)) (index_set t)
 
 -- the labels 0, 1 and so on in place of a table's own
 abbrev pub renumbered : Table → Table

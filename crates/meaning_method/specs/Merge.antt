@@ -18,7 +18,7 @@ use Rattle.meaning_call.specs.Binding.{text_in}
 use Rattle.meaning_call.specs.form.Finish.{finished, default_labels, same_heading, same_kind}
 use Rattle.meaning_call.specs.form.Infix.{same_tuple, tuple_before, common_name}
 use Rattle.meaning_call.specs.form.Make.{on}
-use Rattle.meaning_call.specs.form.Select.{column_places, heading_at}
+use Rattle.meaning_call.specs.form.Select.{argument_columns, heading_at}
 use Rattle.meaning_method.specs.Rows.{all_places, labels_in, places_besides}
 use Rattle.meaning_method.specs.Groups.{row_keys, headings_of}
 use Rattle.meaning_method.specs.Levels.{label_cell}
@@ -39,7 +39,7 @@ common_labels l r = filter_map (λ h. h) (common_headings l r)
 
 -- the columns of these labels, all of them on the left and then on the right
 abbrev pub keys_named : Table → Table → List LabelValue → Result MergeKeys FaultValue
-keys_named l r labels = then_value (column_places l labels) (λ left. then_value (column_places r labels) (λ right. Ok record { left = left; right = right }))
+keys_named l r labels = then_value (argument_columns l labels) (λ left. then_value (argument_columns r labels) (λ right. Ok record { left = left; right = right }))
 
 abbrev pub keys_under : Table → Table → List LabelValue → Result MergeKeys FaultValue
 keys_under l r [] = Err no_common

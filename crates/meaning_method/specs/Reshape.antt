@@ -18,7 +18,7 @@ use Rattle.meaning_call.specs.Binding.{text_in}
 use Rattle.meaning_call.specs.form.Finish.{limited, finished, default_labels, value_of_column, column_of_value, column_labels}
 use Rattle.meaning_call.specs.form.Infix.{same_tuple, tuple_before}
 use Rattle.meaning_call.specs.form.Make.{on}
-use Rattle.meaning_call.specs.form.Select.{column_place, column_places, heading_at}
+use Rattle.meaning_call.specs.form.Select.{argument_column, argument_columns, heading_at}
 use Rattle.meaning_call.specs.form.Set.{list_column}
 use Rattle.meaning_select.specs.Select.{as_series, row_name}
 use Rattle.meaning_group.specs.Reductions.{GroupReduction, reduce_groups}
@@ -103,7 +103,7 @@ pub record Pivoted : Type 0 where
 
 -- the place of the column of the label that an argument is
 abbrev pub place_in : Table → Given → Result ℕ FaultValue
-place_in t g = on (scalar_in g) (λ c. column_place t (cell_label c))
+place_in t g = on (scalar_in g) (λ c. argument_column t (cell_label c))
 
 -- the labels are looked up in this order; of the index there is one at least
 abbrev pub pivoted_in : Table → Given → Given → Given → Result Pivoted FaultValue
@@ -168,11 +168,11 @@ pub record Melted : Type 0 where
 -- no columns stay where none are named, and all others become rows
 abbrev pub kept_in : Table → Given → Result (List ℕ) FaultValue
 kept_in t nothing = Ok []
-kept_in t g = column_places t (labels_in g)
+kept_in t g = argument_columns t (labels_in g)
 
 abbrev pub values_named : Table → List ℕ → Given → Result (List ℕ) FaultValue
 values_named t kept nothing = Ok (places_besides t kept)
-values_named t kept g = column_places t (labels_in g)
+values_named t kept g = argument_columns t (labels_in g)
 
 abbrev pub melted_in : Table → Given → Given → Result Melted FaultValue
 melted_in t ids values = then_value (kept_in t ids) (λ kept. then_value (values_named t kept values) (λ places. Ok record { kept = kept; values = places }))

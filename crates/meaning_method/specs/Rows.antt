@@ -12,7 +12,7 @@ use Rattle.meaning_call.specs.cells.Fault.{FaultValue, then_value}
 use Rattle.meaning_select.specs.tables.Table.{Table, rows_of}
 use Rattle.meaning_select.specs.tables.Value.{Entry, cell, Given, nothing, one, many}
 use Rattle.meaning_call.specs.form.Finish.{limited, finished}
-use Rattle.meaning_call.specs.form.Select.{columns_frame, column_places, labels_of}
+use Rattle.meaning_call.specs.form.Select.{columns_frame, argument_columns, selected_columns, labels_of}
 use Rattle.meaning_group.specs.pick.Rows.{rows_where}
 use Rattle.meaning_group.specs.pick.Keys.{PlaceKey, place_slice, picked_by_place}
 use Rattle.meaning_select.specs.Keys.{found_pick}
@@ -63,7 +63,7 @@ labels_in g = []
 -- all columns where none are named
 abbrev pub subset_places : Table → Given → Result (List ℕ) FaultValue
 subset_places t nothing = Ok (all_places t)
-subset_places t g = column_places t (labels_in g)
+subset_places t g = argument_columns t (labels_in g)
 
 -- whether an earlier row has the same cells
 abbrev pub duplicated_result : Table → Given → Result Entry FaultValue
@@ -84,11 +84,11 @@ abbrev pub sort_values_result : Table → Bool → List ℕ → Result Entry Fau
 sort_values_result t ascending places = sorted_result t ascending (map (map cell_label) (cells_by_row t places))
 
 abbrev pub sort_by_result : Table → Bool → Given → Result Entry FaultValue
-sort_by_result t ascending by = then_value (column_places t (labels_in by)) (sort_values_result t ascending)
+sort_by_result t ascending by = then_value (argument_columns t (labels_in by)) (sort_values_result t ascending)
 
 -- the columns that aren't named
 abbrev pub places_besides : Table → List ℕ → List ℕ
 places_besides t places = filter (λ place. not (list_any (nat_eq place) places)) (all_places t)
 
 abbrev pub drop_result : Table → Given → Result Entry FaultValue
-drop_result t columns = then_value (column_places t (labels_in columns)) (λ places. finished (columns_frame t (places_besides t places)))
+drop_result t columns = then_value (selected_columns t (labels_in columns)) (λ places. finished (columns_frame t (places_besides t places)))

@@ -2,6 +2,7 @@
 use Rattle.std.specs.Prelude.{◌≡◌, ℕ, List, [], ◌∷◌, map}
 use Rattle.std.specs.FinMap.{get, empty, insert}
 use Rattle.meaning_script.specs.cells.Text.{Text, Contents}
+use Rattle.meaning_script.specs.Spent.{nothing_spent}
 use Rattle.meaning_script.specs.Reading.{Files}
 use Rattle.meaning_script.specs.Run.{RunStep, RunResult, finished, usage, usage_line, with_line, after_step, fetched, IsScriptResult, IsFileResult}
 use Rattle.meaning_words.specs.Demonstration.{orders_name, orders_file, demo_script}
@@ -9,11 +10,11 @@ use Rattle.meaning_run.specs.Asked.{RunWords, Fixed, usage_help, wrong_words, de
 
 -- the usage line on the output
 abbrev pub help_result : RunResult
-help_result = record { steps = record { output = usage_line; errors = []; fetches = 0 } ∷ []; ending = finished }
+help_result = record { steps = record { output = usage_line; errors = []; spent = nothing_spent } ∷ []; ending = finished }
 
 -- a run whose files are its own, so that it fetches none from outside
 abbrev pub unfetched : RunStep → RunStep
-unfetched step = record step { fetches = 0 }
+unfetched step = record step { spent = record step.spent { fetches = 0 } }
 
 abbrev pub without_fetches : RunResult → RunResult
 without_fetches result = record { steps = map unfetched result.steps; ending = result.ending }

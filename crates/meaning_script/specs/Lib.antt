@@ -1,4 +1,5 @@
 pub mod State
+pub mod Spent
 pub mod Reading
 pub mod Expression
 pub mod Statement

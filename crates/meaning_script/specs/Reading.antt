@@ -1,34 +1,35 @@
 -- What is read of files on the way to an answer.
-use Rattle.std.specs.Prelude.{ℕ, ◌+◌, List, [], ◌∷◌, Option, Some, None, Result, Ok, Err, if◌then◌else◌}
+use Rattle.std.specs.Prelude.{ℕ, List, [], ◌∷◌, Option, Some, None, Result, Ok, Err, if◌then◌else◌}
 use Rattle.std.specs.FinMap.{get}
 use Rattle.meaning_method.specs.cells.Text.{Text, same_text, Contents}
 use Rattle.meaning_method.specs.cells.Fault.{FaultValue, no_file}
+use Rattle.meaning_script.specs.Spent.{Spent, nothing_spent, one_fetch, spent_sum}
 
 -- the names of the command line, each with the path that it stands for, and the bytes that paths hold
 pub record Files : Type 0 where
   pub paths : List (Text × Text)
   pub held : Contents
 
--- how often a file is fetched on the way, and the answer
+-- what is spent on the way, and the answer
 pub record Reading (X : Type 0) : Type 0 where
-  pub fetches : ℕ
+  pub spent : Spent
   pub answer : X
 
--- a value or a fault, with the fetches on the way to it
+-- a value or a fault, with what is spent on the way to it
 abbrev pub Reads : Type 0 → Type 0
 Reads A = Reading (Result A FaultValue)
 
--- without a fetch
+-- an answer for nothing
 abbrev pub at_once : {X : Type 0} → X → Reading X
-at_once x = record { fetches = 0; answer = x }
+at_once x = record { spent = nothing_spent; answer = x }
 
--- a value, without a fetch
+-- a value for nothing
 abbrev pub gives : {A : Type 0} → A → Reads A
 gives a = at_once (Ok a)
 
--- what is read after so many fetches
-abbrev pub after : {X : Type 0} → ℕ → Reading X → Reading X
-after n r = record { fetches = n + r.fetches; answer = r.answer }
+-- what is read after this was spent
+abbrev pub after : {X : Type 0} → Spent → Reading X → Reading X
+after spent r = record { spent = spent_sum spent r.spent; answer = r.answer }
 
 -- a fault stops, and a value goes on
 abbrev pub goes_on : {A X : Type 0} → (FaultValue → X) → Result A FaultValue → (A → Reading X) → Reading X
@@ -36,7 +37,7 @@ goes_on stop (Ok a) go = go a
 goes_on stop (Err fault) go = at_once (stop fault)
 
 abbrev pub then_or : {A X : Type 0} → (FaultValue → X) → Reads A → (A → Reading X) → Reading X
-then_or stop r go = after r.fetches (goes_on stop r.answer go)
+then_or stop r go = after r.spent (goes_on stop r.answer go)
 
 -- the first fault, or what the value goes on to
 abbrev pub then_read : {A B : Type 0} → Reads A → (A → Reads B) → Reads B
@@ -54,7 +55,7 @@ of_bytes name (Some bytes) go = go bytes
 -- what is made of the bytes of a path, which is fetched once; without a path nothing is fetched
 abbrev pub of_path : {A : Type 0} → Contents → Text → Option Text → (List ℕ → Result A FaultValue) → Reads A
 of_path held name None go = at_once (Err (no_file name))
-of_path held name (Some path) go = after 1 (at_once (of_bytes name (get held path) go))
+of_path held name (Some path) go = after one_fetch (at_once (of_bytes name (get held path) go))
 
 -- what is made of the file of a name
 abbrev pub of_file : {A : Type 0} → Files → Text → (List ℕ → Result A FaultValue) → Reads A

@@ -1,8 +1,9 @@
 -- What a run prints, and how it ends.
-use Rattle.std.specs.Prelude.{◌≡◌, ◌⊎◌, ℕ, ◌+◌, ◌-◌, ◌<◌, ◌≤◌, nat_lt, Bool, true, false, List, [], ◌∷◌, ◌++◌, length, Option, Some, None, codes, decimal, if◌then◌else◌}
+use Rattle.std.specs.Prelude.{◌≡◌, ◌⊎◌, ℕ, ◌-◌, ◌<◌, ◌≤◌, nat_lt, Bool, true, false, List, [], ◌∷◌, ◌++◌, length, Option, Some, None, codes, decimal, if◌then◌else◌}
 use Rattle.std.specs.List.{flat_map}
 use Rattle.meaning_method.specs.cells.Text.{Text}
 use Rattle.meaning_language.specs.Tree.{Statement}
+use Rattle.meaning_script.specs.Spent.{Spent, nothing_spent, one_fetch, spent_sum}
 use Rattle.meaning_script.specs.Reading.{Files, Reading}
 use Rattle.meaning_script.specs.State.{State, no_names}
 use Rattle.meaning_script.specs.Statement.{Answer, done, refused, statement_result}
@@ -16,32 +17,32 @@ pub data Ending : Type 0 where
   usage : Ending
   syntax : Ending
 
--- what a step of a run prints on the output and on the errors, and how many files it fetches
+-- what a step of a run prints on the output and on the errors, and what it spends
 pub record RunStep : Type 0 where
   pub output : Text
   pub errors : Text
-  pub fetches : ℕ
+  pub spent : Spent
 
 -- the steps in order, and how the run ends
 pub record RunResult : Type 0 where
   pub steps : List RunStep
   pub ending : Ending
 
--- all that steps print, and how many files they fetch
+-- all that steps print, and all that they spend
 abbrev pub output_of : List RunStep → Text
 output_of steps = flat_map (λ step. step.output) steps
 
 abbrev pub errors_of : List RunStep → Text
 errors_of steps = flat_map (λ step. step.errors) steps
 
-abbrev pub fetches_of : List RunStep → ℕ
-fetches_of [] = 0
-fetches_of (step ∷ steps) = step.fetches + fetches_of steps
+abbrev pub spent_of : List RunStep → Spent
+spent_of [] = nothing_spent
+spent_of (step ∷ steps) = spent_sum step.spent (spent_of steps)
 
 -- the steps before the one of a fetch, counted from 1
 abbrev pub before_fetch : ℕ → List RunStep → List RunStep
 before_fetch m [] = []
-before_fetch m (step ∷ steps) = if nat_lt step.fetches m then step ∷ before_fetch (m - step.fetches) steps else []
+before_fetch m (step ∷ steps) = if nat_lt step.spent.fetches m then step ∷ before_fetch (m - step.spent.fetches) steps else []
 
 -- the steps before the one in whose errors a byte stands, counted from 0
 abbrev pub before_byte : ℕ → List RunStep → List RunStep
@@ -59,20 +60,20 @@ warning_line line false = []
 
 -- a run of one step that writes a line of errors
 abbrev pub with_line : Text → Ending → RunResult
-with_line line ending = record { steps = record { output = []; errors = line; fetches = 0 } ∷ []; ending = ending }
+with_line line ending = record { steps = record { output = []; errors = line; spent = nothing_spent } ∷ []; ending = ending }
 
 -- a step, and then the rest
 abbrev pub after_step : RunStep → RunResult → RunResult
 after_step step rest = record { steps = step ∷ rest.steps; ending = rest.ending }
 
 -- the step of a statement with this answer, and then what follows it
-abbrev pub after_answer : ℕ → Answer → ℕ → (State → RunResult) → RunResult
-after_answer fetches (done s printed mark) line go = after_step (record { output = printed; errors = warning_line line mark; fetches = fetches }) (go s)
-after_answer fetches (refused f mark) line go =
-    record { steps = record { output = []; errors = warning_line line mark ++ line_about line (fault_text f); fetches = fetches } ∷ []; ending = fault }
+abbrev pub after_answer : Spent → Answer → ℕ → (State → RunResult) → RunResult
+after_answer spent (done s printed mark) line go = after_step (record { output = printed; errors = warning_line line mark; spent = spent }) (go s)
+after_answer spent (refused f mark) line go =
+    record { steps = record { output = []; errors = warning_line line mark ++ line_about line (fault_text f); spent = spent } ∷ []; ending = fault }
 
 abbrev pub after_reading : Reading Answer → ℕ → (State → RunResult) → RunResult
-after_reading r line go = after_answer r.fetches r.answer line go
+after_reading r line go = after_answer r.spent r.answer line go
 
 -- the statements in order, up to the first fault
 abbrev pub statements_result : Files → State → List Statement → RunResult
@@ -105,4 +106,4 @@ IsFileResult files path (Some bytes) result = IsScriptResult files bytes result
 
 -- The first step fetches the script.
 abbrev pub fetched : RunStep
-fetched = record { output = []; errors = []; fetches = 1 }
+fetched = record { output = []; errors = []; spent = one_fetch }

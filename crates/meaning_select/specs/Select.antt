@@ -13,7 +13,7 @@ use Rattle.meaning_form.specs.tables.Table.{ColumnOf, Table, column_at}
 use Rattle.meaning_form.specs.tables.Value.{Entry, cell, table, Given, GivenList, GivenSub, one, row, many, key_given}
 use Rattle.meaning_form.specs.Given.{each, is_scalar, is_truth}
 use Rattle.meaning_form.specs.Finish.{limited, finished, same_kind, across_columns}
-use Rattle.meaning_form.specs.Select.{column_place, column_places, columns_frame, cells_of, labels_of}
+use Rattle.meaning_form.specs.Select.{selected_column, selected_columns, columns_frame, cells_of, labels_of}
 use Rattle.meaning_form.specs.pick.Keys.{single_pick, listed_pick}
 use Rattle.meaning_select.specs.Keys.{Reach, reach_of, reach_by, mask_pick, all_rows_of, all_columns}
 
@@ -73,10 +73,10 @@ picked_result t reach = shown_as reach.rows.single reach.columns.single (without
 
 -- what brackets reach in a frame: a column by its label, columns by a list of labels, or the rows of a mask
 abbrev pub column_reach : Table → LabelValue → Result Reach FaultValue
-column_reach t l = then_value (column_place t l) (λ place. Ok record { rows = all_rows_of t; columns = single_pick place })
+column_reach t l = then_value (selected_column t l) (λ place. Ok record { rows = all_rows_of t; columns = single_pick place })
 
 abbrev pub columns_reach : Table → List LabelValue → Result Reach FaultValue
-columns_reach t ls = then_value (column_places t ls) (λ places. Ok record { rows = all_rows_of t; columns = listed_pick places })
+columns_reach t ls = then_value (selected_columns t ls) (λ places. Ok record { rows = all_rows_of t; columns = listed_pick places })
 
 abbrev pub list_reach : Table → GivenList → Result Reach FaultValue
 list_reach t parts = if each is_scalar parts then columns_reach t (labels_of parts) else Err wrong_kind

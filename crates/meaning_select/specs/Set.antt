@@ -16,7 +16,7 @@ use Rattle.meaning_form.specs.tables.Value.{Entry, cell, table, Given, GivenSub,
 use Rattle.meaning_form.specs.Given.{each, is_scalar, is_frame}
 use Rattle.meaning_form.specs.Finish.{limited_table, default_labels, missing_column, column_labels}
 use Rattle.meaning_form.specs.Infix.{same_tuple, same_tuples}
-use Rattle.meaning_form.specs.Select.{place_of_label, column_place, cells_of}
+use Rattle.meaning_form.specs.Select.{place_of_label, selected_column, cells_of}
 use Rattle.meaning_form.specs.Set.{list_column, of_length}
 use Rattle.meaning_form.specs.pick.Keys.{Pick}
 use Rattle.meaning_form.specs.align.Faults.{met_rows}
@@ -227,5 +227,5 @@ assign_result (table t) way first second g = table_set way t first second g
 -- `del` of a frame's column; of a Series, of a scalar, and by what isn't a scalar it is a TypeError
 abbrev pub removal_result : Entry → Entry → Result Table FaultValue
 removal_result (table t) (cell c) =
-    if is_frame t.shape then then_value (column_place t (cell_label c)) (λ place. Ok (without_column t place)) else Err wrong_kind
+    if is_frame t.shape then then_value (selected_column t (cell_label c)) (λ place. Ok (without_column t place)) else Err wrong_kind
 removal_result v k = Err wrong_kind

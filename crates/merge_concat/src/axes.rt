@@ -81,7 +81,7 @@ pub(crate) fn all_levels(alloc: Global, dict: &TextDict, axes: &[&Axis]) -> Resu
         ≡ nameless_axis (tuples_in axes.now) (levels_of_first axes.now)) }
 {
     let mut level = levels_of(axes) - 1;
-    let mut axis = Axis::from_labels(alloc, labels_at(alloc, axes, level)?);
+    let mut axis = Axis::from_labels(alloc, dict, labels_at(alloc, axes, level)?)?;
     while level > 0 {
         level -= 1;
         let labels = labels_at(alloc, axes, level)?;

@@ -33,8 +33,9 @@ fn is_outer(how: How) -> bool
 /// The rows of two sides that have equal keys, NA with NA, and as `how` says the rows without such a row on the
 /// other side, with a gap there: by left row, then right row; with the sides exchanged for `Right`; and by the order
 /// of the keys for `Outer` ("Merge, join, concatenate and compare" in the pandas user guide). The pairs are counted
-/// before one is made, in time that grows with the rows of both sides alone: the caller has room for `most` of them. Texts are told apart by their numbers
-/// and ordered by what they say. No tuple is made for a row. A key has as many labels as each other one, four at most.
+/// before one is made, in time that grows with the rows of both sides alone: the caller has room for `most` of them. Texts
+/// are told apart by their numbers and ordered by what they say. No tuple is made for a row. A key has as many labels as
+/// each other one, four at most.
 ///
 /// # Errors
 ///

@@ -15,7 +15,7 @@ use crate::fault::AxisFault;
 use crate::levels::{all_levels, labels_of, names_of, names_with, tuples_of, tuples_with};
 use crate::listed;
 use cell_core::{Label, NoMemory, Places, Rows, TextDict, Tuple, Tuples};
-use index_core::{Index, IndexFault};
+use index_core::{Index, IndexFault, LabelRows};
 use std::alloc::Global;
 use std::marker::Model;
 
@@ -88,16 +88,16 @@ impl Axis {
         })
     }
 
-    /// One level of these labels in order, without a name. Takes no memory.
-    pub fn from_labels(alloc: Global, labels: Vec<Label>) -> Axis
-        ensures { result ≡ nameless_axis (single_tuples labels.items) 1 }
+    /// One level of these labels in order, without a name. `NoMemory` is the only refusal.
+    pub fn from_labels(alloc: Global, dict: &TextDict, labels: Vec<Label>) -> Result<Axis, NoMemory>
+        ensures { IfOk result (λ axis. axis ≡ nameless_axis (single_tuples labels.items) 1) }
     {
-        Axis {
+        Ok(Axis {
             alloc,
             rows: AxisRows::Single(Index::from_vec(labels)),
             names: [None; 4],
             levels: 1,
-        }
+        })
     }
 
     /// An axis of its own with the same tuples and names. `NoMemory` is the only refusal.
@@ -230,13 +230,14 @@ impl Axis {
         })
     }
 
-    /// The labels of the only level. Takes no memory.
-    pub fn only_level(&self) -> &Index
+    /// The rows of each label on one level, for those who ask for many. Texts are compared by their numbers.
+    /// `NoMemory` is the only refusal.
+    pub fn rows_by_label(&self, alloc: Global) -> Result<LabelRows<'_>, NoMemory>
         requires { length self.now.names ≡ 1 }
-        ensures { single_tuples result.now ≡ self.now.tuples }
+        ensures { IfOk result (λ rows. single_tuples rows ≡ self.now.tuples) }
     {
         match &self.rows {
-            AxisRows::Single(index) => index,
+            AxisRows::Single(labels) => labels.rows_by_label(alloc),
             AxisRows::Listed(_) => unreachable!(),
         }
     }

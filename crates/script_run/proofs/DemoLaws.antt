@@ -1,6 +1,6 @@
 -- What a run without fetches makes of one with them.
 use Rattle.{
-  script_session.{proofs.cells.Common.{◌≡◌, ◌≢◌, ℕ, List, [], ◌∷◌, ◌++◌, map, refl, ap, subst, arith, ◌<◌, ◌-◌, length, Text, Contents}, specs.script.Run.{RunStep, RunResult, IsScriptResult, output_of, errors_of, fetches_of, before_byte}},
+  script_session.{proofs.cells.Common.{◌≡◌, ◌≢◌, ℕ, List, [], ◌∷◌, ◌++◌, map, refl, ap, subst, arith, ◌<◌, ◌-◌, length, Text, Contents}, specs.script.Run.{RunStep, RunResult, IsScriptResult, output_of, errors_of, spent_of, before_byte}},
   meaning_run.specs.{Result.{unfetched, without_fetches, demo_contents, demo_files}, words.Demonstration.{orders_name, demo_script}},
   outside_io.specs.{Count.{HasRisen, last_count}, Files.{FilesValue}, Sink.{SinkValue}},
   script_run.specs.{Ends.{Outside, outside, Ends, EndsAs, EndsEarly, EndsUnwritten}, declared.status.Status.{Status, TheVariants.{Input, Output, Memory}}},
@@ -17,7 +17,7 @@ errors-unfetched : (steps : List RunStep) → errors_of (map unfetched steps) �
 errors-unfetched [] = refl
 errors-unfetched (step ∷ steps) = ap (λ text. step.errors ++ text) (errors-unfetched steps)
 
-fetches-unfetched : (steps : List RunStep) → fetches_of (map unfetched steps) ≡ 0
+fetches-unfetched : (steps : List RunStep) → (spent_of (map unfetched steps)).fetches ≡ 0
 fetches-unfetched [] = refl
 fetches-unfetched (step ∷ steps) = omega (arith, fetches-unfetched steps)
 

@@ -1,9 +1,9 @@
 -- What one statement of a run, its lines and its failures make of the run.
 use Rattle.{
-  script_session.{proofs.cells.Common.{err_from_is_err_and, lt-ltb, le-ltb, append-nil, nil_from_length, flat_map-append, rules, ◌≡◌, ◌≢◌, ℕ, zero, suc, ◌+◌, ◌<◌, ◌≤◌, length, List, [], ◌∷◌, ◌++◌, drop, Option, Some, refl, sym, ◌∙◌, ap, append_assoc, length-append, add-zero, arith, inl, inr, ◌⊎◌, codes, slice_get, Bool, IfSome, IfErr, IsErrAnd, Result, ⊤, Text, Contents, FaultValue, fault_text}, specs.{language.Tree.{Statement}, script.{Reading.{Files, Reading, at_once}, State.{State}, Statement.{Answer, done, refused, statement_result}, Run.{RunStep, RunResult, Ending, fault, errors_of, before_fetch, after_step, after_answer, after_reading, statements_result, warning_line, line_about, with_line}}, script_state.Reads.{Goes, Stuck, count_after}}},
+  script_session.{proofs.cells.Common.{err_from_is_err_and, lt-ltb, le-ltb, append-nil, nil_from_length, flat_map-append, rules, ◌≡◌, ◌≢◌, ℕ, zero, suc, ◌+◌, ◌<◌, ◌≤◌, length, List, [], ◌∷◌, ◌++◌, drop, Option, Some, refl, sym, ◌∙◌, ap, subst, append_assoc, length-append, add-zero, arith, inl, inr, ◌⊎◌, codes, slice_get, Bool, IfSome, IfErr, IsErrAnd, Result, ⊤, Text, Contents, FaultValue, fault_text}, specs.{language.Tree.{Statement}, script.{Spent.{Spent, nothing_spent}, Reading.{Files, Reading, at_once}, State.{State}, Statement.{Answer, done, refused, statement_result}, Run.{RunStep, RunResult, Ending, fault, errors_of, spent_of, before_fetch, after_step, after_answer, after_reading, statements_result, warning_line, line_about, with_line}}, script_state.Reads.{Goes, Stuck, count_after}}},
   std.proofs.Math.ListN.{drop_of_length-le},
   outside_io.{specs.{Count.{HasRisen}, Files.{FilesValue}, Sink.{appended, AppendsFront, AppendsPart}}, proofs.Appended.{appended-appended, appended-nil}},
-  script_run.{specs.{Ends.{Outside, Ends, EndsAs, EndsEarly, EndsUnwritten, EndsUnread, EndsWithLine, Is, status_of}, Steps.{Does, ComesTo, GoesOn, Stops, after_steps}, declared.status.Status.{Status, TheVariants.{Done, Fault, Input, Output, Memory}}}, proofs.{Options.{some-told}, StepLaws.{Written, fetches_of-append, before_fetch-append, before_byte-append, count_after-add, does_one, does_more, text_more}}},
+  script_run.{specs.{Ends.{Outside, Ends, EndsAs, EndsEarly, EndsUnwritten, EndsUnread, EndsWithLine, Is, status_of}, Steps.{Does, ComesTo, GoesOn, Stops, after_steps}, declared.status.Status.{Status, TheVariants.{Done, Fault, Input, Output, Memory}}}, proofs.{Options.{some-told}, StepLaws.{Written, spent_of-append, before_fetch-append, before_byte-append, count_after-add, does_one, does_more, text_more}}},
 }
 
 -- nothing was written yet
@@ -57,7 +57,7 @@ module _ (old new : Outside) where
     stops_first _ (inr memory) out part = rw memory (search early_errors)
 
   -- a read failed in the first step
-  pub unread_first : (means : RunResult → Type 0) (r : RunResult) → means r → (step : RunStep) (others : List RunStep) → r.steps ≡ step ∷ others → (m : ℕ) → m ≤ step.fetches → 0 < m → new.files.fetches ≡ count_after old.files.fetches m → new.out ≡ old.out
+  pub unread_first : (means : RunResult → Type 0) (r : RunResult) → means r → (step : RunStep) (others : List RunStep) → r.steps ≡ step ∷ others → (m : ℕ) → m ≤ step.spent.fetches → 0 < m → new.files.fetches ≡ count_after old.files.fetches m → new.out ≡ old.out
       → AppendsFront old.err new.err (codes "input failed\n") → (¬ (HasRisen old.err_faults new.err_faults) → new.err ≡ appended old.err (codes "input failed\n")) → EndsUnread means old new
   unread_first = grind (arith, le-ltb, nothing_yet, appended-nil)
 
@@ -65,8 +65,8 @@ module _ (old new : Outside) where
   ends_as = grind arith
 
   -- a run of one step whose errors end with a line, where what stands before the line was written
-  pub ends_with_lines : (ending : Ending) (fetches : ℕ) (before line : Text) (result : Status) (mid : Written) → new.out ≡ old.out → mid ≡ appended old.err before → new.files.fetches ≡ count_after old.files.fetches fetches
-      → EndsWithLine line (status_of ending) result mid new.err → Ends (Is (first_then (record { output = []; errors = before ++ line; fetches = fetches }) [] ending)) result old new
+  pub ends_with_lines : (ending : Ending) (spent : Spent) (before line : Text) (result : Status) (mid : Written) → new.out ≡ old.out → mid ≡ appended old.err before → new.files.fetches ≡ count_after old.files.fetches spent.fetches
+      → EndsWithLine line (status_of ending) result mid new.err → Ends (Is (first_then (record { output = []; errors = before ++ line; spent = spent }) [] ending)) result old new
   ends_with_lines _ _ _ _ _ _ out wrote count (inl last) = rw last.0 (ends_as _ _ (grind (arith, appended-nil, append-nil, appended-appended)))
   ends_with_lines _ _ _ _ _ _ out wrote count (inr (inl last)) =
       let f = front_after _ _ _ _ _ _ refl wrote last.1 in
@@ -79,7 +79,7 @@ module _ (old new : Outside) where
 
   -- a run that ends with one line on the output
   pub ends_with_output : (ending : Ending) (line : Text) (result : Status) → new.err ≡ old.err → new.files.fetches ≡ old.files.fetches → EndsWithLine line (status_of ending) result old.out new.out
-      → Ends (Is (first_then (record { output = line; errors = []; fetches = 0 }) [] ending)) result old new
+      → Ends (Is (first_then (record { output = line; errors = []; spent = nothing_spent }) [] ending)) result old new
   ends_with_output ending _ _ err count (inl last) = rw last.0 (ends_as ending _ (_, refl, refl, rw append-nil last.1, err ∙ sym (appended-nil _), count))
   ends_with_output _ _ _ err count (inr (inl last)) = rw last.0 (_, refl, front_of _ _ _ [] last.1, ([], [], refl, err ∙ sym (appended-nil _), λ _ some. absurd (some refl)))
   ends_with_output _ _ _ err count (inr (inr last)) = rw last.0 (early_none _ _ refl last.1 err)
@@ -100,7 +100,7 @@ module _ (means : RunResult → Type 0) (steps : List RunStep) (old mid new : Ou
     t.2,
     search text_more,
     search text_more,
-    grind (arith, count_after-add, fetches_of-append),
+    grind (arith, count_after-add, spent_of-append),
   )
 
   early_after : EndsEarly means mid new → EndsEarly (After steps means) old new
@@ -115,12 +115,19 @@ module _ (means : RunResult → Type 0) (steps : List RunStep) (old mid new : Ou
         after_steps steps rest,
         (rest, t.1, refl),
         search (front_after, flat_map-append),
-        grind (arith, flat_map-append, append_assoc, appended-appended, text_more),
+        (
+          errors_of steps ++ last.0,
+          last.1,
+          search (append_assoc, flat_map-append, last.2),
+          last.3 ∙ ap (λ w. appended w last.0) does.err ∙ appended-appended _ _ _,
+          λ ok some. rw place (text_more (λ step. step.output) steps _ _ _ _ does.out (last.4 (no_out ok) some)),
+        ),
       )
 
   unread_after : EndsUnread means mid new → EndsUnread (After steps means) old new
   unread_after t =
       let rest = t.0 in
+      let last = t.3 in
       let read = t.4 in
       let place = before_fetch-append steps rest.steps read.0 read.1 in
       let no_out = not_later _ _ new.out_faults does.out_faults in
@@ -129,8 +136,24 @@ module _ (means : RunResult → Type 0) (steps : List RunStep) (old mid new : Ou
         after_steps steps rest,
         (rest, t.1, refl),
         search (front_after, flat_map-append),
-        grind (arith, flat_map-append, append_assoc, appended-appended),
-        grind (arith, fetches_of-append, count_after-add, text_more, appended-appended, append_assoc),
+        (
+          errors_of steps ++ last.0,
+          last.1,
+          search (append_assoc, flat_map-append, last.2),
+          subst (λ w. AppendsFront w new.err (codes "input failed\n")) (ap (λ w. appended w last.0) does.err ∙ appended-appended _ _ _) last.3,
+        ),
+        (
+          (spent_of steps).fetches + read.0,
+          omega (arith, read.1),
+          rw (spent_of-append steps rest.steps) (omega (arith, read.2)),
+          read.3 ∙ ap (λ c. count_after c read.0) does.fetches ∙ count_after-add old.files.fetches (spent_of steps).fetches read.0,
+          λ out err.
+              let written = read.4 (no_out out) (no_err err) in
+              let text = errors_of (before_fetch read.0 rest.steps) ++ codes "input failed\n" in (
+                rw place (text_more (λ step. step.output) steps _ _ _ _ does.out written.0),
+                rw (place, split, append_assoc) (written.1 ∙ ap (λ w. appended w text) does.err ∙ appended-appended old.err (errors_of steps) text),
+              ),
+        ),
       )
 
   -- a run that ends after these steps were done
@@ -177,7 +200,7 @@ marked (done state printed mark) = mark
 marked (refused f mark) = mark
 
 -- the first step of what an answer makes, with the warning
-first_step : (n : ℕ) (a : Answer) (line : ℕ) (go : State → RunResult) → (step : RunStep) × (others : List RunStep) × (ending : Ending) × (after_answer n a line go ≡ first_then step others ending) × (step.fetches ≡ n)
+first_step : (n : Spent) (a : Answer) (line : ℕ) (go : State → RunResult) → (step : RunStep) × (others : List RunStep) × (ending : Ending) × (after_answer n a line go ≡ first_then step others ending) × (step.spent ≡ n)
     × ((old new : Written) → AppendsPart old new (warning_line line (marked a)) → AppendsPart old new step.errors)
 first_step _ (done state printed mark) _ go = (_, (go state).steps, (go state).ending, refl, refl, λ _ _ part. part)
 first_step _ (refused f mark) _ _ = (_, [], fault, refl, refl, λ _ _ part. part_of _ _ _ _ part)
@@ -187,9 +210,9 @@ pub stops_memory : (contents : Option Contents) (answer : Contents → Reading A
 stops_memory = search (rules, some-told, early_none)
 
 module _ {files files' : FilesValue} {answer : Contents → Reading Answer} where
-  -- What holds of an answer after the fetches that were made holds of the one for the contents that are told.
+  -- What holds of an answer after what was spent holds of the one for the contents that are told.
   module _ {a : Answer} (goes : (held : Contents) → Goes held files files' (answer held) (at_once a)) where
-    told : (P : Reading Answer → Type 0) → ((n : ℕ) → files'.fetches ≡ count_after files.fetches n → P (record { fetches = n; answer = a })) → IfSome files.contents (λ held. P (answer held))
+    told : (P : Reading Answer → Type 0) → ((n : Spent) → files'.fetches ≡ count_after files.fetches n.fetches → P (record { spent = n; answer = a })) → IfSome files.contents (λ held. P (answer held))
     told P = grind (arith, some-told, add-zero)
 
     -- the warning of a statement could not be written
@@ -207,7 +230,7 @@ module _ {files files' : FilesValue} {answer : Contents → Reading Answer} wher
     pub goes_on : old.files.fetches ≡ files.fetches → new.files.fetches ≡ files'.fetches → new.out ≡ appended old.out printed → old.out_faults ≤ new.out_faults → old.err_faults ≤ new.err_faults
         → IfSome files.contents (λ held. GoesOn (answer held) line state old new)
     goes_on before after out out_faults err_faults =
-        told goes (λ r. GoesOn r line state old new) (λ n count. (record { output = printed; errors = warning_line line mark; fetches = n }, does_one _ _ _ out err (cc count) out_faults err_faults, λ go. refl))
+        told goes (λ r. GoesOn r line state old new) (λ n count. (record { output = printed; errors = warning_line line mark; spent = n }, does_one _ _ _ out err (cc count) out_faults err_faults, λ go. refl))
 
     -- the text of the statement could not be written
     pub stops_showing : (status : Status) → status ≡ Output → AppendsFront old.out new.out printed → HasRisen old.out_faults new.out_faults → IfSome files.contents (λ held. Stops (answer held) line status old new)
@@ -226,5 +249,5 @@ module _ {files files' : FilesValue} {answer : Contents → Reading Answer} wher
       → (¬ (HasRisen old.err_faults new.err_faults) → new.err ≡ appended old.err (codes "input failed\n")) → IfSome files.contents (λ held. Stops (answer held) line Input old new)
   stops_input line old new stuck before after out front whole = some-told files.contents (λ held. Stops (answer held) line Input old new) (λ held told go.
       let s = stuck held in
-      let f = first_step (answer held).fetches (answer held).answer line go in
-      unread_first old new _ _ refl f.0 f.1 (ap (λ r. r.steps) f.3) s.fetched (grind arith) s.some (cc s.counted) out front whole)
+      let f = first_step (answer held).spent (answer held).answer line go in
+      unread_first old new _ _ refl f.0 f.1 (ap (λ r. r.steps) f.3) s.spent.fetches (grind arith) s.some (cc s.counted) out front whole)

@@ -4,7 +4,7 @@ use Rattle.outside_io.specs.Count.{HasRisen}
 use Rattle.outside_io.specs.Files.{FilesValue, Serves}
 use Rattle.outside_io.specs.Sink.{SinkValue, appended, AppendsFront}
 use Rattle.script_session.specs.cells.Text.{Text}
-use Rattle.script_session.specs.script.Run.{RunResult, Ending, finished, fault, usage, syntax, output_of, errors_of, fetches_of, before_fetch, before_byte}
+use Rattle.script_session.specs.script.Run.{RunResult, Ending, finished, fault, usage, syntax, output_of, errors_of, spent_of, before_fetch, before_byte}
 use Rattle.script_session.specs.script_state.Reads.{count_after}
 use Rattle.script_run.specs.declared.status.Status.{Status}
 use Rattle.script_run.specs.declared.status.Status.TheVariants.{Done, Fault, Usage, Syntax, Input, Output, Memory}
@@ -45,7 +45,7 @@ status_of syntax = Syntax
 abbrev pub EndsAs : (RunResult → Type 0) → Status → Outside → Outside → Type 0
 EndsAs means status old new =
     (result : RunResult) × means result × (status ≡ status_of result.ending)
-    × (new.out ≡ appended old.out (output_of result.steps)) × (new.err ≡ appended old.err (errors_of result.steps)) × (new.files.fetches ≡ count_after old.files.fetches (fetches_of result.steps))
+    × (new.out ≡ appended old.out (output_of result.steps)) × (new.err ≡ appended old.err (errors_of result.steps)) × (new.files.fetches ≡ count_after old.files.fetches (spent_of result.steps).fetches)
 
 -- of a result that the run may have, a front was written
 abbrev pub EndsEarly : (RunResult → Type 0) → Outside → Outside → Type 0
@@ -64,7 +64,7 @@ abbrev pub EndsUnread : (RunResult → Type 0) → Outside → Outside → Type 
 EndsUnread means old new =
     (result : RunResult) × means result × AppendsFront old.out new.out (output_of result.steps)
     × ((text rest : List ℕ) × (errors_of result.steps ≡ text ++ rest) × AppendsFront (appended old.err text) new.err (codes "input failed\n"))
-    × ((m : ℕ) × (0 < m) × (m ≤ fetches_of result.steps) × (new.files.fetches ≡ count_after old.files.fetches m)
+    × ((m : ℕ) × (0 < m) × (m ≤ (spent_of result.steps).fetches) × (new.files.fetches ≡ count_after old.files.fetches m)
     × (¬ (HasRisen old.out_faults new.out_faults) → ¬ (HasRisen old.err_faults new.err_faults) →
     (new.out ≡ appended old.out (output_of (before_fetch m result.steps))) × (new.err ≡ appended old.err (errors_of (before_fetch m result.steps) ++ codes "input failed\n"))))
 

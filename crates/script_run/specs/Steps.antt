@@ -4,7 +4,7 @@ use Rattle.outside_io.specs.Sink.{appended}
 use Rattle.script_session.specs.script.Reading.{Reading}
 use Rattle.script_session.specs.script.State.{State}
 use Rattle.script_session.specs.script.Statement.{Answer}
-use Rattle.script_session.specs.script.Run.{RunStep, RunResult, output_of, errors_of, fetches_of, after_step, after_reading}
+use Rattle.script_session.specs.script.Run.{RunStep, RunResult, output_of, errors_of, spent_of, after_step, after_reading}
 use Rattle.script_session.specs.script_state.Reads.{count_after}
 use Rattle.script_run.specs.Ends.{Outside, Ends, Is}
 use Rattle.script_run.specs.declared.status.Status.{Status}
@@ -13,7 +13,7 @@ use Rattle.script_run.specs.declared.status.Status.{Status}
 pub record Does (steps : List RunStep) (old new : Outside) : Type 0 where
   pub out : new.out ≡ appended old.out (output_of steps)
   pub err : new.err ≡ appended old.err (errors_of steps)
-  pub fetches : new.files.fetches ≡ count_after old.files.fetches (fetches_of steps)
+  pub fetches : new.files.fetches ≡ count_after old.files.fetches (spent_of steps).fetches
   pub out_faults : old.out_faults ≤ new.out_faults
   pub err_faults : old.err_faults ≤ new.err_faults
 

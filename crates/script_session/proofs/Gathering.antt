@@ -1,6 +1,6 @@
 -- Lists whose parts are evaluated one after the other.
 use Rattle.{
-  script_state.{proofs.{cells.Common.{arith, ◌≡◌, ℕ, zero, suc, ◌+◌, ◌≤◌, List, [], ◌∷◌, Some, drop, length, slice_get, ◌∙◌, Result, Ok, Err, IsErrAnd, Contents}, Rides.{serves_both, goes_by, goes_to, ahead, joined, loop_next, loop_fault, loop_end}, States.{state_kept}, Worlds.{keeps_both}}, specs.{script.{Reading.{Files, Reads, gives}, State.{State}}, Evaluates.{Moment, Evaluates}, Reads.{Goes, files_in}, Work.{names_in, world_of, state_in}, declared.{file_names.FileName.{FileName}, fault.EvalFault.{EvalFault}, work.Work.{Work}}}},
+  script_state.{proofs.{cells.Common.{arith, ◌≡◌, ℕ, zero, suc, ◌+◌, ◌≤◌, List, [], ◌∷◌, Some, drop, length, slice_get, ◌∙◌, refl, sym, Result, Ok, Err, IsErrAnd, Contents, FaultValue}, Rides.{serves_self, serves_both, goes_same, goes_by, goes_to, ahead, joined, loop_next, loop_fault, loop_end}, States.{state_kept}, Worlds.{keeps_both, keeps_same}, laws.SpentLaws.{sum-nothing}}, specs.{script.{Spent.{Spent}, Reading.{Files, Reads, gives}, State.{State}}, Evaluates.{Moment, Evaluates}, Reads.{Goes, files_in}, Work.{names_in, world_of, state_in}, declared.{file_names.FileName.{FileName}, fault.EvalFault.{EvalFault}, work.Work.{Work}}}},
   std.proofs.Common.{drop_of_length-le},
   outside_io.specs.Files.{Serves},
   frame_store.specs.World.{World, Keeps},
@@ -23,6 +23,22 @@ drop_item : {X : Type 0} (xs : List X) (i : ℕ) (x : X) → slice_get xs i ≡ 
 drop_item [] i x e = Prim.cc
 drop_item (y ∷ xs) zero x e = search
 drop_item (y ∷ xs) (suc i) x e = grind (arith, drop_item xs)
+
+-- nothing is joined to what is read
+joined_at : {L : Type 0} (join : L → L → L) (so_far : L) → ((l : L) → join so_far l ≡ l) → (n : Spent) (r : Result L FaultValue) → joined join so_far (record { spent = n; answer = r }) ≡ record { spent = n; answer = r }
+joined_at join so_far law n (Ok l) i = record { spent = sum-nothing n i; answer = Ok (law l i) }
+joined_at join so_far law n (Err fault) i = record { spent = sum-nothing n i; answer = Err fault }
+
+-- before the first part
+pub gathers_first : {X L : Type 0} {join : L → L → L} {so_far : L} {read : Files → State → List X → Reads L} {paths : List FileName} {xs : List X} {at : Moment} → ((l : L) → join so_far l ≡ l)
+    → Gathers paths join read xs 0 so_far at at
+gathers_first {join = join} {so_far} {read} {paths} {xs} {at} law =
+    record {
+      names = refl;
+      kept = keeps_same _ _ refl;
+      serves = serves_self _;
+      seen = λ held. let whole = read (files_in paths held) (state_in at.work) xs in goes_same (sym (joined_at join so_far law whole.spent whole.answer));
+    }
 
 module _ {X G L : Type 0} {read : Files → State → List X → Reads L} {part : Files → State → X → Reads G} {cons : X → G → L → L} {end : L} (reads : ReadsParts read part cons end) {paths : List FileName} {join : L → L → L} {xs : List X} {i : ℕ} where
   -- all parts are there

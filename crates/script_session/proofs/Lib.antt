@@ -1,6 +1,7 @@
 pub mod Parts
 pub mod Trees
 pub mod Gathering
+pub mod Refusing
 pub mod Answering
 pub mod Settings
 -- laws of crates below, passed on to the crates above

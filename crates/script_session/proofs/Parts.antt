@@ -91,6 +91,16 @@ module _ (w : World) where
   pub arguments_known : (args args' : List Named) (g : Named) → args' ≡ args ++ g ∷ [] → AreKnownArguments w args → IsKnownArgument w g.value → AreKnownArguments w args'
   arguments_known = grind (arith, live_arguments_push, arguments_join)
 
+  -- none yet
+  pub no_items : (items : List Item) → items ≡ [] → AreKnownItems w items × ((l : GivenList) → join_parts (items_of w.tables w.texts items) l ≡ l)
+  no_items items none = rw none (record { live = tt; given = λ more. refl }, λ l. refl)
+
+  pub no_pairs : (pairs : List (Label × Argument)) → pairs ≡ [] → AreKnownPairs w pairs × ((l : GivenPairs) → join_pairs (entries_of w.tables w.texts pairs) l ≡ l)
+  no_pairs pairs none = rw none (record { live = tt; given = λ more. refl }, λ l. refl)
+
+  pub no_arguments : (args : List Named) → args ≡ [] → AreKnownArguments w args × ((l : List NamedGiven) → arguments_of w.tables w.texts args ++ l ≡ l)
+  no_arguments args none = rw none (record { live = tt; given = λ more. refl }, λ l. refl)
+
 -- a list and a dict whose parts are live
 live_row : (tables : Tables) (n : Count) (row : Row_of-Item n) → AreLiveItems tables (items-the_row-Item n row) → IsLiveRow tables row
 live_row _ _ end_of-Item _ = tt

@@ -13,9 +13,7 @@ ghost use Rattle.script_state.specs.Work.{world_of};
 use crate::link::{Link, Linked};
 use crate::words::{copied_name, selector_of};
 use cell_core::{Code, Words};
-use frame_store::{
-    Argument, Chain, Entries, Item, Items, Named, NamedList, Selector, Subscript, Value,
-};
+use frame_store::{Argument, Entries, Item, Items, Named, NamedList, Selector, Subscript, Value};
 use outside_io::Files;
 use script_state::{EvalFault, FileNames, Work, evaluated, expect_function};
 use script_tree::{Arg, ArgList, ArgPairs, Args, Expr, Step, Sub};
@@ -56,7 +54,7 @@ pub fn evaluate<F: Files>(
             evaluated(work.length(value))
         }
         Expr::Make(function, args) => {
-            expect_function(work.alloc(), function.as_str())?;
+            let function = expect_function(work.alloc(), function.as_str())?;
             let args = arguments(work, files, names, args)?;
             work.call(files, names, function, &args)
         }
@@ -89,10 +87,9 @@ fn after<F: Files>(
             evaluated(work.select(on, selector_of(*by), &first, &second))
         }
         Step::Method(name, args) => {
-            work.expect_method(on, name.as_str())?;
+            let method = work.expect_method(on, name.as_str())?;
             let args = arguments(work, files, names, args)?;
-            let name = Words::from_text(work.alloc(), name.as_str())?;
-            evaluated(work.method(on, &Chain::Plain(name), &args))
+            evaluated(work.method(on, method, name.as_str(), &args))
         }
         Step::Group(args, by, name, more) => {
             let call = Link::Groupby.linked(args, by, name, more);
@@ -129,7 +126,7 @@ fn through<F: Files>(
     let by = brackets(work, files, names, call.by)?;
     let more = arguments(work, files, names, call.more)?;
     let name = Words::from_text(work.alloc(), call.name.as_str())?;
-    evaluated(work.method(on, &call.link.chain(args, by, name), &more))
+    evaluated(work.chained(on, &call.link.chain(args, by, name), &more))
 }
 
 // What stands in the brackets of an accessor.

@@ -1,6 +1,6 @@
 -- Names that get values and lose them, and the objects that they stand for.
 use Rattle.{
-  frame_concat.proofs.frame_parts.Common.{rules, ◌≡◌, ℕ, Bool, true, false, nat_eq, Option, None, arith, IsSome, List, [], ◌∷◌, map, Some, refl, string_bytes, ◌++◌, not, filter, sym, ◌∙◌, ap, nat_tests, if◌then◌else◌, String, string_eq, lookup, keys_of, AllByRecursion, Text, datum, ObjId, Value, Object, Scalar, Tables, with_object, shown, World, IsKnownValue, IsSettled, NumberedTable, table_value},
+  frame_calls.proofs.frame_parts.Common.{rules, ◌≡◌, ℕ, Bool, true, false, nat_eq, Option, None, arith, IsSome, List, [], ◌∷◌, map, Some, refl, string_bytes, ◌++◌, not, filter, sym, ◌∙◌, ap, nat_tests, if◌then◌else◌, String, string_eq, lookup, keys_of, AllByRecursion, Text, datum, ObjId, Value, Object, Scalar, Tables, with_object, shown, World, IsKnownValue, IsSettled, NumberedTable, table_value},
   std.specs.List.{IsDistinct},
   meaning_laws.{proofs.cells.Common.{option_map, same_text}, specs.script.State.{with_name}},
   indexmap.specs.IndexMap.{insert_entry, shift_remove_entry},

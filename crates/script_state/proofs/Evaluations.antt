@@ -121,4 +121,4 @@ module _ {paths : List FileName} where
 
   pub writes_out : (w u : Work) {s : FilesValue} (e : Entry) (r : Result Value EvalFault) → names_in u ≡ names_in w → Keeps (world_of w) (world_of u) → IfOk r (λ v. entry_in (world_of u) v ≡ e) → IfOk r (IsValue None u) → IfErr r (λ f. f ≡ NoMemory)
       → Evaluates paths (IsValue None) entry_in (λ files t. gives e) (moment_of w s) (moment_of u s) r
-  writes_out w u {s} = grind (arith, serves_self, made_reads)
+  writes_out w u {s} e r names kept made found none = record { names = names; kept = kept; serves = serves_self s; reads = λ held. made_reads (files_in paths held) s (world_of u) e r made none; found = found }

@@ -1,25 +1,44 @@
 -- The file of a name, as it is fetched.
 use Rattle.{
-  frame_concat.proofs.frame_parts.Common.{◌≡◌, ◌<◌, ◌^◌, ℕ, List, [], ◌∷◌, length, Some, None, arith, nat_tests, Result, Ok, Err, Text, Contents, FaultValue, limit, Given, NamedGiven, Kind},
-  meaning_laws.{proofs.cells.Common.{get}, specs.{call.{declared.{Function.TheVariants.{ReadCsv}, Parameter.{Parameter}}, Signature.{function_parameters}}, csv.CsvRead.{beyond_limits, columns_of_file}, method.Readers.{file_name_of, csv_result, read_result}, script.Reading.{Reads, at_once, path_of_name, of_bytes, of_file}}},
-  outside_io.specs.{Count.{HasRisen, raised}, Whole.{IsAbsent}, Files.{FilesValue}},
-  script_state.specs.{declared.{file_names.FileName.{FileName}, fault.EvalFault.{EvalFault}}, Faults.{IsNoFile}, Reads.{Holds, Goes, Spends, Halts, RefusesLong, paths_of, files_in}},
+  frame_calls.proofs.frame_parts.Common.{◌≡◌, ◌<◌, ◌^◌, ℕ, List, [], ◌∷◌, length, Some, None, refl, arith, nat_tests, Result, Ok, Err, Text, Contents, FaultValue, limit, Given, NamedGiven, Kind},
+  meaning_laws.{proofs.{cells.Common.{get}, SpentLaws.{at_most-sum}}, specs.{call.{declared.{Function.TheVariants.{ReadCsv}, Parameter.{Parameter}}, Signature.{function_parameters}}, csv.CsvRead.{beyond_limits, columns_of_file}, method.Readers.{file_name_of, csv_result, read_result}, script.{Spent.{nothing_spent, one_fetch, IsAtMost}, Reading.{Reads, at_once, after, path_of_name, of_bytes, of_file}}}},
+  outside_io.specs.{Count.{HasRisen, raised}, Whole.{IsAbsent, IsWholeFile, IsLonger}, Files.{FilesValue}},
+  script_state.{proofs.Rides.{goes_same, spends_none}, specs.{declared.{file_names.FileName.{FileName}, fault.EvalFault.{EvalFault}}, Faults.{IsNoFile}, Reads.{Holds, Goes, Stuck, Spends, Halts, RefusesLong, paths_of, files_in}}},
 }
 
 module _ {A : Type 0} (texts : List Text) (names : List FileName) (held : Contents) (name : Text) (go : List ℕ → Result A FaultValue) where
   abbrev whole : Reads A
   whole = of_file (files_in names held) name go
 
-  module _ (path : Text) (found : path_of_name (paths_of names) name ≡ Some path) (old new : FilesValue) (once : new.fetches ≡ raised old.fetches 1) where
-    -- something was fetched, so the files tell their contents
-    never : Holds None 1 whole.fetches held → ⊥
-    never = grind arith
+  -- no path, and so nothing is fetched
+  pub nameless_file : path_of_name (paths_of names) name ≡ None → (s : FilesValue) (f : EvalFault) → IsNoFile f name → Halts Err texts (files_in names held) s s whole f
+  nameless_file = grind (arith, goes_same, spends_none)
 
-    fetched : (r : Result A FaultValue) → (Holds old.contents 1 whole.fetches held → of_bytes name (get held path) go ≡ r) → Goes held old new whole (at_once r)
-    fetched = grind arith
+  module _ (path : Text) (found : path_of_name (paths_of names) name ≡ Some path) (old new : FilesValue) (once : new.fetches ≡ raised old.fetches 1) where
+    whole_is : whole ≡ after one_fetch (at_once (of_bytes name (get held path) go))
+    whole_is = rw found refl
+
+    within_whole : IsAtMost one_fetch whole.spent
+    within_whole = rw whole_is (at_most-sum one_fetch nothing_spent)
+
+    -- something was fetched, so the files tell their contents
+    never : Holds None one_fetch whole.spent held → ⊥
+    never = grind (arith, whole_is)
+
+    fetched : (r : Result A FaultValue) → (Holds old.contents one_fetch whole.spent held → of_bytes name (get held path) go ≡ r) → Goes held old new whole (at_once r)
+    fetched _ is = record { spent = one_fetch; counted = once; meant = λ holds. rw (whole_is, is holds) refl }
 
     pub spent_file : Spends held old new whole
-    spent_file = grind arith
+    spent_file = record { spent = one_fetch; counted = once; within = λ _. within_whole }
+
+    pub stuck_file : HasRisen old.faults new.faults → Stuck held old new whole
+    stuck_file risen = record { spent = one_fetch; counted = once; some = omega arith; within = λ _. within_whole; risen = risen }
+
+    pub read_file : (bytes : List ℕ) → IsWholeFile old.contents path bytes → Goes held old new whole (at_once (go bytes))
+    read_file = grind (arith, fetched, never)
+
+    pub long_file : RefusesLong go → IsLonger old.contents path (2 ^ 28) → Goes held old new whole (at_once (Err limit))
+    long_file = grind (arith, fetched, never)
 
     pub absent_file : (f : EvalFault) → IsNoFile f name → IsAbsent old.contents path → HasRisen old.absences new.absences → Halts Err texts (files_in names held) old new whole f
     absent_file = grind (arith, fetched, never, spent_file)

@@ -8,6 +8,7 @@ pub mod Printed
 pub mod Validity
 pub mod Hints
 pub mod Evaluations
+pub mod Calls
 -- laws of crates below, passed on to the crates above
 pub use Rattle.meaning_laws.proofs.cells as cells
 pub use Rattle.meaning_laws.proofs as laws

@@ -1,7 +1,7 @@
 -- The printed text and the length of an object are those of its table.
 use Rattle.{
   meaning_laws.{proofs.cells.Common.{mod-eq_of_lt, w64, int_cell}, specs.{format.{Told.{told}, Print.{text_of_shape}}, script.Statement.{entry_text}, form.Select.{length_result}}},
-  frame_concat.proofs.frame_parts.Common.{arith, ◌≡◌, List, length, Some, ℕ, ℤ, pos, Ok, ◌<◌, to_z, of_z, length-map, cast_signed, Shape, Text, NumberedTable, IsWhole, cell, HaveLevels, Tables, grid_of, entry_of, ObjId, Value, Object, World, entry_in},
+  frame_calls.proofs.frame_parts.Common.{arith, ◌≡◌, List, length, Some, ℕ, ℤ, pos, Ok, ◌<◌, to_z, of_z, length-map, cast_signed, Shape, Text, NumberedTable, IsWhole, cell, HaveLevels, Tables, grid_of, entry_of, ObjId, Value, Object, World, entry_in},
   std.{specs.Int.{int_wrap}, proofs.lemmas.Int.{of_z-to_z}},
   frame_format.proofs.{ToldLaws.{shape_told}, WholeLaws.{told_whole}},
 }

@@ -1,23 +1,23 @@
 -- Readings one after the other, and how far they have come.
 use Rattle.{
-  frame_concat.proofs.frame_parts.Common.{◌≡◌, ◌≤◌, ◌+◌, ℕ, Bool, List, Option, None, ◌∙◌, arith, Result, Ok, Err, IfOk, IfErr, Code, Text, Contents, FaultValue, fault_of, Entry, Value, OpFault, World, entry_in, Forms},
-  meaning_laws.{proofs.cells.Common.{option_map}, specs.{script.{Reading.{Files, Reading, Reads, at_once, gives, after, then_or, then_read}, Expression.{where_named, value_of_name}}, FormFault.{HasFormFault}}},
+  frame_calls.proofs.frame_parts.Common.{◌≡◌, ℕ, Bool, List, Option, None, ◌∙◌, refl, sym, arith, Result, Ok, Err, IfOk, IfErr, Code, Text, Contents, FaultValue, fault_of, Entry, Value, OpFault, World, entry_in, Forms},
+  meaning_laws.{proofs.{cells.Common.{option_map}, SpentLaws.{nothing-at_most}}, specs.{script.{Spent.{Spent, nothing_spent, spent_sum, IsAtMost}, Reading.{Files, Reading, Reads, at_once, gives, after, then_or, then_read}, Expression.{where_named, value_of_name}}, FormFault.{HasFormFault}}},
   outside_io.specs.Files.{FilesValue, Serves},
   script_state.{specs.{Bindings.{Bindings, value_at}, declared.fault.EvalFault.{EvalFault, TheVariants.{Refused, Input, NoMemory}}, Faults.{IsNoAttribute, IsNoName, evaluated}, Reads.{both_of, Holds, Goes, Stuck, Spends, Halts, Reaches, ReachesBytes, IsCaused, absent_name, count_after}}, proofs.Worlds.{entry_seen}},
 }
 
--- readings after fetches
-pub after_both : {X : Type 0} (m n : ℕ) (r : Reading X) → after m (after n r) ≡ after (m + n) r
+-- readings after what was spent
+pub after_both : {X : Type 0} (a b : Spent) (r : Reading X) → after a (after b r) ≡ after (spent_sum a b) r
 after_both = grind arith
 
-abbrev found_after : {X : Type 0} → X → ℕ → Reading X
-found_after x n = record { fetches = n; answer = x }
+after_nothing : {X : Type 0} (r : Reading X) → after nothing_spent r ≡ r
+after_nothing = grind arith
 
 module _ {A X : Type 0} (stop : FaultValue → X) where
   pub then_gives : (a : A) (go : A → Reading X) → then_or stop (gives a) go ≡ go a
   then_gives = grind arith
 
-  pub then_after : (n : ℕ) (r : Reads A) (go : A → Reading X) → then_or stop (after n r) go ≡ after n (then_or stop r go)
+  pub then_after : (n : Spent) (r : Reads A) (go : A → Reading X) → then_or stop (after n r) go ≡ after n (then_or stop r go)
   then_after = search after_both
 
 -- two parts that are read together
@@ -45,9 +45,9 @@ pub fault_uncaused : {A : Type 0} (texts : List Text) (paths : List (Text × Tex
 fault_uncaused = grind arith
 
 module _ {X : Type 0} {held : Contents} where
-  -- nothing was fetched
+  -- nothing was spent
   pub goes_same : {s : FilesValue} {whole rest : Reading X} → whole ≡ rest → Goes held s s whole rest
-  goes_same = grind (arith)
+  goes_same {rest = rest} is = record { spent = nothing_spent; counted = refl; meant = λ _. is ∙ sym (after_nothing rest) }
 
   pub goes_by : {old new : FilesValue} {whole other rest : Reading X} → whole ≡ other → Goes held old new other rest → Goes held old new whole rest
   goes_by {old} {new} {whole} {other} {rest} is g = rw is g
@@ -57,13 +57,13 @@ module _ {X : Type 0} {held : Contents} where
 
   module _ {first second : FilesValue} {a b : Reading X} (serves : Serves first second) (p : Goes held first second a b) where
     -- what holds for the whole holds for both parts of it
-    halves : (n : ℕ) → Holds first.contents (p.fetched + n) a.fetches held → (a ≡ after p.fetched b) × Holds second.contents n b.fetches held
+    halves : (n : Spent) → Holds first.contents (spent_sum p.spent n) a.spent held → (a ≡ after p.spent b) × Holds second.contents n b.spent held
     halves = grind (arith)
 
-    counted_both : (third : FilesValue) (n : ℕ) → third.fetches ≡ count_after second.fetches n → third.fetches ≡ count_after first.fetches (p.fetched + n)
+    counted_both : (third : FilesValue) (n : Spent) → third.fetches ≡ count_after second.fetches n.fetches → third.fetches ≡ count_after first.fetches (spent_sum p.spent n).fetches
     counted_both = grind (arith)
 
-    within_both : (n : ℕ) → (Holds second.contents n b.fetches held → n ≤ b.fetches) → Holds first.contents (p.fetched + n) a.fetches held → p.fetched + n ≤ a.fetches
+    within_both : (n : Spent) → (Holds second.contents n b.spent held → IsAtMost n b.spent) → Holds first.contents (spent_sum p.spent n) a.spent held → IsAtMost (spent_sum p.spent n) a.spent
     within_both = grind (arith, halves)
 
     pub goes_both : {third : FilesValue} {c : Reading X} → Goes held second third b c → Goes held first third a c
@@ -75,13 +75,13 @@ module _ {X : Type 0} {held : Contents} where
 
     -- memory was refused later
     pub spends_both : {third : FilesValue} → Spends held second third b → Spends held first third a
-    spends_both {third} q = search (counted_both, within_both)
+    spends_both {third} q = record { spent = spent_sum p.spent q.spent; counted = counted_both third q.spent q.counted; within = within_both q.spent q.within }
 
   pub goes_spends : {old new : FilesValue} {whole rest : Reading X} → Goes held old new whole rest → Spends held old new whole
   goes_spends = grind arith
 
   pub spends_none : {s : FilesValue} {whole : Reading X} → Spends held s s whole
-  spends_none = grind arith
+  spends_none = record { spent = nothing_spent; counted = refl; within = λ _. nothing-at_most _ }
 
 module _ {X : Type 0} (stop : FaultValue → X) (texts : List Text) where
   pub halts_by : (files : Files) (old new : FilesValue) {whole other : Reading X} (f : EvalFault) → whole ≡ other → Halts stop texts files old new other f → Halts stop texts files old new whole f
@@ -92,8 +92,8 @@ module _ {X : Type 0} (stop : FaultValue → X) (texts : List Text) where
   halts_both _ _ Input serves p h = stuck_both serves p h
   halts_both _ _ NoMemory serves p h = spends_both serves p h
 
-within_then : {A X : Type 0} (stop : FaultValue → X) (go : A → Reading X) (held : Contents) (contents : Option Contents) (whole : Reads A) (n : ℕ)
-    → (Holds contents n whole.fetches held → n ≤ whole.fetches) → Holds contents n (then_or stop whole go).fetches held → n ≤ (then_or stop whole go).fetches
+within_then : {A X : Type 0} (stop : FaultValue → X) (go : A → Reading X) (held : Contents) (contents : Option Contents) (whole : Reads A) (n : Spent)
+    → (Holds contents n whole.spent held → IsAtMost n whole.spent) → Holds contents n (then_or stop whole go).spent held → IsAtMost n (then_or stop whole go).spent
 within_then = grind (arith)
 
 module _ {A X : Type 0} {held : Contents} (stop : FaultValue → X) (go : A → Reading X) where

@@ -1,6 +1,6 @@
 -- What changes of names, objects and texts do to the state, and the names of objects.
 use Rattle.{
-  frame_concat.proofs.frame_parts.Common.{arith, ◌≡◌, nat_eq, Option, Some, ◌↔◌, ℕ, zero, suc, Bool, true, false, List, [], ◌∷◌, None, IsSome, refl, sym, ◌∙◌, subst, string_bytes, slice_get, if◌then◌else◌, Result, Ok, IfOk, String, string_eq, IsDistinct, keys_of, Text, FaultValue, Value, Object, Scalar, ObjId, OpFault, World, entry_in, IsSettledWorld, Keeps, IsKnownValue, objects_of, Forms, Tables, Entry},
+  frame_calls.proofs.frame_parts.Common.{arith, ◌≡◌, nat_eq, Option, Some, ◌↔◌, ℕ, zero, suc, Bool, true, false, List, [], ◌∷◌, None, IsSome, refl, sym, ◌∙◌, subst, string_bytes, slice_get, if◌then◌else◌, Result, Ok, IfOk, String, string_eq, IsDistinct, keys_of, Text, FaultValue, Value, Object, Scalar, ObjId, OpFault, World, entry_in, IsSettledWorld, Keeps, IsKnownValue, objects_of, Forms, Tables, Entry},
   std.{proofs.lemmas.Map.Entries.{lookup_from_place}, specs.String.{string_eq_equiv}},
   meaning_laws.specs.script.{State.{State}, Statement.{with_value}},
   script_state.{specs.{Bindings.{Bindings, bound, value_at, state_over, AreLive, AreGiven, KeepNamed, IsOf, bindings_of, is_named, is_object, AreNamed}, Work.{names_in, world_of, state_in}, declared.work.Work.{Work}}, proofs.{Bindings.{nat_same, nat_eq_self, names-bound, value_at-bound, named_object, some_none, value_at-bindings_of}, Worlds.{object_known, some_shown, none_shown}}},

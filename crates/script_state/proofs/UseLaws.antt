@@ -1,6 +1,6 @@
 -- How many names stand for an object, as names get values and lose them.
 use Rattle.{
-  frame_concat.proofs.frame_parts.Common.{rules, suc, ◌≡◌, ◌<◌, ℕ, Bool, true, [], ◌∷◌, Option, Some, refl, arith, nat_tests, if◌then◌else◌, cond, nat_lt, Text, ObjId, Value, Object},
+  frame_calls.proofs.frame_parts.Common.{rules, suc, ◌≡◌, ◌<◌, ℕ, Bool, true, [], ◌∷◌, Option, Some, refl, arith, nat_tests, if◌then◌else◌, cond, nat_lt, Text, ObjId, Value, Object},
   script_state.{specs.{Bindings.{Bindings, bound, unbound, value_at, is_named, uses_of}, Uses.{or_none, with_one, with_left, CanTake}}, proofs.Bindings.{named_object}},
 }
 

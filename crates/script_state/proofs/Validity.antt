@@ -1,6 +1,6 @@
 -- The tables of live objects stay valid, also where an object ends that no name stands for.
 use Rattle.{
-  frame_concat.proofs.frame_parts.Common.{arith, ◌≡◌, ℕ, Bool, true, false, nat_eq, List, Option, Some, None, refl, sym, subst, IsSome, All-nil, if◌then◌else◌, ⊤, Result, Ok, Err, IfOk, IfSome, [], ◌∷◌, All, IsLonger, Text, FaultValue, IsSettled, NumberedTable, Table, table_value, Entry, scalar_in, Tables, with_object, argument_of, IsLive, IsLiveArgument, item_of, items_of, IsLiveItem, AreLiveItems, AreLive as AreLiveArguments, ObjId, Argument, One, Many, Value, Object, Scalar, Item, Row' as RowItem', Named, OpFault, Refused, NoMemory, Shown, shown, with_shown, table_in, World, IsSettledWorld, objects_of, entry_in, Forms, Sets, arguments_in, AreKnownArguments, seen_later},
+  frame_calls.proofs.frame_parts.Common.{arith, ◌≡◌, ℕ, Bool, true, false, nat_eq, List, Option, Some, None, refl, sym, subst, IsSome, All-nil, if◌then◌else◌, ⊤, Result, Ok, Err, IfOk, IfSome, [], ◌∷◌, All, IsLonger, Text, FaultValue, IsSettled, NumberedTable, Table, table_value, Entry, scalar_in, Tables, with_object, argument_of, IsLive, IsLiveArgument, item_of, items_of, IsLiveItem, AreLiveItems, AreLive as AreLiveArguments, ObjId, Argument, One, Many, Value, Object, Scalar, Item, Row' as RowItem', Named, OpFault, Refused, NoMemory, Shown, shown, with_shown, table_in, World, IsSettledWorld, objects_of, entry_in, Forms, Sets, arguments_in, AreKnownArguments, seen_later},
   meaning_laws.{proofs.{cells.Common.{option_map}, ArgumentLaws.{more_valid}}, specs.{tables.Valid.{IsValid}, Validity.{IsHeldCell, IsValidObject, IsValidEntry, IsValidGiven, AreValid, IsValidArgument, AreValidArguments}, method.Concat.{tables_of}}},
   frame_store.specs.{declared.arguments.Item.{One as OneItem}, Shown.{spent}},
   script_state.{specs.{Bindings.{Bindings, released, noted, AreNamed, KeepNamed, AreLive, AreGiven, AreNoted, is_named, state_over}, Work.{names_in, world_of, IsUnnamedValue}, declared.work.Work.{Work}}, proofs.{Worlds.{made_noted, form_keeps, live_after, given_after, noted_after}, Bindings.{nat_same, kept_ended}, States.{state_swept}}},

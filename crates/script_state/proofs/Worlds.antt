@@ -1,7 +1,7 @@
 -- What forms do to the objects and the texts, and how values are seen then.
 use mathlib.Core.Former.{Count}
 use Rattle.{
-  frame_concat.proofs.frame_parts.Common.{arith, ◌≡◌, ℕ, List, [], ◌∷◌, refl, ap, IsSome, rules, ◌↔◌, Bool, true, false, nat_eq, ◌++◌, Option, None, sym, ◌∙◌, subst, if◌then◌else◌, ⊤, Result, Ok, Err, IfOk, IfSome, Label, Text, IsLonger, FaultValue, Tables, table_or, object_value, entry_of, item_of, items_row, items_of, argument_of, entries_of, arguments_of, subscript_of, IsLive, IsLiveItem, AreLiveItems, IsLiveArgument, AreLive as AreLiveArguments, ObjId, Value, Object, Scalar, Argument, One, Many, Item, Row' as RowItem', Row_of-Item, end_of-Item, more_of-Item, Named, Subscript, Key, OpFault, Refused, NoMemory, Shown, shown, with_shown, table_in, FormAnswers, World, objects_of, entry_in, argument_in, IsSettledWorld, Keeps, IsKnownValue, IsKnownArgument, Forms, Sets, settled_later, seen_later, longer_self, longer_twice, IsSettled, NumberedTable, Table, table_value, Entry},
+  frame_calls.proofs.frame_parts.Common.{arith, ◌≡◌, ℕ, List, [], ◌∷◌, refl, ap, IsSome, rules, ◌↔◌, Bool, true, false, nat_eq, ◌++◌, Option, None, sym, ◌∙◌, subst, if◌then◌else◌, ⊤, Result, Ok, Err, IfOk, IfSome, Label, Text, IsLonger, FaultValue, Tables, table_or, object_value, entry_of, item_of, items_row, items_of, argument_of, entries_of, arguments_of, subscript_of, IsLive, IsLiveItem, AreLiveItems, IsLiveArgument, AreLive as AreLiveArguments, ObjId, Value, Object, Scalar, Argument, One, Many, Item, Row' as RowItem', Row_of-Item, end_of-Item, more_of-Item, Named, Subscript, Key, OpFault, Refused, NoMemory, Shown, shown, with_shown, table_in, FormAnswers, World, objects_of, entry_in, argument_in, IsSettledWorld, Keeps, IsKnownValue, IsKnownArgument, Forms, Sets, settled_later, seen_later, longer_self, longer_twice, IsSettled, NumberedTable, Table, table_value, Entry},
   meaning_laws.proofs.cells.Common.{option_map},
   frame_store.specs.{Arguments.{entries_row, IsLiveRow, AreLiveEntries, AreLivePairs, IsLiveSubscript}, declared.arguments.{Argument.{Nothing, Row, Table', Row_of-Entries-pairs-2, end_of-Entries-pairs-2, more_of-Entries-pairs-2}, Item.{One as OneItem}, Subscript.TheVariants.{Span}}, Shown.{seen}, World.{IsKnown}},
   script_state.{specs.Bindings.{Bindings, is_named, contains, noted, AreLive, AreGiven, AreNoted}, proofs.Bindings.{nat_same, contains_last, contains_more}},

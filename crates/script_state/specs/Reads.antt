@@ -1,5 +1,5 @@
 -- How far an evaluation has come in its reading of files.
-use Rattle.std.specs.Prelude.{◌≡◌, ◌⊎◌, ◌<◌, ◌≤◌, ◌^◌, ℕ, zero, suc, List, length, map, Option, Some, None, Result, Ok, Err}
+use Rattle.std.specs.Prelude.{◌≡◌, ◌⊎◌, ◌<◌, ◌^◌, ℕ, zero, suc, List, length, map, Option, Some, None, Result, Ok, Err}
 use Rattle.cell_core.specs.declared.code.Code.{Code}
 use Rattle.cell_core.specs.declared.code.Code.TheVariants.{NoFile}
 use Rattle.outside_io.specs.Count.{HasRisen, raised}
@@ -8,6 +8,7 @@ use Rattle.meaning_laws.specs.cells.Text.{Text, Contents}
 use Rattle.meaning_laws.specs.cells.Fault.{FaultValue, limit}
 use Rattle.meaning_laws.specs.cells.FaultOf.{fault_of}
 use Rattle.meaning_laws.specs.tables.Settled.{IsSettled}
+use Rattle.meaning_laws.specs.script.Spent.{Spent, IsAtMost}
 use Rattle.meaning_laws.specs.script.Reading.{Files, Reading, Reads, at_once, gives, after, then_read, path_of_name}
 use Rattle.script_state.specs.declared.file_names.FileName.{FileName}
 use Rattle.script_state.specs.declared.fault.EvalFault.{EvalFault}
@@ -26,32 +27,32 @@ count_after count zero = count
 count_after count (suc n) = raised count (suc n)
 
 -- The contents that the files may have: those that they tell. Where they tell none, any contents will do as long as nothing was fetched, or the meaning fetches nothing.
-abbrev pub Holds : Option Contents → ℕ → ℕ → Contents → Type 0
-Holds None fetched meant held = (fetched ≡ 0) ⊎ (meant ≡ 0)
-Holds (Some told) fetched meant held = held ≡ told
+abbrev pub Holds : Option Contents → Spent → Spent → Contents → Type 0
+Holds None spent meant held = (spent.fetches ≡ 0) ⊎ (meant.fetches ≡ 0)
+Holds (Some told) spent meant held = held ≡ told
 
 -- both, or the first fault
 abbrev pub both_of : {A B : Type 0} → Reads A → Reads B → Reads (A × B)
 both_of x y = then_read x (λ v. then_read y (λ w. gives (v, w)))
 
--- After the fetches that were made, of which the count tells, the meaning of the whole is that of the rest.
+-- After what was spent, of whose fetches the count tells, the meaning of the whole is that of the rest.
 pub record Goes {X : Type 0} (held : Contents) (old new : FilesValue) (whole rest : Reading X) : Type 0 where
-  pub fetched : ℕ
-  pub counted : new.fetches ≡ count_after old.fetches fetched
-  pub meant : Holds old.contents fetched whole.fetches held → whole ≡ after fetched rest
+  pub spent : Spent
+  pub counted : new.fetches ≡ count_after old.fetches spent.fetches
+  pub meant : Holds old.contents spent whole.spent held → whole ≡ after spent rest
 
--- no more fetches were made than the whole has
+-- no more was spent than the whole spends
 pub record Spends {X : Type 0} (held : Contents) (old new : FilesValue) (whole : Reading X) : Type 0 where
-  pub fetched : ℕ
-  pub counted : new.fetches ≡ count_after old.fetches fetched
-  pub within : Holds old.contents fetched whole.fetches held → fetched ≤ whole.fetches
+  pub spent : Spent
+  pub counted : new.fetches ≡ count_after old.fetches spent.fetches
+  pub within : Holds old.contents spent whole.spent held → IsAtMost spent whole.spent
 
--- A call of the source failed, and so at least one fetch was made and no more than the whole has.
+-- A call of the source failed, and so at least one fetch was made, and no more was spent than the whole spends.
 pub record Stuck {X : Type 0} (held : Contents) (old new : FilesValue) (whole : Reading X) : Type 0 where
-  pub fetched : ℕ
-  pub counted : new.fetches ≡ count_after old.fetches fetched
-  pub some : 0 < fetched
-  pub within : Holds old.contents fetched whole.fetches held → fetched ≤ whole.fetches
+  pub spent : Spent
+  pub counted : new.fetches ≡ count_after old.fetches spent.fetches
+  pub some : 0 < spent.fetches
+  pub within : Holds old.contents spent whole.spent held → IsAtMost spent whole.spent
   pub risen : HasRisen old.faults new.faults
 
 -- the name of the file that isn't there, where that is the refusal

@@ -1,9 +1,10 @@
 // Calls of the functions of `pd`, and the files that they read.
-ghost use Rattle.std.specs.Prelude.{ℕ, List, Result};
+ghost use Rattle.std.specs.Prelude.{◌≡◌, ℕ, List, Some, Result};
 ghost use Rattle.meaning_laws.specs.cells.Text.{Text, Contents};
 ghost use Rattle.meaning_laws.specs.cells.Fault.{FaultValue};
 ghost use Rattle.meaning_laws.specs.tables.Value.{Entry};
 ghost use Rattle.meaning_laws.specs.call.declared.Function.TheVariants.{ReadCsv};
+ghost use Rattle.meaning_laws.specs.call.Signature.{function_named};
 ghost use Rattle.meaning_laws.specs.method.Readers.{file_name_of, read_result};
 ghost use Rattle.meaning_laws.specs.script.Reading.{at_once, then_read, of_file};
 ghost use Rattle.meaning_laws.specs.script.Expression.{made};
@@ -18,6 +19,7 @@ use crate::work::Work;
 use cell_core::{Code, Words};
 use frame_make::{file_name, reads_file};
 use frame_store::{NamedList, Value};
+use meaning_call::Function;
 use outside_io::{Bytes, Files, ReadFault, read_whole};
 use std::alloc::Global;
 
@@ -36,16 +38,17 @@ impl Work {
         &mut self,
         files: &mut F,
         names: &FileNames,
-        function: &Words,
+        function: Function,
         args: &NamedList,
     ) -> Result<Value, EvalFault>
         requires { AreKnownArguments (world_of self.old) args.now }
         ensures { let at = moment F.seen in
+            (name : Text) → function_named name ≡ Some function →
             Evaluates names.now (IsValue None) entry_in
-            (λ fs s. made fs function.now (arguments_in (world_of self.old) args.now))
+            (λ fs s. made fs name (arguments_in (world_of self.old) args.now))
             (at self.old files.old) (at self.new files.new) result }
     {
-        if !reads_file(function.as_str()) {
+        if !reads_file(function) {
             return evaluated(self.make(function, args, None));
         }
         let bytes = self.file_of(files, names, args)?;
@@ -69,7 +72,7 @@ impl Work {
             result }
         ensures serves { Serves (F.seen files.old) (F.seen files.new) }
     {
-        match file_name(&self.store, &self.dict, "read_csv", args) {
+        match file_name(&self.store, &self.dict, Function::ReadCsv, args) {
             Ok(name) => file_named(self.alloc, files, names, self.dict.text(name)),
             Err(code) => Err(EvalFault::Refused(code)),
         }
@@ -77,7 +80,7 @@ impl Work {
 }
 
 // The bytes of the file of a name.
-#[tactic(auto, using(crate::proofs::Fetching::absent_file))]
+#[tactic(auto, using(crate::proofs::Hints::file_named))]
 fn file_named<F: Files>(
     alloc: Global,
     files: &mut F,

@@ -1,5 +1,5 @@
 // Forms on values. What they make is noted.
-ghost use Rattle.std.specs.Prelude.{◌≡◌, ◌<◌, List, Some, IfOk, IfErr, OnOk, IfSome, true, is_some, option_map, vec_len, vec_capacity};
+ghost use Rattle.std.specs.Prelude.{◌≡◌, ◌<◌, List, Some, IfOk, IfErr, OnOk, IfSome, true, false, is_some, option_map, vec_len, vec_capacity};
 ghost use Rattle.meaning_laws.specs.cells.Text.{Text as OneText};
 ghost use Rattle.meaning_laws.specs.cells.Cell.{datum, label_datum};
 ghost use Rattle.meaning_laws.specs.cells.Operator.{cell_label};
@@ -10,19 +10,19 @@ ghost use Rattle.meaning_laws.specs.form.Infix.{infix_result, sign_result};
 ghost use Rattle.meaning_laws.specs.form.Select.{length_result};
 ghost use Rattle.meaning_laws.specs.select.Select.{select_result};
 ghost use Rattle.meaning_laws.specs.select.Set.{assign_result, removal_result};
-ghost use Rattle.meaning_laws.specs.method.Calls.{call_result, has_method};
-ghost use Rattle.meaning_laws.specs.method.Functions.{function_result};
+ghost use Rattle.meaning_laws.specs.method.Calls.{call_result, has_method, plain};
+ghost use Rattle.meaning_laws.specs.method.Functions.{made_by};
 ghost use Rattle.meaning_laws.specs.Validity.{IsHeldCell};
-ghost use Rattle.frame_store.specs.Objects.{tables};
 ghost use Rattle.frame_store.specs.Arguments.{entry_of, argument_of, IsLive};
-ghost use Rattle.frame_merge.specs.frame_labels.Chains.{chain_in, IsKnownChain};
+ghost use Rattle.frame_calls.specs.frame_labels.Chains.{chain_in, IsKnownChain};
+ghost use Rattle.frame_calls.specs.Calls.{method_in};
 ghost use Rattle.frame_select.specs.Selected.{way_of};
 ghost use Rattle.frame_set.specs.Assigned.{new_value, moved_object, IsLiveNew, IsOther};
 ghost use Rattle.column_operators.specs.Tasks.{operator_of};
 ghost use Rattle.script_tokens.specs.View.{binary_of};
 ghost use Rattle.script_tree.specs.View.{literal_of, unary_of};
 ghost use Rattle.meaning_laws.specs.script.Expression.{cell_of, is_minus};
-ghost use Rattle.frame_store.specs.World.{world, IsSettledWorld, entry_in, argument_in, arguments_in, subscript_in, Keeps, IsKnownValue, IsKnownArgument, AreKnownArguments, IsKnownSubscript, Forms, Sets};
+ghost use Rattle.frame_store.specs.World.{entry_in, argument_in, arguments_in, subscript_in, Keeps, IsKnownValue, IsKnownArgument, AreKnownArguments, IsKnownSubscript, Sets};
 ghost use Rattle.script_state.specs.Bindings.{value_at, noted, is_spare};
 ghost use Rattle.script_state.specs.Faults.{IsNoName, IsNoAttribute};
 
@@ -30,12 +30,12 @@ use crate::fault::EvalFault;
 use crate::literal::cell_of;
 use crate::names::find;
 use crate::work::Work;
-use cell_core::{Cell, Code, Grid, Label, TextDict, Words};
+use cell_core::{Cell, Code, Grid, Label, Words};
 use column_operators::Operator;
-use frame_concat::function_exists;
-use frame_methods::exists;
+use frame_calls::{function_called, function_named, method_called, method_of};
 use frame_set::NewValue;
-use frame_store::{Argument, Chain, NamedList, ObjId, OpFault, Selector, Store, Subscript, Value};
+use frame_store::{Argument, Chain, NamedList, ObjId, OpFault, Selector, Subscript, Value};
+use meaning_call::{Function, Method};
 use script_tokens::Binary;
 use script_tree::{Literal, Unary};
 use std::alloc::Global;
@@ -127,22 +127,21 @@ impl Work {
     // What a function of `pd` gives, with the bytes of the file that it reads.
     pub(crate) fn make(
         &mut self,
-        function: &Words,
+        function: Function,
         args: &NamedList,
         file: Option<&[u8]>,
     ) -> Result<Value, OpFault>
         requires { AreKnownArguments (world_of self.old) args.now }
-        ensures { FormsIn result (function_result (option_map (λ bytes. bytes.now) file.entry)
-            function.now (arguments_in (world_of self.old) args.now))
+        ensures { FormsIn result (made_by function (option_map (λ bytes. bytes.now) file.entry)
+            (arguments_in (world_of self.old) args.now))
             self.old self.new }
     {
         self.temps.reserve(1)?;
-        let name = function.as_str();
-        let made = frame_concat::make(
+        let made = function_called(
             self.alloc,
             &mut self.store,
             &mut self.dict,
-            name,
+            function,
             args,
             file,
         )?;
@@ -150,22 +149,57 @@ impl Work {
         Ok(made)
     }
 
-    /// Nothing where the value has a method of this name, and else an `AttributeError` that gives it, or
-    /// want of memory.
-    pub fn expect_method(&self, on: Value, name: &str) -> Result<(), EvalFault>
+    /// The method that the value has under this name, and else an `AttributeError` that gives the name, or want of
+    /// memory.
+    pub fn expect_method(&self, on: Value, name: &str) -> Result<Method, EvalFault>
         requires { IsLive (tables_in self.now) on }
+        ensures named { (texts : List OneText) → IfOk result
+            (λ m. method_in (entry_of (tables_in self.now) texts on) name.now ≡ Some m) }
         ensures known { (texts : List OneText) →
             OnOk result (has_method (entry_of (tables_in self.now) texts on) name.now ≡ true) }
         ensures fault { (texts : List OneText) →
             IfErr result (λ f. IsNoAttribute f name.now
             (has_method (entry_of (tables_in self.now) texts on) name.now)) }
     {
-        expect_known(self.alloc, exists(&self.store, on, name), name)
+        match method_of(&self.store, on, name) {
+            Some(method) => Ok(method),
+            None => Err(no_attribute(self.alloc, name)),
+        }
     }
 
-    /// What a method gives, alone or behind `groupby`, `rolling` or `expanding`: a new object, or a scalar.
+    /// What a method gives that [`Work::expect_method`] told of the value and the name: a new object, or a scalar.
     /// The refusals are those of the method, in its order.
-    pub fn method(&mut self, on: Value, chain: &Chain, args: &NamedList) -> Result<Value, OpFault>
+    pub fn method(
+        &mut self,
+        on: Value,
+        method: Method,
+        name: &str,
+        args: &NamedList,
+    ) -> Result<Value, OpFault>
+        requires on { IsKnownValue (world_of self.old) on }
+        requires named { method_in (entry_in (world_of self.old) on) name.now ≡ Some method }
+        requires arguments { AreKnownArguments (world_of self.old) args.now }
+        ensures { FormsIn result (call_result (entry_in (world_of self.old) on) (plain name.now)
+            (arguments_in (world_of self.old) args.now))
+            self.old self.new }
+    {
+        self.temps.reserve(1)?;
+        let made = method_called(
+            self.alloc,
+            &mut self.store,
+            &mut self.dict,
+            on,
+            method,
+            name,
+            args,
+        )?;
+        note(&mut self.temps, made);
+        Ok(made)
+    }
+
+    /// What a method gives behind `groupby`, `rolling` or `expanding`, or alone: a new object, or a scalar.
+    /// The refusals are those of the method, in its order.
+    pub fn chained(&mut self, on: Value, chain: &Chain, args: &NamedList) -> Result<Value, OpFault>
         requires on { IsKnownValue (world_of self.old) on }
         requires before { IsKnownChain (world_of self.old) chain.now }
         requires arguments { AreKnownArguments (world_of self.old) args.now }
@@ -175,7 +209,14 @@ impl Work {
             self.old self.new }
     {
         self.temps.reserve(1)?;
-        let made = chain_call(self.alloc, &mut self.store, &mut self.dict, on, chain, args)?;
+        let made = frame_calls::method(
+            self.alloc,
+            &mut self.store,
+            &mut self.dict,
+            on,
+            chain,
+            args,
+        )?;
         note(&mut self.temps, made);
         Ok(made)
     }
@@ -307,32 +348,6 @@ impl Work {
     }
 }
 
-// What a method gives, alone or behind `groupby` or a window.
-fn chain_call(
-    alloc: Global,
-    store: &mut Store,
-    dict: &mut TextDict,
-    on: Value,
-    chain: &Chain,
-    args: &NamedList,
-) -> Result<Value, OpFault>
-    requires live { IsLive (tables store.old) on }
-    requires settled { IsSettledWorld (world store.old dict.old) }
-    requires before { IsKnownChain (world store.old dict.old) chain.now }
-    requires arguments { AreKnownArguments (world store.old dict.old) args.now }
-    ensures { let w = world store.old dict.old in
-        Forms result (call_result (entry_in w on) (chain_in w chain.now)
-        (arguments_in w args.now)) w (world store.new dict.new) }
-{
-    match chain {
-        Chain::Plain(_) => frame_merge::method(alloc, store, dict, on, chain, args),
-        Chain::Group(_, _, _) => frame_groups::method(alloc, store, dict, on, chain, args),
-        Chain::Rolling(_, _) | Chain::Expanding(_, _) => {
-            frame_windows::method(alloc, store, dict, on, chain, args)
-        }
-    }
-}
-
 // An object that was made is noted.
 fn note(temps: &mut Vec<ObjId>, made: Value)
     requires { vec_len temps.old < vec_capacity temps.old }
@@ -388,23 +403,24 @@ fn is_minus(op: Unary) -> bool
     }
 }
 
-/// Nothing where `pd` has a function of this name, and else an `AttributeError` that gives it, or want of
-/// memory.
-pub fn expect_function(alloc: Global, name: &str) -> Result<(), EvalFault>
-    ensures known { OnOk result (is_some (function_named name.now) ≡ true) }
+/// The function of `pd` that has this name, and else an `AttributeError` that gives the name, or want of memory.
+pub fn expect_function(alloc: Global, name: &str) -> Result<Function, EvalFault>
+    ensures known { IfOk result (λ f. function_named name.now ≡ Some f) }
     ensures fault { IfErr result
         (λ f. IsNoAttribute f name.now (is_some (function_named name.now))) }
 {
-    expect_known(alloc, function_exists(name), name)
+    match function_named(name) {
+        Some(function) => Ok(function),
+        None => Err(no_attribute(alloc, name)),
+    }
 }
 
-fn expect_known(alloc: Global, known: bool, name: &str) -> Result<(), EvalFault>
-    ensures known { OnOk result (known ≡ true) }
-    ensures fault { IfErr result (λ f. IsNoAttribute f name.now known) }
+// The fault of a name that isn't there.
+fn no_attribute(alloc: Global, name: &str) -> EvalFault
+    ensures { IsNoAttribute result name.now false }
 {
-    if known {
-        return Ok(());
+    match Words::from_text(alloc, name) {
+        Ok(name) => EvalFault::Refused(Code::NoAttribute(name)),
+        Err(_) => EvalFault::NoMemory,
     }
-    let name = Words::from_text(alloc, name)?;
-    Err(EvalFault::Refused(Code::NoAttribute(name)))
 }

@@ -1,6 +1,5 @@
 // The end of objects without names.
-ghost use Rattle.std.specs.Prelude.{◌≡◌};
-ghost use Rattle.frame_store.specs.Objects.{tables, with_object};
+ghost use Rattle.frame_store.specs.Objects.{tables, with_object, Turns};
 ghost use Rattle.script_state.specs.Bindings.{bindings_of, released, AreNoted, AreNamed, KeepNamed};
 
 use crate::names::Names;
@@ -22,8 +21,8 @@ pub(crate) fn sweep(names: &Names, temps: &mut Vec<ObjId>, store: &mut Store)
 
 // The object that a name has left ends if no other name stands for it.
 pub(crate) fn release(names: &Names, store: &mut Store, left: Option<Value>)
-    ensures { tables store.new
-        ≡ released (bindings_of names.now.values.entries) (tables store.old) left }
+    ensures { Turns store.old store.new
+        (λ live. released (bindings_of names.now.values.entries) live left) }
 {
     if let Some(Value::Object(id)) = left {
         if !names.has(id) {
@@ -34,7 +33,7 @@ pub(crate) fn release(names: &Names, store: &mut Store, left: Option<Value>)
 
 // An object ends, if it is live.
 fn end(store: &mut Store, id: ObjId)
-    ensures { tables store.new ≡ with_object (tables store.old) id.0 None }
+    ensures { Turns store.old store.new (λ live. with_object live id.0 None) }
 {
     if store.contains(id) {
         store.drop_object(id);

@@ -1,6 +1,6 @@
 use Rattle.{
   frame_parts.proofs.Common.{◌≡◌, take, length, flat_map, labels_value, blocks_value},
-  frame_make.specs.method.Concat.{columns_beside},
+  meaning_method.specs.Concat.{columns_beside},
   frame_concat.specs.{Parts.{parts_value}, Beside.{AreBlocks}},
 }
 use Rattle.frame_concat.proofs.beside.columns_beside.Given as goal

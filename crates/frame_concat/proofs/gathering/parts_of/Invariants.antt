@@ -1,6 +1,6 @@
 use Rattle.{
   frame_parts.proofs.Common.{◌≡◌, ◌++◌, drop, List, Text, items_of, tables},
-  frame_make.specs.method.Concat.{tables_of},
+  meaning_method.specs.Concat.{tables_of},
   frame_concat.specs.Parts.{parts_value, AreSettledParts},
 }
 use Rattle.frame_concat.proofs.gathering.parts_of.Given as goal

@@ -1,6 +1,6 @@
 use Rattle.{
   frame_parts.proofs.Common.{◌≡◌, drop, list_all},
-  frame_make.specs.method.Concat.{is_series},
+  meaning_method.specs.Concat.{is_series},
 }
 use Rattle.frame_concat.proofs.names.are_series.Given as goal
 

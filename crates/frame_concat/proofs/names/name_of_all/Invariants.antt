@@ -2,7 +2,7 @@ use Rattle.{
   frame_parts.proofs.Common.{◌≡◌, map, fold, drop, IsSettled, heading_value, common_name},
   frame_concat.specs.Parts.{name_at, parts_value},
 }
-use Rattle.frame_make.specs.method.Concat as meant
+use Rattle.meaning_method.specs.Concat as meant
 use Rattle.frame_concat.proofs.names.name_of_all.Given as goal
 
 -- the name that the parts so far have, and what it comes to

@@ -4,6 +4,6 @@ use Rattle.{
 }
 use Rattle.frame_groups.proofs.values.listed.Goals as goal
 
-pub column_places-requires-clause-cells : goal.column_places-requires-clause-cells
-column_places-requires-clause-cells c =
+pub argument_columns-requires-clause-cells : goal.argument_columns-requires-clause-cells
+argument_columns-requires-clause-cells c =
     listed_settled _ c.args.items.now _ (grind arith) c.requires.items

@@ -1,6 +1,6 @@
 use Rattle.frame_parts.proofs.Common.{◌∙◌, sym, ◌++◌}
 use Rattle.frame_labels.proofs.named_columns.places_of.Goals as goal
 
-pub column_places-requires-clause-cells : goal.column_places-requires-clause-cells
-column_places-requires-clause-cells c = λ more.
+pub argument_columns-requires-clause-cells : goal.argument_columns-requires-clause-cells
+argument_columns-requires-clause-cells c = λ more.
     c.in_ok-cells.ensures (c.args.dict.now ++ more) ∙ c.requires.items more ∙ sym (c.in_ok-cells.ensures _)

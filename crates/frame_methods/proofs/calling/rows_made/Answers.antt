@@ -1,4 +1,4 @@
-use Rattle.{frame_parts.{proofs.Common.{arith, ◌≡◌, ◌∙◌, ap, sym, refl, then_value, table_value, on, table_at, world, object_settled}, specs.form.Select.{column_places}}, meaning_call.specs.Binding.{truth_in}, frame_labels.{specs.{method.Rows.{dropna_result, sort_values_result, sort_by_result, all_places, labels_in}, Named.{first_in}}, proofs.NamedLaws.{all_are}}, frame_methods.proofs.AnswerLaws.{makes_by}}
+use Rattle.{frame_parts.{proofs.Common.{arith, ◌≡◌, ◌∙◌, ap, sym, refl, then_value, table_value, on, table_at, world, object_settled}, specs.form.Select.{argument_columns}}, meaning_call.specs.Binding.{truth_in}, frame_labels.{specs.{method.Rows.{dropna_result, sort_values_result, sort_by_result, all_places, labels_in}, Named.{first_in}}, proofs.NamedLaws.{all_are}}, frame_methods.proofs.AnswerLaws.{makes_by}}
 use Rattle.meaning_call.specs.declared.Method.TheVariants as method
 use Rattle.frame_methods.proofs.calling.rows_made.Goals as goal
 
@@ -40,6 +40,6 @@ returns-in_ok-places-in-SortValuesFrame c =
     let at : c.read-source.result ≡ table_at w.tables c.args.on.0 = grind arith in
     let g = first_in w c.args.bound.now in
     makes_by w _ _ c.args.bound.now _ _ _ (λ a t. on (truth_in (a 1)) (λ b. sort_by_result t b (a 0))) _ c.read-source.ensures.table (ap method.Rows c.in-SortValuesFrame.is) c.requires.call.parameters (λ v. refl)
-    (ap (λ r. then_value r (sort_values_result s c.truth-ascending.result)) (sym (ap (λ n. column_places (table_value w.texts n) (labels_in g)) at ∙ c.in_ok-places-in-SortValuesFrame.ensures.0))
+    (ap (λ r. then_value r (sort_values_result s c.truth-ascending.result)) (sym (ap (λ n. argument_columns (table_value w.texts n) (labels_in g)) at ∙ c.in_ok-places-in-SortValuesFrame.ensures.0))
     ∙ ap (λ o. on o (λ b. sort_by_result s b g)) (c.truth-ascending.ensures w.tables w.texts))
     c.sort_values-in-SortValuesFrame.ensures

@@ -42,7 +42,7 @@ melt-requires-clause-shape c =
     of_melt _ (shape_fits (world c.args.store.now c.args.dict.now) c.args.bound.now c.args.on _ c.read-source.ensures.table _ Melt c.requires.shape c.in-Melt.is)
 
 pub unstack-requires-clause-given : goal.unstack-requires-clause-given
-unstack-requires-clause-given c = option_given c.args.bound.now 0 _ (tables c.args.store.now) c.args.dict.now c.scalar_or_none.ensures c.requires.call.given
+unstack-requires-clause-given c = option_given c.args.bound.now 0 _ (tables c.args.store.now) c.args.dict.now c.scalar_or_none-level.ensures c.requires.call.given
 
 pub reduction_named-op-requires : goal.reduction_named-op-requires
 reduction_named-op-requires c =

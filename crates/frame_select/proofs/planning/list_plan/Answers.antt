@@ -4,8 +4,8 @@ use Rattle.{
 }
 use Rattle.frame_select.proofs.planning.list_plan.Goals as goal
 
-pub column_places-requires-clause-cells : goal.column_places-requires-clause-cells
-column_places-requires-clause-cells c =
+pub selected_columns-requires-clause-cells : goal.selected_columns-requires-clause-cells
+selected_columns-requires-clause-cells c =
     scalars_settled _ _ _ _ (λ texts. ap (option_map (cells_value texts)) (sym c.in-Some.is) ∙ c.in_ok-cells.ensures _ texts) c.requires.items.1
 
 pub returns-in_ok-places-in-Some-clause-plan : goal.returns-in_ok-places-in-Some-clause-plan

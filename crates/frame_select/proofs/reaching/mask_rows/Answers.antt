@@ -12,5 +12,5 @@ returns-in_err-places-clause-rows c =
 
 pub returns-clause-rows : goal.returns-clause-rows
 returns-clause-rows c =
-    rw c.in_ok-places.was at (mask_made _ c.args.store.now c.args.on.now _ c.args.mask _ _ _ _ c.len.ensures.distinct c.requires.table.known.given c.requires.settled c.read-mask.ensures.table
-    (search rules) (search rules) c.axis-2.ensures c.axis-3.ensures c.column.ensures.column c.column.ensures.rows c.mask_places.ensures.rows _ c.found.ensures)
+    rw c.listed.ensures (rw c.in_ok-places.was at (mask_made _ c.args.store.now c.args.on.now _ c.args.mask _ _ _ _ c.len.ensures.distinct c.requires.table.known.given c.requires.settled c.read-mask.ensures.table
+    (search rules) (search rules) c.axis-2.ensures c.axis-3.ensures c.column.ensures.column c.column.ensures.rows c.mask_places.ensures.rows _ c.found.ensures))

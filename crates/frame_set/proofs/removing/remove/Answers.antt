@@ -5,12 +5,12 @@ use Rattle.{
 }
 use Rattle.frame_set.proofs.removing.remove.Goals as goal
 
-pub column_place-requires-clause-settled : goal.column_place-requires-clause-settled
-column_place-requires-clause-settled c =
+pub selected_column-requires-clause-settled : goal.selected_column-requires-clause-settled
+selected_column-requires-clause-settled c =
     headings_part _ c.read-source.result (search object_settled)
 
-pub column_place-requires-clause-label : goal.column_place-requires-clause-label
-column_place-requires-clause-label c = search entry_label_settled
+pub selected_column-requires-clause-label : goal.selected_column-requires-clause-label
+selected_column-requires-clause-label c = search entry_label_settled
 
 pub returns-in_err-remove_column : goal.returns-in_err-remove_column
 returns-in_err-remove_column c =

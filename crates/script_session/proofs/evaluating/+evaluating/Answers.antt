@@ -1,8 +1,8 @@
 use Rattle.{
-  script_state.{proofs.{cells.Common.{refl, length, ◌≡◌, sym, ◌∙◌, ap, subst, Some, None, arith, Option, append-nil, List, is_some, IfSome, Text, Words}, Evaluations.{evaluates_by, apart, flat, spent, known_after, seen_after, stops, goes_on, adds, makes, stays, forms, knows_none, names_value, writes_out}, Worlds.{of_value, of_items, of_argument, of_pairs, of_arguments, of_subscript, seen_kept, keeps_both, brackets_seen, brackets_kept}, Rides.{then_gives}, laws.{FormFaults.{sign_result_fault, infix_result_fault, length_result_fault}, SelectFaults.{select_result_fault}, CallFaults.{call_result_fault}}}, specs.{language.{Tree.{bare, named, keyed}, Depth.{depth, step_depth}}, tables.Value.{Entry, one, entries, Given, NamedGiven}, call.Signature.{function_named}, select.Select.{plain, through}, method.Calls.{has_method, call_result}, script_tokens.View.{binary_of}, script.{Reading.{Reads, at_once, gives, then_read}, Expression.{where_named}}, Work.{world_of}, frame_labels.Chains.{chain_in, IsKnownChain}}},
+  script_state.{proofs.{cells.Common.{rules, refl, length, ◌≡◌, sym, ◌∙◌, ap, subst, Some, None, arith, Option, append-nil, List, is_some, IfSome, Text, Words}, Evaluations.{evaluates_by, apart, flat, spent, known_after, seen_after, stops, goes_on, adds, makes, stays, forms, knows_none, names_value, writes_out}, Worlds.{of_value, of_items, of_argument, of_pairs, of_arguments, of_subscript, seen_kept, keeps_both, brackets_seen, brackets_kept}, Rides.{then_gives}, laws.{FormFaults.{sign_result_fault, infix_result_fault, length_result_fault}, SelectFaults.{select_result_fault}, CallFaults.{call_result_fault}}}, specs.{language.{Tree.{bare, named, keyed}, Depth.{depth, step_depth}}, tables.Value.{Entry, one, entries, Given, NamedGiven}, call.Signature.{function_named}, select.Select.{plain, through}, method.Calls.{has_method, call_result}, script_tokens.View.{binary_of}, script.{Reading.{Reads, at_once, gives, then_read}, Expression.{where_named}}, Work.{world_of}, frame_labels.Chains.{chain_in, IsKnownChain}}},
   frame_store.{proofs.RowLaws.{item_of-Row, argument_of-Table}, specs.{declared.arguments.{Named.{Named}, Argument.{Argument}}, World.{World, arguments_in, entry_in, subscript_in, IsKnownArgument, AreKnownArguments}}},
   script_tree.{specs.View.{expr_of, step_of, arg_of, parts_of, named_parts_of, pair_parts_of, sub_of as view_sub}, proofs.Rows.{expr_of-Make, step_of-Method, step_of-Group, step_of-Rolling, step_of-Expanding, arg_of-Many, arg_of-Row, arg_of-Table}},
-  script_session.{specs.{Parts.{brackets_in}, Links.{link_name, chain_behind, chain_meant}, declared.link.Link.{Link}}, proofs.{Gathering.{gathered, gathers_next, gathers_none}, Parts.{reads_items, reads_pairs, reads_arguments, parts_end, pairs_end, items_push, pairs_push, arguments_push, items_known, pairs_known, arguments_known, key_known, span_known, row_known, table_known}, Trees.{part_depth, sub_of-Span, step_of-Access}}},
+  script_session.{specs.{Parts.{brackets_in}, Links.{link_name, chain_behind, chain_meant}, declared.link.Link.{Link}}, proofs.{Gathering.{gathered, gathers_first, gathers_next, gathers_none}, Refusing.{refuses_kind}, Parts.{reads_items, reads_pairs, reads_arguments, parts_end, pairs_end, no_items, no_pairs, no_arguments, items_push, pairs_push, arguments_push, items_known, pairs_known, arguments_known, key_known, span_known, row_known, table_known}, Trees.{part_depth, sub_of-Span, step_of-Access}}},
 }
 use Rattle.script_state.specs.method.Calls as calls
 use Rattle.script_state.specs.language.Tree as tree
@@ -64,17 +64,18 @@ evaluate-arguments-requires g t c =
     let deep = ap depth (ap expr_of c.in-Make.is ∙ expr_of-Make _ _) in
     grind arith
 
-pub evaluate-returns-in_err-expect_function-in-Make : goal.evaluate-returns-in_err-expect_function-in-Make
-evaluate-returns-in_err-expect_function-in-Make g t c =
-    rw (ap expr_of c.in-Make.is ∙ expr_of-Make _ _) (knows_none _ _ (is_some (function_named c.in-Make.function)) _ (grind arith) c.from_residual-in_err-expect_function-in-Make.ensures.1)
+pub evaluate-returns-in_err-function-in-Make : goal.evaluate-returns-in_err-function-in-Make
+evaluate-returns-in_err-function-in-Make g t c =
+    rw (ap expr_of c.in-Make.is ∙ expr_of-Make _ _) (knows_none _ _ (is_some (function_named c.in-Make.function)) _ (grind arith) c.from_residual-in_err-function-in-Make.ensures.1)
 
 pub evaluate-returns-in_err-args-in-Make : goal.evaluate-returns-in_err-args-in-Make
 evaluate-returns-in_err-args-in-Make g t c =
-    rw (ap expr_of c.in-Make.is ∙ expr_of-Make _ _, rw c.as_str.ensures at c.in_ok-expect_function-in-Make.ensures.known) (stops _ c.in_err-args-in-Make.ensures (search))
+    rw (ap expr_of c.in-Make.is ∙ expr_of-Make _ _, ap is_some (rw c.as_str.ensures at c.in_ok-function-in-Make.ensures.known)) (stops _ c.in_err-args-in-Make.ensures (search))
 
 pub evaluate-returns-in_ok-args-in-Make : goal.evaluate-returns-in_ok-args-in-Make
 evaluate-returns-in_ok-args-in-Make g t c =
-    rw (ap expr_of c.in-Make.is ∙ expr_of-Make _ _, rw c.as_str.ensures at c.in_ok-expect_function-in-Make.ensures.known) (goes_on _ c.in_ok-args-in-Make.ensures c.call.ensures)
+    let named = rw c.as_str.ensures at c.in_ok-function-in-Make.ensures.known in
+    rw (ap expr_of c.in-Make.is ∙ expr_of-Make _ _, ap is_some named) (goes_on _ c.in_ok-args-in-Make.ensures (c.call.ensures c.in-Make.function named))
 
 pub after-returns-in_err-key-in-Item : goal.after-returns-in_err-key-in-Item
 after-returns-in_err-key-in-Item g t c = rw c.in-Item.is (stops _ c.in_err-key-in-Item.ensures (search))
@@ -109,30 +110,29 @@ after-arguments-requires g t c =
     let deep = ap step_depth (ap step_of c.in-Method.is ∙ step_of-Method _ _) in
     grind arith
 
-pub after-returns-in_err-expect_method-in-Method : goal.after-returns-in_err-expect_method-in-Method
-after-returns-in_err-expect_method-in-Method g t c =
-    rw (ap step_of c.in-Method.is ∙ step_of-Method _ _) (knows_none _ _ (has_method (entry_in (world_of c.args.work.now) c.args.on) c.in-Method.name) _ (grind arith) c.from_residual-in_err-expect_method-in-Method.ensures.1)
+pub after-returns-in_err-method-in-Method : goal.after-returns-in_err-method-in-Method
+after-returns-in_err-method-in-Method g t c =
+    rw (ap step_of c.in-Method.is ∙ step_of-Method _ _) (knows_none _ _ (has_method (entry_in (world_of c.args.work.now) c.args.on) c.in-Method.name) _ (grind arith) c.from_residual-in_err-method-in-Method.ensures.1)
 
 pub after-returns-in_err-args-in-Method : goal.after-returns-in_err-args-in-Method
 after-returns-in_err-args-in-Method g t c =
-    rw (ap step_of c.in-Method.is ∙ step_of-Method _ _, rw c.as_str.ensures at (c.in_ok-expect_method-in-Method.ensures.known c.args.work.now.dict)) (stops _ c.in_err-args-in-Method.ensures (search))
-
-pub after-returns-in_err-name-in-Method : goal.after-returns-in_err-name-in-Method
-after-returns-in_err-name-in-Method g t c =
-    rw (ap step_of c.in-Method.is ∙ step_of-Method _ _, rw c.as_str.ensures at (c.in_ok-expect_method-in-Method.ensures.known c.args.work.now.dict))
-    (stops _ (spent c.in_ok-args-in-Method.ensures) (search))
+    rw (ap step_of c.in-Method.is ∙ step_of-Method _ _, rw c.as_str.ensures at (c.in_ok-method-in-Method.ensures.known c.args.work.now.dict)) (stops _ c.in_err-args-in-Method.ensures (search))
 
 pub after-method-requires : goal.after-method-requires
 after-method-requires g t c =
     let x = c.in_ok-args-in-Method.ensures in
-    record { on = known_after x of_value c.requires; before = tt; arguments = x.found }
+    record {
+      on = known_after x of_value c.requires;
+      named = rw (seen_after x of_value c.requires, c.as_str-in-Method.ensures) (rw c.as_str.ensures at (c.in_ok-method-in-Method.ensures.named c.args.work.now.dict));
+      arguments = x.found;
+    }
 
-pub after-returns-in_ok-name-in-Method : goal.after-returns-in_ok-name-in-Method
-after-returns-in_ok-name-in-Method g t c =
+pub after-returns-in_ok-args-in-Method : goal.after-returns-in_ok-args-in-Method
+after-returns-in_ok-args-in-Method g t c =
     let x = c.in_ok-args-in-Method.ensures in
-    rw (ap step_of c.in-Method.is ∙ step_of-Method _ _, rw c.as_str.ensures at (c.in_ok-expect_method-in-Method.ensures.known c.args.work.now.dict))
-    (rw (← seen_after x of_value c.requires, ← c.as_str-in-Method.ensures, ← c.in_ok-name-in-Method.ensures) (goes_on _ x
-    (forms _ (call_result_fault (entry_in (world_of c.arguments.new.work) c.args.on) (calls.plain c.in_ok-name-in-Method.name) _) c.evaluated-in-Method.ensures (search))))
+    rw (ap step_of c.in-Method.is ∙ step_of-Method _ _, rw c.as_str.ensures at (c.in_ok-method-in-Method.ensures.known c.args.work.now.dict))
+    (rw (← seen_after x of_value c.requires, ← c.as_str-in-Method.ensures) (goes_on _ x
+    (forms _ (call_result_fault (entry_in (world_of c.arguments.new.work) c.args.on) (calls.plain c.as_str-in-Method.result.now) _) c.evaluated-in-Method.ensures (search))))
 
 -- what a chain is seen as
 chain_seen : (w : World) (link : Link) (args : List Named) (by : Option Argument) (name : Words) → chain_in w (chain_behind link args by name) ≡ chain_meant link (arguments_in w args) (brackets_in w by) name
@@ -193,8 +193,8 @@ pub through-returns-in_err-name : goal.through-returns-in_err-name
 through-returns-in_err-name g t c = rw (rw c.name.ensures at (c.in_ok-expect_method.ensures.known c.args.work.now.dict))
     (goes_on _ c.in_ok-args.ensures (goes_on _ c.in_ok-by.ensures (stops _ (spent c.in_ok-more.ensures) (search))))
 
-pub through-method-requires : goal.through-method-requires
-through-method-requires g t c =
+pub through-chained-requires : goal.through-chained-requires
+through-chained-requires g t c =
     let x = c.in_ok-args.ensures in
     let y = c.in_ok-by.ensures in
     let z = c.in_ok-more.ensures in
@@ -281,8 +281,14 @@ brackets-returns-in_err-given-in-Some g t c = rw c.in-Some.is (stops _ c.in_err-
 pub brackets-returns-in_ok-given-in-Some : goal.brackets-returns-in_ok-given-in-Some
 brackets-returns-in_ok-given-in-Some g t c = rw c.in-Some.is (makes _ c.in_ok-given-in-Some.ensures c.in_ok-given-in-Some.ensures.found refl)
 
+pub brackets-returns-in-None : goal.brackets-returns-in-None
+brackets-returns-in-None g t c = rw c.in-None.is (stays _ tt)
+
 pub bound-returns-in-Some : goal.bound-returns-in-Some
 bound-returns-in-Some g t c = rw c.in-Some.is c.given.ensures
+
+pub bound-returns-in-None : goal.bound-returns-in-None
+bound-returns-in-None g t c = rw c.in-None.is (stays _ record { live = tt; given = λ more. refl })
 
 pub given-returns-in_err-value-in-Expr : goal.given-returns-in_err-value-in-Expr
 given-returns-in_err-value-in-Expr g t c = rw c.in-Expr.is (stops _ c.in_err-value-in-Expr.ensures (search))
@@ -318,6 +324,9 @@ pub given-returns-in_ok-entries-in-Table : goal.given-returns-in_ok-entries-in-T
 given-returns-in_ok-entries-in-Table g t c =
     rw (ap arg_of c.in-Table.is ∙ arg_of-Table _) (makes _ c.in_ok-entries-in-Table.ensures (table_known _ _ c.in_ok-entries-in-Table.ensures.found) (argument_of-Table _ _ _))
 
+pub given-returns-in-Nothing : goal.given-returns-in-Nothing
+given-returns-in-Nothing g t c = rw c.in-Nothing.is (stays _ record { live = tt; given = λ more. refl })
+
 pub item-returns-in_err-value-in-Expr : goal.item-returns-in_err-value-in-Expr
 item-returns-in_err-value-in-Expr g t c = rw c.in-Expr.is (stops _ c.in_err-value-in-Expr.ensures (search))
 
@@ -333,6 +342,14 @@ item-returns-in_err-items-in-Row g t c = rw (ap arg_of c.in-Row.is ∙ arg_of-Ro
 pub item-returns-in_ok-items-in-Row : goal.item-returns-in_ok-items-in-Row
 item-returns-in_ok-items-in-Row g t c =
     rw (ap arg_of c.in-Row.is ∙ arg_of-Row _) (makes _ c.in_ok-items-in-Row.ensures (row_known _ _ c.in_ok-items-in-Row.ensures.found) (item_of-Row _ _ _))
+
+pub item-returns-in-Many : goal.item-returns-in-Many
+item-returns-in-Many g t c = refuses_kind (λ fs. search rules)
+
+pub arguments-loop-i-init : goal.arguments-loop-i-init
+arguments-loop-i-init g t c =
+    let none = no_arguments (world_of c.args.work.now) _ c.new-arguments.ensures in
+    record { known = none.0; gathers = gathers_first none.1 }
 
 pub arguments-given-requires : goal.arguments-given-requires
 arguments-given-requires g t c =
@@ -366,6 +383,11 @@ pub arguments-returns : goal.arguments-returns
 arguments-returns g t c =
     gathered reads_arguments c.loop-i.invariant.gathers (omega (arith, c.len-i-end.ensures, c.loop-i-test.false)) (append-nil _) c.loop-i.invariant.known
 
+pub items-loop-i-init : goal.items-loop-i-init
+items-loop-i-init g t c =
+    let none = no_items (world_of c.args.work.now) _ c.new-items.ensures in
+    record { known = none.0; gathers = gathers_first none.1 }
+
 pub items-item-requires : goal.items-item-requires
 items-item-requires g t c =
     let deep = part_depth bare (parts_of c.args.parts.now) _ _ c.at.ensures in
@@ -393,6 +415,11 @@ items-loop-i-preserved g t c =
 pub items-returns : goal.items-returns
 items-returns g t c =
     gathered reads_items c.loop-i.invariant.gathers (omega (arith, c.len-i-end.ensures, c.loop-i-test.false)) (parts_end _) c.loop-i.invariant.known
+
+pub entries-loop-i-init : goal.entries-loop-i-init
+entries-loop-i-init g t c =
+    let none = no_pairs (world_of c.args.work.now) _ c.new-entries.ensures in
+    record { known = none.0; gathers = gathers_first none.1 }
 
 pub entries-given-requires : goal.entries-given-requires
 entries-given-requires g t c =

@@ -1,7 +1,7 @@
 use Rattle.{
-  script_state.proofs.{cells.Common.{refl, ◌∙◌, ap}, Evaluations.{apart, stops, makes}},
+  script_state.proofs.{cells.Common.{rules, refl, ◌∙◌, ap}, Evaluations.{apart, stops, makes}},
   script_tree.specs.View.{step_of},
-  script_session.proofs.{Parts.{key_known}, Trees.{step_of-Access}},
+  script_session.proofs.{Refusing.{refuses_kind}, Parts.{key_known}, Trees.{step_of-Access}},
 }
 use Rattle.script_session.proofs.target.last_step.Goals as goal
 
@@ -21,3 +21,6 @@ pub returns-in_ok-first-in-Access : goal.returns-in_ok-first-in-Access
 returns-in_ok-first-in-Access g c =
     let x = c.in_ok-first-in-Access.ensures in
     rw (ap step_of c.in-Access.is ∙ step_of-Access _ _ _, ← c.selector_of.ensures) (apart _ _ _ (makes _ x x.found refl))
+
+pub returns-in-Method : goal.returns-in-Method
+returns-in-Method g c = refuses_kind (λ fs. search rules)

@@ -1,5 +1,5 @@
 use Rattle.{
-  frame_concat.proofs.frame_parts.Common.{◌≡◌, length},
+  frame_calls.proofs.frame_parts.Common.{◌≡◌, length},
   meaning_laws.specs.script.Reading.{path_of_name},
   script_state.specs.Reads.{paths_of},
 }

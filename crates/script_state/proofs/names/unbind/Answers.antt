@@ -1,5 +1,5 @@
 use Rattle.{
-  frame_concat.proofs.frame_parts.Common.{◌∙◌, ap},
+  frame_calls.proofs.frame_parts.Common.{◌∙◌, ap},
   script_state.{specs.Bindings.{bindings_of}, proofs.Bindings.{value_at-bindings_of, bindings_of-remove_entry}},
 }
 use Rattle.script_state.proofs.names.unbind.Goals as goal

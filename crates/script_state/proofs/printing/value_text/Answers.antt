@@ -1,5 +1,5 @@
 use Rattle.{
-  frame_concat.proofs.frame_parts.Common.{arith, sym, ◌∙◌, tables},
+  frame_calls.proofs.frame_parts.Common.{arith, sym, ◌∙◌, tables},
   script_state.proofs.Printed.{object_text},
 }
 use Rattle.script_state.proofs.printing.value_text.Goals as goal

@@ -1,5 +1,5 @@
 use Rattle.{
-  frame_concat.proofs.frame_parts.Common.{sym, ◌∙◌, subst, tables},
+  frame_calls.proofs.frame_parts.Common.{sym, ◌∙◌, subst, tables},
   script_state.{specs.Bindings.{bindings_of, AreNoted}, proofs.Bindings.{noted_named, noted_ended, kept_ended}},
 }
 use Rattle.script_state.proofs.sweeping.sweep.Goals as goal

@@ -1,6 +1,6 @@
 use Rattle.{
   meaning_laws.proofs.cells.Common.{vec_len},
-  frame_concat.proofs.frame_parts.Common.{tables},
+  frame_calls.proofs.frame_parts.Common.{tables},
   script_state.specs.Bindings.{bindings_of, AreNoted, KeepNamed},
 }
 use Rattle.script_state.proofs.sweeping.sweep.Given as goal

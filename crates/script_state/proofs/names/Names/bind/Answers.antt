@@ -1,5 +1,5 @@
 use Rattle.{
-  frame_concat.proofs.frame_parts.Common.{arith, sym, ◌∙◌, ap},
+  frame_calls.proofs.frame_parts.Common.{arith, sym, ◌∙◌, ap},
   script_state.{specs.{Bindings.{uses_of}, Uses.{count_at}}, proofs.UseLaws.{takes_bound, counted_bound}},
 }
 use Rattle.script_state.proofs.names.Names.bind.Goals as goal

@@ -1,5 +1,5 @@
 use Rattle.{
-  frame_concat.proofs.frame_parts.Common.{sym, ◌∙◌, ap},
+  frame_calls.proofs.frame_parts.Common.{sym, ◌∙◌, ap},
   script_state.{specs.{Bindings.{uses_of}, Uses.{count_at}}, proofs.UseLaws.{counted_unbound}},
 }
 use Rattle.script_state.proofs.names.Names.unbind.Goals as goal

@@ -1,5 +1,5 @@
 use Rattle.{
-  frame_concat.proofs.frame_parts.Common.{arith, ◌∙◌, ap, nat_eq},
+  frame_calls.proofs.frame_parts.Common.{arith, ◌∙◌, ap, nat_eq},
   script_state.{specs.Uses.{or_none}, proofs.{Bindings.{nat_same}, UseLaws.{same_after}}},
 }
 use Rattle.script_state.proofs.uses.Uses.make_room_for.Goals as goal

@@ -1,5 +1,5 @@
 use Rattle.{
-  frame_concat.proofs.frame_parts.Common.{sym, subst, IfSome, tables, World},
+  frame_calls.proofs.frame_parts.Common.{sym, subst, IfSome, tables, World},
   meaning_laws.{specs.Validity.{IsHeldCell, IsValidGiven}, proofs.SetLaws.{assign_result_keeps}},
   frame_set.specs.Assigned.{moved_object, without},
   script_state.{specs.Work.{names_in, world_of}, proofs.{Worlds.{live_set, noted_set, given_after}, Bindings.{swept_live}, Validity.{object_valid, argument_valid, set_valid, unnamed_spare, spent_valid, spent_keeps, spent_noted, spent_on}}},

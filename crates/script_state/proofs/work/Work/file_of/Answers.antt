@@ -1,7 +1,7 @@
 use Rattle.{
-  frame_concat.proofs.frame_parts.Common.{ap, sym, ◌∙◌, Err, arguments_of},
+  frame_calls.proofs.frame_parts.Common.{ap, sym, ◌∙◌, arith, Err, arguments_of},
   meaning_laws.specs.{method.Readers.{read_result}, script.Reading.{at_once, then_read, of_file}},
-  script_state.{specs.{Reads.{files_in}, Work.{world_of}}, proofs.{Fetching.{refuses_long}, Rides.{bytes_by, then_gives}}},
+  script_state.{specs.{Reads.{files_in}, Work.{world_of}}, proofs.{Fetching.{refuses_long}, Rides.{bytes_by, then_gives, goes_same}}},
 }
 use Rattle.script_state.proofs.work.Work.file_of.Goals as goal
 
@@ -17,3 +17,14 @@ returns-in-Ok-clause-reads g c =
     ∙ then_gives Err _ (λ name. of_file fs name (λ bytes. read_result bytes given))
     ∙ ap (λ n. of_file fs n (λ bytes. read_result bytes given)) (sym c.text.ensures))
     (c.file_named.ensures.reads w.texts held (λ bytes. read_result bytes given) (refuses_long given _ is))
+
+pub returns-in-Err-clause-reads : goal.returns-in-Err-clause-reads
+returns-in-Err-clause-reads g c =
+    let w = world_of c.args.self.now in
+    let given = arguments_of w.tables w.texts c.args.args.now in
+    λ held.
+    let fs = files_in c.args.names.now held in (
+      goes_same (ap (λ r. then_read (at_once r) (λ name. of_file fs name (λ bytes. read_result bytes given))) c.in-Err.ensures.0),
+      grind arith,
+      c.in-Err.ensures.1,
+    )

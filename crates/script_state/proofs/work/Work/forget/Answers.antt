@@ -1,5 +1,5 @@
 use Rattle.{
-  frame_concat.proofs.frame_parts.Common.{arith, refl, sym, ◌∙◌, ap, subst, tables, World},
+  frame_calls.proofs.frame_parts.Common.{arith, refl, sym, ◌∙◌, ap, subst, tables, World},
   script_state.{proofs.{Bindings.{named_object, names-unbound, value_at-unbound, unbound_has, released_keeps, released_noted, released_named, released_settled}, States.{state_swept}, Validity.{released_valid}}, specs.{Bindings.{bindings_of, unbound, released, value_at, AreLive, AreNamed}, Work.{names_in, tables_in, world_of}}},
 }
 use Rattle.script_state.proofs.work.Work.forget.Goals as goal

@@ -1,5 +1,5 @@
 use Rattle.{
-  frame_concat.proofs.frame_parts.Common.{longer_self},
+  frame_calls.proofs.frame_parts.Common.{longer_self},
   script_state.proofs.Printed.{length_answer},
 }
 use Rattle.script_state.proofs.work.Work.length.Goals as goal

@@ -1,5 +1,5 @@
 use Rattle.{
-  frame_concat.proofs.frame_parts.Common.{settled_later},
+  frame_calls.proofs.frame_parts.Common.{settled_later},
   script_state.proofs.{Worlds.{longer_keeps, given_after}, Validity.{longer_valid}},
 }
 use Rattle.script_state.proofs.work.Work.literal.Goals as goal

@@ -1,5 +1,5 @@
 use Rattle.{
-  frame_concat.proofs.frame_parts.Common.{rules},
+  frame_calls.proofs.frame_parts.Common.{rules},
   script_state.proofs.States.{named_known},
 }
 use Rattle.script_state.proofs.work.Work.named.Goals as goal

@@ -1,5 +1,5 @@
 use Rattle.{
-  frame_concat.proofs.frame_parts.Common.{refl, sym, subst, IsSome, IsSettled, shown},
+  frame_calls.proofs.frame_parts.Common.{refl, sym, subst, IsSome, IsSettled, shown},
   meaning_laws.specs.Validity.{AreValid},
 }
 use Rattle.script_state.proofs.work.Work.new.Goals as goal

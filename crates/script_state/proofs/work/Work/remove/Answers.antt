@@ -1,5 +1,5 @@
 use Rattle.{
-  frame_concat.proofs.frame_parts.Common.{tables, World},
+  frame_calls.proofs.frame_parts.Common.{tables, World},
   script_state.{specs.Work.{names_in}, proofs.{Worlds.{live_set, noted_set}, Validity.{object_valid, set_valid}}},
   meaning_laws.proofs.SetLaws.{removal_result_keeps},
 }

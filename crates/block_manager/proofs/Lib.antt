@@ -1,0 +1,11 @@
+pub mod TimesLaws
+pub mod SingleLaws
+pub mod ChainLaws
+pub mod GridLaws
+pub mod PartedLaws
+pub mod ShareLaws
+pub mod ChangingLaws
+pub mod WritingLaws
+pub mod ManagerLaws
+pub mod SettingLaws
+pub mod OtherLaws

@@ -1,0 +1,13 @@
+pub mod Slots
+pub mod ViewLaws
+pub mod CopyLaws
+pub mod PoolLaws
+pub mod LotLaws
+pub mod ShowLaws
+pub mod LyingLaws
+pub mod BlockMoves
+pub mod OwnLaws
+pub mod TotalLaws
+pub mod KeepingLaws
+pub mod ChangeLaws
+pub mod HeldLaws

@@ -1,0 +1,3 @@
+pub mod Calls
+-- definitions of crates below, passed on to the crates above
+pub use Rattle.frame_labels.specs as frame_labels
