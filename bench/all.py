@@ -5,8 +5,9 @@
 
 PROGRAM is the built `pdscript`. A file has 100,000 and then 1,000,000 rows, or those that are told: a text among 50, one among
 100,000, a whole number among 20, one of its own for each row, a value, and a number of which one in eleven is missing; another
-file has the same numbers in another order for half of its rows, others for the rest, and a value. A script reads the files that
-it needs, does one job, and prints its answer. pandas is that of the Python that runs this, with Copy-on-Write, once with
+file has the same numbers in another order for half of its rows, others for the rest, and a value; a third one has a text of 40
+characters of its own for each row, a text that ten rows share, and a value. A script reads the files that it needs, does one
+job, and prints its answer. pandas is that of the Python that runs this, with Copy-on-Write, once with
 nullable kinds that are named for all columns and once with the kinds that it finds (numpy's); a fraction that it answers is
 printed as a whole number. A program that isn't installed is told in the table, and `-` stands where it isn't asked.
 
@@ -27,6 +28,7 @@ from beside import by_clock, commands, installed, read_line
 KINDS = {
     "t": {"c": "string", "w": "string", "k": "Int64", "i": "Int64", "v": "Int64", "m": "Int64"},
     "u": {"i": "Int64", "b": "Int64"},
+    "n": {"note": "string", "w": "string", "v": "Int64"},
 }
 OTHERS = ("pandas, nullable", "pandas, numpy", "data.table", "sqlite", "gawk")
 
@@ -81,6 +83,11 @@ JOBS = [
     }),
     sums("groups by two keys", ["c", "k"], "$1 SUBSEP $3"),
     sums("groups by 100,000 texts", ["w"], "$2"),
+    ("groups beside texts of their own", "n", "z = n.groupby('w')['v'].sum()\nprint(len(z))\nprint(z.max())\n", {
+        "data.table": R % ("g <- t[, .(s = sum(v)), keyby = w]", "nrow(g), max(g$s)"),
+        "sqlite": "SELECT count(*) || char(10) || max(s) FROM (SELECT sum(v) AS s FROM n GROUP BY w)",
+        "gawk": "NR > 1 { s[$2] += $3 } END { for (k in s) { n++; if (s[k] > z) z = s[k] } printf \"%d\\n%d\\n\", n, z }",
+    }),
     ("merge", "tu", "m = t.merge(u, on='i')\nprint(len(m))\nprint(m['b'].sum())\n", {
         "data.table": R_BOTH % ("", "m$b"),
         "sqlite": SQL % ("b", "t JOIN u USING (i)"),
@@ -131,8 +138,13 @@ def own(row):
     return 2654435761 * row % 2147483647
 
 
+def note(row):
+    """A text of 40 characters that no other row has."""
+    return "%016x" % (row * 11400714819323198485 % 2**64) * 2 + "%08d" % row
+
+
 def write_tables(folder, rows):
-    """Writes both files, and answers their paths by name."""
+    """Writes all files, and answers their paths by name."""
     paths = {name: os.path.join(folder, name + ".csv") for name in KINDS}
     with open(paths["t"], "w") as out:
         out.write(",".join(KINDS["t"]) + "\n")
@@ -143,6 +155,11 @@ def write_tables(folder, rows):
     with open(paths["u"], "w") as out:
         out.write(",".join(KINDS["u"]) + "\n")
         out.writelines("%d,%d\n" % (own(7919 * row % rows + row % 2 * rows), row) for row in range(rows))
+    with open(paths["n"], "w") as out:
+        out.write(",".join(KINDS["n"]) + "\n")
+        out.writelines(
+            "%s,cust-%06d,%d\n" % (note(row), 7919 * row % (rows // 10), 30011 * row % 65536) for row in range(rows)
+        )
     return paths
 
 

@@ -1,5 +1,5 @@
-//! Tests of cells, columns, axes and sorts, of the store and of printed frames: what no clause says, and what no script
-//! reaches.
+//! Tests of cells, columns, axes and sorts, of the pool and the store, and of printed frames: what no clause says, and
+//! what no script reaches.
 #![tactic(auto)]
 
 #[cfg(test)]
@@ -10,6 +10,8 @@ mod cells;
 mod columns;
 #[cfg(test)]
 mod picks;
+#[cfg(test)]
+mod pools;
 #[cfg(test)]
 mod printed;
 #[cfg(test)]
