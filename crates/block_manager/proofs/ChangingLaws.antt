@@ -8,7 +8,7 @@ pub record IsChanged (old new : PoolValue) (before after : List ℕ) (columns : 
   pub views : Exchanges old new before after
   pub kept : Keeps old new before
 
-changed_by : (old new : PoolValue) (before after : List ℕ) (grids : List CellBlock) (columns : List (ColumnOf Cell)) → AreSingles old before → Exchanges old new before after → Keeps old new before → grids_of new after ≡ grids → All IsSingle grids
+pub changed_by : (old new : PoolValue) (before after : List ℕ) (grids : List CellBlock) (columns : List (ColumnOf Cell)) → AreSingles old before → Exchanges old new before after → Keeps old new before → grids_of new after ≡ grids → All IsSingle grids
     → map block_column grids ≡ columns → IsChanged old new before after columns
 changed_by old new before after grids columns start views kept is single same = record {
   singles = singles_by new after (live_after old new before after start.live views) (subst (All IsSingle) (sym is) single);
@@ -17,10 +17,10 @@ changed_by old new before after grids columns start views kept is single same = 
   kept = kept;
 }
 
-put_at-in : {X : Type 0} (xs : List X) (place : ℕ) (x : X) → place < length xs → put_at xs place x ≡ slice_set xs place x
+pub put_at-in : {X : Type 0} (xs : List X) (place : ℕ) (x : X) → place < length xs → put_at xs place x ≡ slice_set xs place x
 put_at-in xs place x lt = rw (lt-ltb place (length xs) lt) refl
 
-put_at-last : {X : Type 0} (xs : List X) (place : ℕ) (x : X) → length xs ≤ place → put_at xs place x ≡ xs ++ x ∷ []
+pub put_at-last : {X : Type 0} (xs : List X) (place : ℕ) (x : X) → length xs ≤ place → put_at xs place x ≡ xs ++ x ∷ []
 put_at-last xs place x le = rw (le-ltb place (length xs) le) refl
 
 -- a view that is live isn't the new one

@@ -9,3 +9,5 @@ pub mod WritingLaws
 pub mod ManagerLaws
 pub mod SettingLaws
 pub mod OtherLaws
+pub mod AddingLaws
+pub mod TakingLaws

@@ -40,9 +40,9 @@ module _ (pool : PoolValue) (views : List ℕ) where
         elim (cases_lt 1 (length (grid_at pool id).columns)) [
           | inl more ↦
               let second : Place = record { view = id; column = 1 } in
-              let has = stands.covered second (record { view = there.view; column = more }) in
-              let found : first_place (get_or views has.0 0) ≡ second = sym (place_at has.0 second 0 (omega (arith, long, has.1))) ∙ has.2 in
-              absurd (omega (arith, ap (λ (p : Place). p.column) found))
+              absurd (stands.covered second (record { view = there.view; column = more }) (λ j e here same.
+              let first : get_or places j e ≡ first_place (get_or views j 0) = place_at j e 0 (omega (arith, long, here)) in
+              omega (arith, ap (λ (p : Place). p.column) (sym first ∙ same))))
           | inr one ↦ one_column (grid_at pool id) (grid_at pool id).columns refl there.column one even
         ];
   }
@@ -56,11 +56,11 @@ module _ (pool : PoolValue) (views : List ℕ) where
           view = times_here views k 0 (get_or views k 0) below refl;
           column = (let one : length (grid_at pool (get_or views k 0)).columns ≡ 1 = ap (λ (g : CellBlock). length g.columns) (s.single k 0 below) in omega (arith, one));
         });
-    covered = λ p there.
+    covered = λ p there none.
         let at = times_place p.view 0 views there.view in
         let one : length (grid_at pool (get_or views at.0 0)).columns ≡ 1 = ap (λ (g : CellBlock). length g.columns) (s.single at.0 0 at.1) in
         let first : p.column ≡ 0 = omega (arith, there.column, one, ap (λ id. length (grid_at pool id).columns) at.2) in
-        (at.0, omega (arith, long, at.1), place_at at.0 p 0 at.1 ∙ ap₂ (λ (v c : ℕ). record { view = v; column = c }) at.2 (sym first));
+        none at.0 p (omega (arith, long, at.1)) (place_at at.0 p 0 at.1 ∙ ap₂ (λ (v c : ℕ). record { view = v; column = c }) at.2 (sym first));
     once = λ i j d lt below e.
         let within : j < length views = omega (arith, long, below) in
         let same : get_or views i 0 ≡ get_or views j 0 = ap (λ (p : Place). p.view) (sym (place_at i d 0 (omega (arith, lt, within))) ∙ e ∙ place_at j d 0 within) in

@@ -1,11 +1,11 @@
 -- Changes of a pool one after another, of which the calls of a manager are made.
-use Rattle.std.specs.Prelude.{◌≡◌, ◌⊎◌, ℕ, List, [], ◌∷◌, ◌++◌, map, slice_index, slice_set, All}
+use Rattle.std.specs.Prelude.{◌≡◌, ◌⊎◌, ◌+◌, ℕ, List, [], ◌∷◌, ◌++◌, map, sum, slice_index, slice_set, All}
 use Rattle.std.specs.FinMap.{get, insert}
 use Rattle.cell_core.specs.declared.cell.Cell.{Cell}
 use Rattle.column_core.specs.Blocks.{CellBlock}
 use Rattle.meaning_tables.specs.Table.{ColumnOf}
 use Rattle.block_pool.specs.declared.views.ViewId.{ViewId}
-use Rattle.block_pool.specs.Pools.{PoolValue, IsNewBlock, Ends, IsFree, IsSole, cells_of, grid_at, live_count}
+use Rattle.block_pool.specs.Pools.{PoolValue, IsNewBlock, Ends, IsFree, IsSole, cells_of, grid_at, live_count, total_of}
 use Rattle.block_manager.specs.Parts.{block_column, IsSingle}
 use Rattle.block_manager.specs.Managed.{times, AreLive, Exchanges, Keeps, Stays, StayOnBlocks, RaisesBy, cells_named}
 
@@ -36,6 +36,12 @@ pub record Copies (old new : PoolValue) (id : ℕ) (grid : CellBlock) : Type 0 w
 abbrev pub Grows : PoolValue → List ℕ → PoolValue → Type 0
 Grows old [] new = Stays old new
 Grows old (id ∷ rest) new = (grid : CellBlock) × (mid : PoolValue) × IsFree old id × Copies old mid id grid × Grows mid rest new
+
+-- these views are new, each of all cells of one of the blocks
+pub record AddsAll (old new : PoolValue) (views : List ℕ) (blocks : List CellBlock) : Type 0 where
+  pub grows : Grows old views new
+  pub grids : grids_of new views ≡ blocks
+  pub held : total_of new ≡ total_of old + sum (map cells_of blocks)
 
 -- these views ended; the first ended last
 abbrev pub EndsEach : PoolValue → List ℕ → PoolValue → Type 0

@@ -1,5 +1,5 @@
 -- A manager as contracts see it: views of a pool, and columns that are placed on them.
-use Rattle.std.specs.Prelude.{◌≡◌, ◌≢◌, ℕ, ◌+◌, ◌<◌, ◌≤◌, ◌==◌, List, [], map, length, sum, count_by, slice_index_or, All, AllPairs, Contains}
+use Rattle.std.specs.Prelude.{◌≡◌, ◌≢◌, ℕ, ◌+◌, ◌<◌, ◌≤◌, ◌==◌, List, [], map, length, sum, count_by, slice_index_or, All, AllPairs}
 use Rattle.std.specs.FinMap.{get}
 use Rattle.cell_core.specs.declared.cell.Cell.{Cell}
 use Rattle.column_core.specs.Blocks.{CellBlock}
@@ -52,7 +52,7 @@ pub record IsColumnOf (pool : PoolValue) (views : List ℕ) (p : Place) : Type 0
 pub record StandsOn (pool : PoolValue) (m : ManagerValue) : Type 0 where
   pub live : AreLive pool m.views
   pub placed : All (IsColumnOf pool m.views) m.places
-  pub covered : (p : Place) → IsColumnOf pool m.views p → Contains m.places p
+  pub covered : (p : Place) → IsColumnOf pool m.views p → All (λ q. q ≢ p) m.places → ⊥
   pub once : AllPairs ◌≢◌ m.places
   pub even : All (λ p. length (placed_column pool p).cells ≡ (grid_at pool p.view).rows) m.places
 

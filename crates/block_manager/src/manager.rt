@@ -1,16 +1,16 @@
 // The columns of a table, on views of a pool.
-ghost use Rattle.std.specs.Prelude.{◌≡◌, ◌*◌, ◌<◌, ◌≤◌, [], length, map, All, remove, IfOk, IfErr, OnOk, OnErr};
+ghost use Rattle.std.specs.Prelude.{◌≡◌, ◌*◌, ◌<◌, ◌≤◌, ◌++◌, [], length, map, sum, All, remove, IfOk, IfErr, OnOk, OnErr};
 ghost use Rattle.cell_core.specs.declared.cell.Cell.TheVariants.{Na};
 ghost use Rattle.cell_core.specs.Grids.{AreRowsBelow};
 ghost use Rattle.meaning_tables.specs.Table.{column_at};
 ghost use Rattle.meaning_tables.specs.Change.{put_at, strided_column, with_values_from};
 ghost use Rattle.block_pool.specs.Pools.{cells_of};
 ghost use Rattle.block_manager.specs.Parts.{block_column, table_column, AreBelow, AreHeld, AreRowsIn, HaveRows, IsSingle};
-ghost use Rattle.block_manager.specs.Managed.{no_columns, columns_on, cells_named, StandsOn, Exchanges, Keeps, Stays, StayOnBlocks, RaisesBy, AreSole};
+ghost use Rattle.block_manager.specs.Managed.{no_columns, columns_on, cells_named, StandsOn, AreLive, Exchanges, Keeps, Stays, StayOnBlocks, RaisesBy, AreSole};
 
 use crate::parted::separated;
 use crate::setting::put_values;
-use crate::views::{append, release_all};
+use crate::views::{add_all, append, release_all};
 use block_pool::{Cols, Pool, ViewId};
 use cell_core::{Cells, NoMemory, Places, Rows};
 use column_core::{Block, ColRef};
@@ -176,6 +176,66 @@ impl Manager {
         let views = separated(self.alloc, pool, &self.views, columns)?;
         put_values(pool, &views, rows, columns, values);
         self.views = views;
+        Ok(())
+    }
+
+    /// Puts the blocks, each of which is one column, before all columns. `NoMemory` leaves the manager, all
+    /// views and their blocks as they were.
+    pub fn put_first(&mut self, pool: &mut Pool, first: Vec<Block>) -> Result<(), NoMemory>
+        requires stands { StandsOn pool.old self.old }
+        requires single { All IsSingle first.items }
+        ensures columns { OnOk result (columns_on pool.new self.new
+            ≡ map block_column first.items ++ columns_on pool.old self.old) }
+        ensures stands { StandsOn pool.new self.new }
+        ensures views { Exchanges pool.old pool.new self.old.views self.new.views }
+        ensures kept { Keeps pool.old pool.new self.old.views }
+        ensures held { OnOk result (RaisesBy (sum (map cells_of first.items)) pool.old pool.new) }
+        ensures err { OnErr result ((self.new ≡ self.old) × Stays pool.old pool.new) }
+    {
+        let mut views = add_all(self.alloc, pool, first)?;
+        if views.extend_from_slice(&self.views).is_err() {
+            release_all(pool, views);
+            return Err(NoMemory);
+        }
+        self.views = views;
+        Ok(())
+    }
+
+    /// Takes the column of another manager, as `put_column` takes a block. Where memory is refused the other
+    /// manager is handed back, and this one is as it was.
+    pub fn take_column(
+        &mut self,
+        pool: &mut Pool,
+        column: usize,
+        from: Manager,
+    ) -> Result<(), Manager>
+        requires stands { StandsOn pool.old self.old }
+        requires from { StandsOn pool.old from }
+        requires apart { AreLive pool.old (self.old.views ++ from.views) }
+        requires one { length from.places ≡ 1 }
+        requires column { column ≤ length self.old.places }
+        ensures columns { OnOk result (columns_on pool.new self.new
+            ≡ put_at (columns_on pool.old self.old) column
+            (column_at (columns_on pool.old from) 0)) }
+        ensures stands { StandsOn pool.new self.new }
+        ensures views { OnOk result (Exchanges pool.old pool.new
+            (self.old.views ++ from.views) self.new.views) }
+        ensures kept { Keeps pool.old pool.new (self.old.views ++ from.views) }
+        ensures held { RaisesBy 0 pool.old pool.new }
+        ensures err { OnErr result ((self.new ≡ self.old) × (pool.new ≡ pool.old)) }
+        ensures returned { IfErr result (λ back. back ≡ from) }
+    {
+        if self.views.reserve(1).is_err() {
+            return Err(from);
+        }
+        let view = from.views[0];
+        if column == self.views.len() {
+            append(&mut self.views, view);
+            return Ok(());
+        }
+        let before = self.views[column];
+        self.views[column] = view;
+        pool.release(before);
         Ok(())
     }
 

@@ -2,10 +2,12 @@
 ghost use Rattle.std.specs.Prelude.{◌≡◌, ◌<◌, ◌≤◌, ◌+◌, ◌∷◌, ◌++◌, [], vec_len, vec_capacity, IfOk, OnErr};
 ghost use Rattle.block_pool.specs.Pools.{IsLive, IsFree, grid_at};
 ghost use Rattle.block_manager.specs.Managed.{AreLive, Stays};
-ghost use Rattle.block_manager.specs.Changes.{Copies, EndsEach, numbers_of};
+ghost use Rattle.block_manager.specs.Changes.{AddsAll, Copies, EndsEach, numbers_of};
 
 use block_pool::{Pool, ViewId};
 use cell_core::NoMemory;
+use column_core::Block;
+use std::alloc::Global;
 
 /// A share of a view, on a block of its own. `NoMemory` leaves the views and their blocks as they were.
 pub(crate) fn separate(pool: &mut Pool, id: ViewId) -> Result<ViewId, NoMemory>
@@ -47,4 +49,27 @@ pub(crate) fn append<T: Drop>(items: &mut Vec<T>, item: T)
     if items.push(item).is_err() {
         unreachable!()
     }
+}
+
+/// Adds the blocks to the pool, with a view of each. `NoMemory` leaves all views and their blocks as they were.
+pub(crate) fn add_all(
+    alloc: Global,
+    pool: &mut Pool,
+    blocks: Vec<Block>,
+) -> Result<Vec<ViewId>, NoMemory>
+    ensures ok { IfOk result (λ views.
+        AddsAll pool.old pool.new (numbers_of views.items) blocks.items) }
+    ensures err { OnErr result (Stays pool.old pool.new) }
+{
+    let mut views = Vec::with_capacity(alloc, blocks.len())?;
+    for block in blocks {
+        match pool.add(block) {
+            Ok(view) => append(&mut views, view),
+            Err(_) => {
+                release_all(pool, views);
+                return Err(NoMemory);
+            }
+        }
+    }
+    Ok(views)
 }

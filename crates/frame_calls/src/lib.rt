@@ -1,7 +1,8 @@
 //! Calls by name: which method or function a name means, and to which crate the call goes.
 //!
 //! [`method_of`] tells the method that a value has under a name, and [`method_called`] calls it. [`method`] does both,
-//! and calls what stands behind `groupby`, `rolling` and `expanding` (`methods`). A function of `pd` that a name means
+//! and calls what stands behind `groupby`, `rolling` and `expanding`, as [`method_behind`] does of a name that is
+//! borrowed (`methods`, [`Between`]). A function of `pd` that a name means
 //! is called by [`function_called`], and [`make`] finds it first (`functions`). So who calls what he has tested looks a
 //! name up once. [`exists`], [`function_exists`] and [`file_name`] ask of a name alone.
 //!
@@ -18,9 +19,11 @@
 //! ```
 #![tactic(auto)]
 
+mod between;
 mod functions;
 mod methods;
 
+pub use between::Between;
 pub use frame_signatures::function_named;
 pub use functions::{file_name, function_called, function_exists, make};
-pub use methods::{exists, method, method_called, method_of};
+pub use methods::{exists, method, method_behind, method_called, method_of};

@@ -7,8 +7,9 @@ ghost use Rattle.frame_store.specs.Arguments.{entry_of, object_value, shape_at, 
 ghost use Rattle.frame_store.specs.Objects.{tables};
 ghost use Rattle.frame_store.specs.World.{world, entry_in, arguments_in, IsSettledWorld, AreKnownArguments, Forms};
 ghost use Rattle.frame_labels.specs.Chains.{chain_in, IsKnownChain};
-ghost use Rattle.frame_calls.specs.Calls.{method_in};
+ghost use Rattle.frame_calls.specs.Calls.{method_in, chain_of, IsKnownBetween};
 
+use crate::between::Between;
 use cell_core::{Grid, TextDict};
 use frame_groups::GroupedCall;
 use frame_labels::no_attribute;
@@ -130,6 +131,48 @@ fn plain(
     }
 }
 
+/// A method behind `groupby`, `rolling` or `expanding`: `s.rolling(..).name(..)`.
+///
+/// It is answered as [`method`] answers it of the chain of these parts, with the same refusals.
+pub fn method_behind(
+    alloc: Global,
+    store: &mut Store,
+    dict: &mut TextDict,
+    on: Value,
+    between: Between<'_>,
+    name: &str,
+    args: &NamedList,
+) -> Result<Value, OpFault>
+    requires live { IsLive (tables store.old) on }
+    requires settled { IsSettledWorld (world store.old dict.old) }
+    requires before { IsKnownBetween (world store.old dict.old) between }
+    requires arguments { AreKnownArguments (world store.old dict.old) args.now }
+    ensures { let w = world store.old dict.old in
+        Forms result (call_result (entry_in w on) (chain_of w between.entry name.now)
+        (arguments_in w args.now)) w (world store.new dict.new) }
+{
+    let args = args.as_slice();
+    match between {
+        Between::Groupby(by, brackets) => {
+            let call = GroupedCall {
+                by: by.as_slice(),
+                brackets: brackets.as_ref(),
+                name,
+                args,
+            };
+            frame_groups::method(alloc, store, dict, on, call)
+        }
+        Between::Rolling(told) => {
+            let told = WindowsTold::Rolling(told.as_slice());
+            frame_windows::method(alloc, store, dict, on, told, name, args)
+        }
+        Between::Expanding(told) => {
+            let told = WindowsTold::Expanding(told.as_slice());
+            frame_windows::method(alloc, store, dict, on, told, name, args)
+        }
+    }
+}
+
 /// A method of a value by its name, alone or behind `groupby`, `rolling` or `expanding`: `s.name(..)`.
 ///
 /// The answer is a scalar, or a new object whose table is that of its own rows; no other object
@@ -160,25 +203,19 @@ pub fn method(
         Forms result (call_result (entry_in w on) (chain_in w chain.now)
         (arguments_in w args.now)) w (world store.new dict.new) }
 {
-    let args = args.as_slice();
     match chain {
-        Chain::Plain(name) => plain(alloc, store, dict, on, name.as_str(), args),
+        Chain::Plain(name) => plain(alloc, store, dict, on, name.as_str(), args.as_slice()),
         Chain::Group(by, brackets, name) => {
-            let call = GroupedCall {
-                by: by.as_slice(),
-                brackets: brackets.as_ref(),
-                name: name.as_str(),
-                args,
-            };
-            frame_groups::method(alloc, store, dict, on, call)
+            let between = Between::Groupby(by, brackets);
+            method_behind(alloc, store, dict, on, between, name.as_str(), args)
         }
         Chain::Rolling(told, name) => {
-            let told = WindowsTold::Rolling(told.as_slice());
-            frame_windows::method(alloc, store, dict, on, told, name.as_str(), args)
+            let between = Between::Rolling(told);
+            method_behind(alloc, store, dict, on, between, name.as_str(), args)
         }
         Chain::Expanding(told, name) => {
-            let told = WindowsTold::Expanding(told.as_slice());
-            frame_windows::method(alloc, store, dict, on, told, name.as_str(), args)
+            let between = Between::Expanding(told);
+            method_behind(alloc, store, dict, on, between, name.as_str(), args)
         }
     }
 }

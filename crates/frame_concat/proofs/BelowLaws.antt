@@ -1,11 +1,11 @@
 -- Parts one below the other: their columns, and the table of them.
 use Rattle.{
-  frame_parts.proofs.Common.{slice_get_within, get_or_from_slice_get, same_Some, length-map, length-append, length-replicate, map-append, take_more, All-tail, All-map, All-same, All-nil, All-replicate, list_all-map, nat_tests, map-map, suc, zero, ◌≡◌, ◌∙◌, ◌<◌, ◌≤◌, ◌+◌, ◌^◌, refl, ap, sym, ℕ, true, false, List, [], ◌∷◌, ◌++◌, map, take, length, replicate, unwrap_or, slice_index_or, All, Option, Some, None, Result, Ok, Err, nat_lt, if◌then◌else◌, arith, Bool, slice_get, option_map, list_all, flat_map, Makes, columns_value, headings_value, table_column, columns_of, table_with, HaveRows, IsKnownTable, columns_part, columns_given, columns_settled, table_settled, na_cell, CellValue, datum, LabelValue, Text, ColumnValue, wrong_kind, FaultValue, limit, Cell, Na, Kind, Label, Shape, Series, Frame, AreDistinct, AreGiven, IsGiven, CellColumn, CellBlock, most_rows, all_flat, same_kind, ColumnOf, NumberedTable, column_value, column_at, heading_value, table_value, Table, IsWhole, AreHeadings, IsSettled, Entry, kind_itself, missing_column, value_of_column, try_all, within_limits, common_name, blocks_value, AxisValue},
-  column_core.{proofs.cells.Common.{sum_by-cons}, specs.Columns.{column_value as seen_column}},
+  frame_parts.proofs.Common.{slice_get_within, get_or_from_slice_get, same_Some, length-map, length-append, length-replicate, map-append, take_more, All-tail, All-map, All-same, All-nil, All-replicate, list_all-map, nat_tests, map-map, suc, zero, ◌≡◌, ◌∙◌, ◌<◌, ◌≤◌, ◌+◌, ◌^◌, refl, ap, sym, ℕ, true, false, List, [], ◌∷◌, ◌++◌, map, take, length, replicate, unwrap_or, slice_index_or, All, Option, Some, None, Result, Ok, Err, if◌then◌else◌, arith, Bool, slice_get, option_map, list_all, flat_map, Makes, columns_value, headings_value, table_column, columns_of, table_with, HaveRows, IsKnownTable, columns_part, columns_given, columns_settled, table_settled, na_cell, CellValue, datum, LabelValue, Text, ColumnValue, wrong_kind, FaultValue, limit, Cell, Na, Kind, Label, Shape, Series, Frame, AreDistinct, AreGiven, IsGiven, CellColumn, CellBlock, all_flat, same_kind, ColumnOf, NumberedTable, column_value, column_at, heading_value, table_value, Table, IsWhole, AreHeadings, IsSettled, Entry, kind_itself, missing_column, value_of_column, try_all, within_limits, common_name, blocks_value, AxisValue},
+  column_core.proofs.cells.Common.{sum_by-cons, length-flat_map, and_parts},
   frame_concat.{proofs.{PartLaws.{Parts, Headings, none_common, column_under_seen, kind_under_seen, rows_count, levels_count}, PlaceLaws.{map_given, each_of, flat_seen}}, specs.{declared.{parts.{Sought.{Sought, TheVariants.{Only, Under}}, Naming.TheVariants.{Columns}}, asked.Asked.{Asked}}, Parts.{column_sought, parts_value, AreKnownParts, AreOf, name_at}, Columns.{kind_sought, fits_kind, kinds_meet, piece_from, piece_of, cells_or_missing, sought_by, stacked, columns_stacked, rows_in, all_kinds_meet}, Below.{columns_made, table_made}, Asked.{asked_value, keys_value, AreKeysFor}, Axes.{axis_seen, levels_for}}},
   std.proofs.lemmas.{List.{Quantifiers.{position-Some}, Folds.{fold_stays}}, Bool.{and_right}},
-  merge_concat.specs.{declared.parts.Part.{Part}, Parts.{part_column}},
-  meaning_method.specs.{join.Concat.{column_below, rows_concatenated, ConcatRefusal}, Concat.{columns_below, column_or_missing, frame_column_below, Concatenation, rows_below, table_below, finished_below, name_of_all}},
+  merge_concat.specs.{declared.parts.Part.{Part}, Parts.{part_kind, part_cells, cells_below, count_below}},
+  meaning_method.specs.{join.Concat.{column_below}, Concat.{columns_below, column_or_missing, frame_column_below, Concatenation, rows_below, table_below, finished_below, name_of_all}},
   frame_select.proofs.HeadingLaws.{head_settled, rest_settled},
 }
 
@@ -34,20 +34,12 @@ module _ (texts : List Text) where
   kind_fits : (kind : Kind) (o : Option (ColumnOf Cell)) (n : ℕ) → same_kind kind (seen_or kind o n).kind ≡ fits_kind kind o
   kind_fits = grind (arith, kind_itself)
 
-  -- what the kernel puts together is what is meant
-  piece_seen : (kind : Kind) (o : Option (ColumnOf Cell)) (n : ℕ) → seen_column texts (part_column kind (piece_from o n)) ≡ value_of_column (seen_or kind o n)
-  piece_seen _ None n = search missing_seen
-  piece_seen _ (Some c) n = refl
-
   module _ (sought : Sought) where
     abbrev pub seen_in : Kind → NumberedTable → ColumnOf CellValue
     seen_in kind t = seen_or kind (column_sought sought t) (length t.labels)
 
     abbrev seen_value : Kind → NumberedTable → ColumnValue
     seen_value kind t = value_of_column (seen_in kind t)
-
-    pieces_seen : (kind : Kind) (ts : Parts) → map (λ part. seen_column texts (part_column kind part)) (map (piece_of sought) ts) ≡ map (seen_value kind) ts
-    pieces_seen kind ts = map-map _ (piece_of sought) ts ∙ (λ i. map (λ t. piece_seen kind (column_sought sought t) (length t.labels) i) ts)
 
     all_cells : (kind : Kind) (ts : Parts) → flat_map (λ c. c.cells) (map (seen_value kind) ts) ≡ map (datum texts) (flat_map (cells_or_missing sought) ts)
     all_cells kind ts = flat_seen (datum texts) (cells_or_missing sought) (seen_value kind) (λ c. c.cells) (λ t. cells_seen kind (column_sought sought t) (length t.labels)) ts
@@ -75,24 +67,36 @@ lengths : (sought : Sought) (ts : Parts) → All IsWhole ts → length (flat_map
 lengths _ [] _ = refl
 lengths sought (t ∷ ts) all = grind (arith, length-append, sum_by-cons (λ t. length t.labels) t ts, column_long sought t (all 0 t (omega arith)) _ refl, lengths sought ts (All-tail IsWhole t ts all))
 
--- columns of one kind and not too many cells are put together
-abbrev put_below : List Text → Kind → List Part → Result ColumnValue (ConcatRefusal (List Label))
-put_below texts kind pieces = rows_concatenated (map (λ part. seen_column texts (part_column kind part)) pieces)
+-- the pieces of parts whose columns have one kind
+piece_cells : (o : Option (ColumnOf Cell)) (n : ℕ) → part_cells (piece_from o n) ≡ cells_or o n
+piece_cells None n = refl
+piece_cells (Some c) n = refl
 
--- what the kernel makes of the parts' columns, and no refusal
-module _ (sought : Sought) (ts : Parts) (kind : Kind) (pieces : List Part) (meet : kinds_meet ts sought ≡ true) (all : All IsWhole ts) (few : rows_in ts ≤ 2 ^ 26) (same : kind ≡ kind_sought sought ts) (listed : pieces ≡ map (piece_of sought) ts) where
-  pub stacked_told : (texts : List Text) → put_below texts kind pieces ≡ Ok (stacked_seen texts sought ts)
-  stacked_told texts =
-      let made = stacked_seen texts sought ts in
-      let few : nat_lt most_rows (length made.cells) ≡ false = grind (arith, nat_tests, length-map, lengths sought ts all) in
-      grind (arith, same, listed, pieces_seen texts sought made.kind ts, put_together texts sought ts)
+piece_fits : (kind : Kind) (o : Option (ColumnOf Cell)) (n : ℕ) → fits_kind kind o ≡ true → part_kind kind (piece_from o n) ≡ kind
+piece_fits kind None n fits = refl
+piece_fits kind (Some c) n fits = grind arith
 
-  pub stacked_is : (texts : List Text) (column : CellColumn) → put_below texts kind pieces ≡ Ok (seen_column texts column) → column_value texts (table_column column) ≡ column_value texts (stacked ts sought)
-  stacked_is = grind (arith, stacked_told)
+all_fit : (sought : Sought) (kind : Kind) (ts : Parts) → list_all (λ t. fits_kind kind (column_sought sought t)) ts ≡ true → All (λ part. part_kind kind part ≡ kind) (map (piece_of sought) ts)
+all_fit _ _ [] fit = grind arith
+all_fit sought kind (t ∷ ts) fit = grind (arith, and_parts, piece_fits kind (column_sought sought t) (length t.labels), all_fit sought kind ts)
+
+below_is : (sought : Sought) (ts : Parts) → cells_below (map (piece_of sought) ts) ≡ flat_map (cells_or_missing sought) ts
+below_is _ [] = refl
+below_is sought (t ∷ ts) = cc (piece_cells (column_sought sought t) (length t.labels), below_is sought ts)
+
+module _ (sought : Sought) (ts : Parts) (pieces : List Part) where
+  pub pieces_fit : (kind : Kind) → kinds_meet ts sought ≡ true → kind ≡ kind_sought sought ts → pieces ≡ map (piece_of sought) ts → All (λ part. part_kind kind part ≡ kind) pieces
+  pieces_fit kind meet same are = rw (are, same) (all_fit sought (kind_sought sought ts) ts meet)
+
+  pub pieces_counted : pieces ≡ map (piece_of sought) ts → All IsWhole ts → count_below pieces ≡ rows_in ts
+  pieces_counted are all = grind (arith, are, length-flat_map part_cells (map (piece_of sought) ts), below_is sought ts, lengths sought ts all)
+
+  pub stacked_is : (kind : Kind) (column : CellColumn) → kind ≡ kind_sought sought ts → pieces ≡ map (piece_of sought) ts → column ≡ record { kind = kind; cells = cells_below pieces } → table_column column ≡ stacked ts sought
+  stacked_is kind column same are made = grind (arith, same, are, made, below_is sought ts)
 
 -- the column of one heading more
 pub one_more_stacked : (texts : List Text) (ts : Parts) (shape : Shape) (hs : Headings) (k : ℕ) (sought : Sought) (made made' : List CellBlock) (block : CellBlock) (column : CellColumn) → k < length hs
-    → sought ≡ sought_by shape (slice_index_or hs k None) → column_value texts (table_column column) ≡ column_value texts (stacked ts sought) → block ≡ record { kind = column.kind; rows = length column.cells; columns = column.cells ∷ [] } → made' ≡ made ++ block ∷ []
+    → sought ≡ sought_by shape (slice_index_or hs k None) → table_column column ≡ stacked ts sought → block ≡ record { kind = column.kind; rows = length column.cells; columns = column.cells ∷ [] } → made' ≡ made ++ block ∷ []
     → blocks_value texts made ≡ columns_value texts (columns_stacked ts shape (take k hs)) → blocks_value texts made' ≡ columns_value texts (columns_stacked ts shape (take (k + 1) hs))
 one_more_stacked _ _ _ hs k _ _ _ _ _ lt = grind (arith, map-append, take_more hs k None lt)
 

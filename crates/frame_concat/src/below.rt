@@ -21,7 +21,8 @@ use crate::names::{are_frames, are_series, have_same_levels, name_of_all};
 use crate::parts::{Naming, Part};
 use cell_core::{Code, Grid, Label, NoMemory, Reason, Shape, TextDict};
 use frame_parts::within_limits;
-use frame_store::{Headings, OpFault, Table};
+use frame_select::heading_list;
+use frame_store::{OpFault, Table};
 use merge_concat::axis_below;
 use multi_index::Axis;
 use std::alloc::Global;
@@ -61,22 +62,6 @@ fn axis_of_all(
     Ok(named(dict, axis, parts, parts[0].table().levels()))
 }
 
-// These headings, under a name for all columns.
-fn heading_list(
-    alloc: Global,
-    columns_name: Option<Label>,
-    headings: &[Option<Label>],
-) -> Result<Headings, NoMemory>
-    ensures { IfOk result (λ made. made
-        ≡ record { columns_name = columns_name; labels = headings.now }) }
-{
-    let mut made = Headings::new(alloc, columns_name);
-    for heading in headings {
-        made.push(*heading)?;
-    }
-    Ok(made)
-}
-
 // The table of all rows: a column for each heading, made of each part's column under it.
 #[tactic(auto, using(crate::proofs::Hints::table_below))]
 fn table_below(
@@ -113,7 +98,7 @@ fn table_below(
         return Err(OpFault::Refused(Code::Limit));
     }
     let axis = axis_of_all(alloc, dict, parts, asked, rows)?;
-    let blocks = stacked_columns(alloc, parts, shape, headings)?;
+    let blocks = stacked_columns(alloc, parts, shape, headings, rows)?;
     let columns_name = name_of_all(dict, parts, Naming::Columns);
     let headings = heading_list(alloc, columns_name, headings)?;
     Ok(Table::new(shape, axis, headings, blocks))

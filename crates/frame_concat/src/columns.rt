@@ -1,7 +1,6 @@
 // Columns of parts, one below the other.
 ghost use Rattle.std.specs.Prelude.{◌≡◌, ◌≤◌, ◌^◌, true, List, map, All, IfOk};
 ghost use Rattle.column_core.specs.cells.Text.{Text};
-ghost use Rattle.frame_store.specs.tables.Table.{column_value};
 ghost use Rattle.frame_store.specs.tables.Valid.{IsWhole};
 ghost use Rattle.frame_store.specs.Parts.{table_column, IsSingle};
 ghost use Rattle.frame_store.specs.Shown.{columns_value};
@@ -13,7 +12,7 @@ use crate::parts::{Part, Sought};
 use cell_core::{Grid, Kind, Label, NoMemory, Shape};
 use column_core::Column;
 use frame_store::Blocks;
-use merge_concat::{MergeFault, Part as Piece, concat_parts};
+use merge_concat::{Part as Piece, concat_parts};
 use std::alloc::Global;
 
 // Which column of each part is sought for a column of the answer.
@@ -98,43 +97,43 @@ fn pieces_of<'a>(
     Ok(pieces)
 }
 
-// The columns that are sought, one below the other. They have one kind, and not too many cells.
-fn stacked(alloc: Global, parts: &[Part<'_>], sought: Sought) -> Result<Column, NoMemory>
+// The columns that are sought, one below the other. They have one kind, and so many cells.
+fn stacked(
+    alloc: Global,
+    parts: &[Part<'_>],
+    sought: Sought,
+    rows: usize,
+) -> Result<Column, NoMemory>
     requires whole { All IsWhole parts.now }
     requires meet { kinds_meet parts.now sought ≡ true }
-    requires few { rows_in parts.now ≤ 2 ^ 26 }
-    ensures { IfOk result (λ column. (texts : List Text) → column_value texts
-        (table_column column) ≡ column_value texts (stacked parts.now sought)) }
+    requires rows { rows ≡ rows_in parts.now }
+    requires few { rows ≤ 2 ^ 26 }
+    ensures { IfOk result (λ column. table_column column ≡ stacked parts.now sought) }
 {
     let kind = kind_sought(parts, sought);
     let pieces = pieces_of(alloc, parts, sought)?;
-    match concat_parts(alloc, kind, &pieces) {
-        Ok(column) => Ok(column),
-        Err(MergeFault::NoMemory) => Err(NoMemory),
-        Err(MergeFault::MixedKinds) => unreachable!(),
-        Err(MergeFault::TooLarge) => unreachable!(),
-        Err(MergeFault::DuplicateLabels(_)) => unreachable!(),
-        Err(MergeFault::NotOneToOne(_, _)) => unreachable!(),
-    }
+    concat_parts(alloc, kind, &pieces, rows)
 }
 
-// All columns, each in a block of its own. They have one kind each, and not too many cells.
+// All columns, each in a block of its own. They have one kind each, and so many cells.
 pub(crate) fn stacked_columns(
     alloc: Global,
     parts: &[Part<'_>],
     shape: Shape,
     headings: &[Option<Label>],
+    rows: usize,
 ) -> Result<Blocks, NoMemory>
     requires whole { All IsWhole parts.now }
     requires meet { all_kinds_meet parts.now shape headings.now ≡ true }
-    requires few { rows_in parts.now ≤ 2 ^ 26 }
+    requires rows { rows ≡ rows_in parts.now }
+    requires few { rows ≤ 2 ^ 26 }
     ensures single { IfOk result (All IsSingle) }
     ensures columns { IfOk result (λ made. (texts : List Text) → blocks_value texts made
         ≡ columns_value texts (columns_stacked parts.now shape headings.now)) }
 {
     let mut made = Blocks::new(alloc);
     for heading in headings {
-        let column = stacked(alloc, parts, sought_by(shape, *heading))?;
+        let column = stacked(alloc, parts, sought_by(shape, *heading), rows)?;
         made.push(column.into_block())?;
     }
     Ok(made)

@@ -9,7 +9,7 @@ ghost use Rattle.frame_store.specs.World.{world, arguments_in, AreKnownArguments
 ghost use Rattle.frame_groups.specs.Calls.{call_of, call_seen};
 
 use cell_core::{Code, Reason, TextDict};
-use frame_labels::no_attribute;
+use frame_labels::without_arguments;
 use frame_signatures::bind;
 use frame_store::{Named, OpFault, Store};
 use group_by::GroupOp;
@@ -83,8 +83,8 @@ fn transformed(name: &str) -> Result<GroupCall, OpFault>
     }
 }
 
-// A call without arguments.
-fn without_arguments(
+// The call that a name means which takes no argument, with these arguments.
+fn called_without(
     alloc: Global,
     store: &Store,
     dict: &TextDict,
@@ -96,11 +96,7 @@ fn without_arguments(
         MakesBy call_seen dict.now result
         (meant.without_arguments (meant.plain_call name.now) name.now gs) }
 {
-    let Some(call) = plain_call(name) else {
-        return Err(no_attribute(alloc, name));
-    };
-    let _bound = bind(store, dict, &[], args)?;
-    Ok(call)
+    without_arguments(alloc, store, dict, plain_call(name), name, args)
 }
 
 // The last call, of this name and with these arguments.
@@ -120,6 +116,6 @@ pub(crate) fn group_call(
             let bound = bind(store, dict, transform_parameters(), args)?;
             transformed(bound.text(dict, TRANSFORM_NAME))
         }
-        _ => without_arguments(alloc, store, dict, name, args),
+        _ => called_without(alloc, store, dict, name, args),
     }
 }

@@ -36,8 +36,8 @@ fn first_repeated(alloc: Global, headings: &[Option<Label>]) -> Result<Option<La
     Ok(repeated)
 }
 
-// A list of headings, and the name that the columns have together.
-fn heading_list(
+/// These headings, and the name that the columns have together. `NoMemory` is the only refusal.
+pub fn heading_list(
     alloc: Global,
     columns_name: Option<Label>,
     headings: &[Option<Label>],

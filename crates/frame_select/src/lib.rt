@@ -27,7 +27,7 @@ mod selecting;
 mod subscripts;
 mod taking;
 
-pub use headings::different_headings;
+pub use headings::{different_headings, heading_list};
 pub use keys::{joined_key, listed_keys};
 pub use labels::{
     argument_column, argument_columns, headings_at, place_of_label, selected_column,

@@ -1,6 +1,6 @@
 -- Columns that are put and removed, and whole tables.
 use Rattle.{
-  meaning_tables.{proofs.cells.Common.{cond_both, map-set, map-append, length-map, length-set, take-map, drop-map, All-set, All-push, All-map, All-append, All-take, All-drop, length-remove, rules, ◌≡◌, ◌∙◌, ℕ, suc, ◌<◌, ◌+◌, ◌*◌, List, length, take, drop, map, sym, arith, nat_lt, Option, All, remove, Rows, Shape, Series, Cell, Na, Label, pos, refl, ap, [], ◌∷◌, slice_index_or}, specs.{cells.Block.{strided}, Table.{ColumnOf, NumberedTable, column_at, no_column}, Change.{put_at, strided_column, cut_columns, with_column, without_column}, Valid.{AreHeadings, IsWhole}}},
+  meaning_tables.{proofs.cells.Common.{cond_both, map-set, map-append, length-map, length-set, take-map, drop-map, All-set, All-push, All-map, All-append, All-take, All-drop, length-remove, rules, ◌≡◌, ◌∙◌, ℕ, suc, ◌<◌, ◌+◌, ◌*◌, List, length, take, drop, map, sym, subst, arith, nat_lt, AreRowsBelow, Option, All, remove, Rows, Shape, Series, Cell, Na, Label, pos, refl, ap, [], ◌∷◌, slice_index_or}, specs.{cells.Block.{strided}, Table.{ColumnOf, NumberedTable, column_at, no_column}, Change.{put_at, strided_column, cut_columns, with_column, without_column}, Valid.{AreHeadings, IsWhole}}},
   std.proofs.lemmas.List.{length-append, FromFn.{fill_by_all}},
   multi_index.specs.Axes.{AxisValue},
   column_core.{specs.Blocks.{CellBlock}, proofs.ColumnLaws.{length-tabulate}},
@@ -44,7 +44,7 @@ cut_is_whole _ axis _ columns _ rows places is labels headed fits =
 abbrev pub all_rows : ℕ → Rows
 all_rows count = record { start = 0; step = pos 1; count = count }
 
-all_cells : (cells : List Cell) (count : ℕ) → length cells ≡ count → strided Na cells (all_rows count) ≡ cells
+pub all_cells : (cells : List Cell) (count : ℕ) → length cells ≡ count → strided Na cells (all_rows count) ≡ cells
 all_cells cells count is = sym (fill_by_all _ cells count Na is (λ k lt. let e : k ≡ 0 + k * 1 = omega arith in ap (λ place. slice_index_or cells place Na) e))
 
 module _ (t : NumberedTable) (count : ℕ) (whole : IsWhole t) (is : count ≡ length t.labels) where
@@ -54,6 +54,19 @@ module _ (t : NumberedTable) (count : ℕ) (whole : IsWhole t) (is : count ≡ l
   pub all_cut : (places : List ℕ) → AreColumnsOf t places → cut_columns Na t.columns (all_rows count) places ≡ map (column_at t.columns) places
   all_cut [] below = refl
   all_cut (p ∷ ps) below = λ j. all_of_column p (below 0 p (omega arith)) j ∷ all_cut ps (λ k d lt. below (suc k) d (omega arith)) j
+
+pub all_rows_same : (count : ℕ) (columns : List (ColumnOf Cell)) → All (λ c. length c.cells ≡ count) columns → map (strided_column Na (all_rows count)) columns ≡ columns
+all_rows_same count [] rows = refl
+all_rows_same count (c ∷ cs) rows = λ j.
+    record c { cells = all_cells c.cells count (rows 0 c (omega arith)) j } ∷ all_rows_same count cs (λ k d lt. rows (suc k) d (omega arith)) j
+
+-- and they are places of them
+pub all_rows_fit : (count : ℕ) (columns : List (ColumnOf Cell)) → All (λ c. length c.cells ≡ count) columns → All (λ c. AreRowsBelow (all_rows count) (length c.cells)) columns
+all_rows_fit count columns rows k d lt = subst (AreRowsBelow (all_rows count)) (sym (rows k d lt)) (record {
+  places = λ row within. tt;
+  below = λ row within. omega (arith, within);
+  moves = λ more none. cc;
+})
 
 -- what is cut of all rows is what is derived
 pub cut_is_derived : (t : NumberedTable) (d : Derivation) (count : ℕ) → IsWhole t → CanDerive t d → count ≡ length t.labels → derived_table t d ≡ cut_table d.shape d.axis d.headings t (all_rows count) d.columns

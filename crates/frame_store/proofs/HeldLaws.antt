@@ -1,18 +1,20 @@
--- Cells that are counted.
-use Rattle.{
-  meaning_tables.{proofs.cells.Common.{◌≡◌, ℕ, ◌+◌, ◌≤◌, List, [], ◌∷◌, min, sum_by, arith, sum_by-cons}, specs.Table.{NumberedTable}},
-  frame_store.specs.Objects.{cells_in},
-}
+-- Where no object is live, nothing is held.
+use Rattle.{meaning_tables.proofs.cells.Common.{◌≡◌, ◌∙◌, refl, sym, ap, arith, ℕ, suc, ◌-◌, ◌^◌, min, List, [], ◌∷◌, Option, Some, None, option_map, sum_by, sum_by-cons, cond, is_some}, std.specs.FinMap.{get}, block_pool.{specs.{Pools.{PoolValue, ViewValue, KeepsBlocks, IsFree, held_of}, Placed.{slot}}, proofs.HeldLaws.{none_held}}, frame_store.specs.Stores.{ObjectValue, IsStore, table_over, tables_over, stands_in}}
 
--- a sum that stops at a limit
-stops : (held count rest limit : ℕ) → min (min (held + min count limit) limit + rest) limit ≡ min (held + (count + rest)) limit
-stops = omega arith
+no_object : (pool : PoolValue) (o : Option ObjectValue) → option_map (table_over pool) o ≡ None → o ≡ None
+no_object pool None none = refl
+no_object pool (Some o) none = cc
 
--- one more object is counted
-pub one_more_counted : (held cells held' whole limit : ℕ) (object : ℕ × NumberedTable) (left rest : List (ℕ × NumberedTable))
-    → min (held + sum_by cells_in left) limit ≡ whole → left ≡ object ∷ rest → cells ≡ min (cells_in object) limit → held' ≡ min (held + cells) limit → min (held' + sum_by cells_in rest) limit ≡ whole
-one_more_counted held _ _ _ limit object _ rest before is counted added = cc (stops held (cells_in object) (sum_by cells_in rest) limit, sum_by-cons cells_in object rest)
+none_stands : (view : ℕ) (xs : List (Option ObjectValue)) → ((id : ℕ) → slot xs id ≡ None) → sum_by (stands_in view) xs ≡ 0
+none_stands view [] none = refl
+none_stands view (o ∷ xs) none = omega (arith, sum_by-cons (stands_in view) o xs, ap (stands_in view) (none 0), none_stands view xs (λ id. none (suc id)))
 
--- all objects are counted
-pub all_counted : (held whole limit : ℕ) (left : List (ℕ × NumberedTable)) → min (held + sum_by cells_in left) limit ≡ whole → left ≡ [] → held ≤ limit → held ≡ whole
-all_counted = grind (arith, sum_by)
+free_by_count : (o : Option ViewValue) → cond {A = ℕ} (is_some o) 1 0 ≡ 0 → o ≡ None
+free_by_count None none = refl
+free_by_count (Some v) one = absurd (omega (arith, one))
+
+pub nothing_held : (pool : PoolValue) (xs : List (Option ObjectValue)) → IsStore xs pool → KeepsBlocks pool → ((id : ℕ) → tables_over pool xs id ≡ None) → held_of pool ≡ 0
+nothing_held pool xs store keeps none =
+    let empty : (id : ℕ) → slot xs id ≡ None = λ id. no_object pool (slot xs id) (none id) in
+    let free : (id : ℕ) → IsFree pool id = λ id. free_by_count (get pool.views id) (sym (store.counted id) ∙ none_stands id xs empty) in
+    ap (λ (n : ℕ). min n (2 ^ 64 - 1)) (none_held pool keeps free)

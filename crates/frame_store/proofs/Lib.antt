@@ -2,6 +2,9 @@ pub mod PartLaws
 pub mod ColumnLaws
 pub mod ValueLaws
 pub mod SettingLaws
+pub mod StoreLaws
+pub mod KeptLaws
+pub mod ChangedLaws
 pub mod HeldLaws
 pub mod ObjectLaws
 pub mod Settling

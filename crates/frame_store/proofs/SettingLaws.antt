@@ -1,9 +1,5 @@
 -- Setting cells leaves in each the last value given for it, and else the old cell.
-use Rattle.{
-  meaning_tables.{proofs.cells.Common.{◌≡◌, ◌≢◌, ◌∙◌, refl, sym, subst, ap, arith, ℕ, zero, suc, ◌+◌, ◌-◌, ◌*◌, ◌/◌, ◌%◌, ◌<◌, ◌≤◌, List, [], ◌∷◌, length, slice_get, slice_set, slice_index, slice_index_or, Some, All, cases_eq, inl, inr, length-set, get_or-set_same, get_or-set_other, get_or_from_slice_get, slice_get_within, slice_get-get_or, div-mul-add, div-add-mod', div_below, Cell}, specs.{Table.{ColumnOf, NumberedTable, column_at, no_column}, Change.{with_cell_at, with_cell, with_values_from}, Valid.{IsWhole}}},
-  std.proofs.lemmas.Nat.{mod-mul-add, mul-add-lt},
-  frame_store.specs.{Parts.{AreRowsOf, AreColumnsOf}, Setting.{IsGivenFor, IsLastFor, cell_in, AreSet}},
-}
+use Rattle.{meaning_tables.{proofs.cells.Common.{◌≡◌, ◌≢◌, ◌∙◌, refl, sym, subst, ap, arith, ℕ, zero, suc, ◌+◌, ◌-◌, ◌*◌, ◌/◌, ◌%◌, ◌<◌, ◌≤◌, List, [], ◌∷◌, length, slice_set, slice_index, slice_index_or, Some, All, cases_eq, inl, inr, length-set, get_or-set_same, get_or-set_other, get_or_from_slice_get, slice_get_within, slice_get-get_or, div-mul-add, div-add-mod', div_below, Cell}, specs.{Table.{ColumnOf, NumberedTable, column_at, no_column}, Change.{with_cell_at, with_cell, with_values_from}, Valid.{IsWhole}}}, std.proofs.lemmas.Nat.{mod-mul-add, mul-add-lt}, frame_store.specs.{Parts.{AreRowsOf, AreColumnsOf}, Setting.{IsGivenFor, cell_in, AreSet}}}
 
 some_wide : (n a b : ℕ) → n < a * b → 0 < b
 some_wide n a zero lt = absurd (omega (arith, lt))
@@ -98,15 +94,15 @@ module _ {C : Type 0} where
             is = sym (div-add-mod' n (length places));
           }
 
-  kinds_from : (rows places : List ℕ) (k : ℕ) (columns : List (ColumnOf C)) (xs : List C) (q : ℕ) → (column_at (with_values_from k columns rows places xs) q).kind ≡ (column_at columns q).kind
+  pub kinds_from : (rows places : List ℕ) (k : ℕ) (columns : List (ColumnOf C)) (xs : List C) (q : ℕ) → (column_at (with_values_from k columns rows places xs) q).kind ≡ (column_at columns q).kind
   kinds_from rows places k columns [] q = refl
   kinds_from rows places k columns (x ∷ xs) q = kinds_from rows places (suc k) (with_cell columns (slice_index places (k % length places)) (slice_index rows (k / length places)) x) xs q ∙ kind_kept columns _ _ x q
 
-  lengths_from : (rows places : List ℕ) (k : ℕ) (columns : List (ColumnOf C)) (xs : List C) (q : ℕ) → length (column_at (with_values_from k columns rows places xs) q).cells ≡ length (column_at columns q).cells
+  pub lengths_from : (rows places : List ℕ) (k : ℕ) (columns : List (ColumnOf C)) (xs : List C) (q : ℕ) → length (column_at (with_values_from k columns rows places xs) q).cells ≡ length (column_at columns q).cells
   lengths_from rows places k columns [] q = refl
   lengths_from rows places k columns (x ∷ xs) q = lengths_from rows places (suc k) (with_cell columns (slice_index places (k % length places)) (slice_index rows (k / length places)) x) xs q ∙ as_long columns _ _ x q
 
-  count_from : (rows places : List ℕ) (k : ℕ) (columns : List (ColumnOf C)) (xs : List C) → length (with_values_from k columns rows places xs) ≡ length columns
+  pub count_from : (rows places : List ℕ) (k : ℕ) (columns : List (ColumnOf C)) (xs : List C) → length (with_values_from k columns rows places xs) ≡ length columns
   count_from rows places k columns [] = refl
   count_from rows places k columns (x ∷ xs) =
       let p = slice_index places (k % length places) in

@@ -1,5 +1,6 @@
 pub mod Lists
 pub mod Parts
+pub mod Stores
 pub mod Setting
 pub mod Views
 pub mod Grids

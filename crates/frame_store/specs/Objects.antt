@@ -1,9 +1,12 @@
 -- Objects and their tables.
-use Rattle.std.specs.Prelude.{◌≡◌, ℕ, ◌-◌, ◌*◌, ◌^◌, length, sum_by, min, nat_eq, Option, Some, None, IsSome, if◌then◌else◌}
-use Rattle.slab.specs.Slab.{get, entries}
+use Rattle.std.specs.Prelude.{◌≡◌, ℕ, nat_eq, List, Option, Some, None, IsSome, if◌then◌else◌}
 use Rattle.cell_core.specs.declared.cell.Label.{Label}
+use Rattle.block_pool.specs.Pools.{held_of as pool_held}
+use Rattle.block_pool.specs.Placed.{slot}
 use Rattle.meaning_tables.specs.Table.{NumberedTable, no_table, column_at}
 use Rattle.meaning_tables.specs.Change.{with_column}
+use Rattle.block_manager.specs.Managed.{ManagerValue, no_columns, RaisesBy, AreSole}
+use Rattle.frame_store.specs.Stores.{ObjectValue, blocks_over, tables_over}
 use Rattle.frame_store.specs.declared.object.ObjId.{ObjId}
 use Rattle.frame_store.specs.declared.store.Store.{Store}
 
@@ -12,7 +15,7 @@ abbrev pub Tables : Type 0
 Tables = ℕ → Option NumberedTable
 
 abbrev pub tables : Store → Tables
-tables s = λ id. get s.objects id
+tables s = tables_over s.pool s.objects.slots
 
 -- the tables with another one, or none, for an object
 abbrev pub with_object : Tables → ℕ → Option NumberedTable → Tables
@@ -61,10 +64,23 @@ with_moved tables on column heading series =
 abbrev pub with_replaced : Tables → ℕ → ℕ → Tables
 with_replaced tables on by = with_object (with_object tables on (tables by)) by None
 
--- how many cells an object has
-abbrev pub cells_in : ℕ × NumberedTable → ℕ
-cells_in object = length object.1.labels * length object.1.columns
-
--- how many cells the live objects have together, up to 2^64 - 1
+-- How many cells the live objects hold together, up to 2^64 - 1. A block on which several of them have columns counts once.
 abbrev pub held_of : Store → ℕ
-held_of s = min (sum_by cells_in (entries s.objects)) (2 ^ 64 - 1)
+held_of s = pool_held s.pool
+
+-- at most so many cells more are held
+abbrev pub Raises : ℕ → Store → Store → Type 0
+Raises n old new = RaisesBy n old.pool new.pool
+
+-- the manager of a live object
+abbrev pub manager_or : Option ObjectValue → ManagerValue
+manager_or None = no_columns
+manager_or (Some o) = o.manager
+
+-- the columns at these places are alone on their blocks
+abbrev pub AreSoleIn : Store → ObjId → List ℕ → Type 0
+AreSoleIn s id columns = AreSole s.pool (manager_or (slot s.objects.slots id.0)) columns
+
+-- the blocks on which the columns of a live object lie
+abbrev pub blocks_on : Store → ℕ → List ℕ
+blocks_on s id = blocks_over s.pool s.objects.slots id

@@ -1,18 +1,17 @@
 -- The parts of which tables are made.
-use Rattle.std.specs.Prelude.{◌≡◌, ℕ, ◌<◌, ◌-◌, ◌*◌, ◌%◌, ◌^◌, min, true, List, [], ◌∷◌, ◌++◌, map, length, slice_index, slice_index_or, Option, All}
-use Rattle.cell_core.specs.declared.cell.Kind.{Kind}
+use Rattle.std.specs.Prelude.{◌≡◌, ℕ, List, [], ◌∷◌, ◌++◌, map, length, Option}
 use Rattle.cell_core.specs.declared.cell.Cell.{Cell}
 use Rattle.cell_core.specs.declared.cell.Cell.TheVariants.{Na}
 use Rattle.cell_core.specs.declared.cell.Label.{Label}
 use Rattle.cell_core.specs.declared.grid.Rows.{Rows}
 use Rattle.cell_core.specs.declared.grid.Shape.{Shape}
 use Rattle.column_core.specs.Blocks.{CellBlock}
-use Rattle.column_core.specs.Columns.{CellColumn}
 use Rattle.multi_index.specs.Axes.{AxisValue}
-use Rattle.meaning_tables.specs.cells.Cell.{holds, datum}
 use Rattle.meaning_tables.specs.Change.{put_at, cut_columns, without_column}
-use Rattle.meaning_tables.specs.Table.{ColumnOf, NumberedTable, column_at}
+use Rattle.meaning_tables.specs.Table.{ColumnOf, NumberedTable}
 use Rattle.meaning_tables.specs.Valid.{AreHeadings}
+-- words of the manager, passed on to the crates above
+pub use Rattle.block_manager.specs.Parts.{AreBelow, AreHeld, AreRowsIn, HaveRows, IsHeld, IsSingle, block_column, single_block, table_column}
 
 -- the headings of the columns, and the name that the columns have together
 pub record HeadingList : Type 0 where
@@ -23,10 +22,6 @@ pub record HeadingList : Type 0 where
 abbrev pub with_heading : HeadingList → Option Label → HeadingList
 with_heading h heading = record h { labels = h.labels ++ heading ∷ [] }
 
--- each place is below the count
-abbrev pub AreBelow : ℕ → List ℕ → Type 0
-AreBelow count places = All (λ place. place < count) places
-
 -- these are rows, or columns, of the table
 abbrev pub AreRowsOf : NumberedTable → List ℕ → Type 0
 AreRowsOf t rows = AreBelow (length t.labels) rows
@@ -34,32 +29,12 @@ AreRowsOf t rows = AreBelow (length t.labels) rows
 abbrev pub AreColumnsOf : NumberedTable → List ℕ → Type 0
 AreColumnsOf t places = AreBelow (length t.columns) places
 
--- a column of a kernel as a column of a table
-abbrev pub table_column : CellColumn → ColumnOf Cell
-table_column c = record { kind = c.kind; cells = c.cells }
-
--- the first column of a block
-abbrev pub block_column : CellBlock → ColumnOf Cell
-block_column b = record { kind = b.kind; cells = slice_index_or b.columns 0 [] }
-
 abbrev pub columns_of : List CellBlock → List (ColumnOf Cell)
 columns_of blocks = map block_column blocks
-
--- the column as a block of one column
-abbrev pub single_block : ColumnOf Cell → CellBlock
-single_block c = record { kind = c.kind; rows = length c.cells; columns = c.cells ∷ [] }
-
--- the block has one column
-abbrev pub IsSingle : CellBlock → Type 0
-IsSingle b = b ≡ single_block (block_column b)
 
 -- the block's column is as long as the table
 abbrev pub FitsRows : NumberedTable → CellBlock → Type 0
 FitsRows t block = length (block_column block).cells ≡ length t.labels
-
--- each column has so many cells
-abbrev pub HaveRows : ℕ → List (ColumnOf Cell) → Type 0
-HaveRows count columns = All (λ c. length c.cells ≡ count) columns
 
 -- the table of these parts
 abbrev pub table_with : Shape → AxisValue → HeadingList → List (ColumnOf Cell) → NumberedTable
@@ -105,16 +80,3 @@ headings_with t name = record { columns_name = name; labels = t.headings }
 
 abbrev pub headings_of : NumberedTable → HeadingList
 headings_of t = headings_with t t.columns_name
-
--- a column of the kind may have the cell
-abbrev pub IsHeld : Kind → Cell → Type 0
-IsHeld kind cell = (texts : List (List ℕ)) → holds kind (datum texts cell) ≡ true
-
--- values for the columns at these places, row by row: each may stand in its column
-abbrev pub AreHeld : List (ColumnOf Cell) → List ℕ → List Cell → Type 0
-AreHeld columns places values =
-    (k : ℕ) → k < length values → IsHeld (column_at columns (slice_index places (k % length places))).kind (slice_index_or values k Na)
-
--- how many cells a table has, up to 2^64 - 1
-abbrev pub count_of : NumberedTable → ℕ
-count_of t = min (length t.labels * length t.columns) (2 ^ 64 - 1)

@@ -8,7 +8,8 @@
 //!
 //! [`last_value_stays`] says what setting cells leaves.
 //!
-//! Each object keeps columns of its own, one to a block, and `derive` and `derive_behind` copy them.
+//! The columns of all objects lie on the blocks of one pool. `derive` and `derive_behind` share the cells of an object and
+//! copy none; setting cells first separates the columns that it changes, so that no other object sees it.
 //!
 //! A form makes a [`Table`], of its own or as [`table_under`] does, and hands it to [`placed`], which gives it an object.
 //! A form whose answer has the columns of an object as they are makes no table: it says in a [`Derivation`] which they
@@ -36,6 +37,7 @@ mod fault;
 mod given;
 mod headings;
 mod laws;
+mod live;
 mod made;
 mod object;
 mod store;

@@ -1,12 +1,13 @@
-// Objects by number, and their tables to be read.
-ghost use Rattle.std.specs.Prelude.{◌≡◌, ◌<◌, length};
+// Objects by number, and tables to be read.
+ghost use Rattle.std.specs.Prelude.{◌≡◌, ◌<◌, length, slice_get, Some};
 ghost use Rattle.meaning_tables.specs.Table.{column_at};
 ghost use Rattle.frame_store.specs.Grids.{grid_of};
 ghost use Rattle.frame_store.specs.Parts.{labelled, axis_of, table_column};
 
-use crate::table::Table;
+use block_manager::Manager;
+use block_pool::Pool;
 use cell_core::{Cell, Grid, Kind, Label, Shape};
-use column_core::ColRef;
+use column_core::{Block, ColRef};
 use multi_index::Axis;
 use std::marker::Model;
 
@@ -14,10 +15,21 @@ use std::marker::Model;
 #[derive(Clone, Copy, Debug, PartialEq, Eq, Hash)]
 pub struct ObjId(pub(crate) u64);
 
+/// Columns that are read: blocks of one column each, or those of a manager on its pool.
+#[derive(Clone, Copy)]
+pub enum Columns<'a> {
+    Owned(&'a Vec<Block>),
+    Placed(&'a Pool, &'a Manager),
+}
+
 /// The table of an object, borrowed.
 #[derive(Drop)]
 pub struct ObjRef<'a> {
-    pub(crate) table: &'a Table,
+    pub(crate) shape: Shape,
+    pub(crate) axis: &'a Axis,
+    pub(crate) columns_name: Option<Label>,
+    pub(crate) headings: &'a Vec<Option<Label>>,
+    pub(crate) columns: Columns<'a>,
 }
 
 impl<'a> Model for ObjRef<'a> {
@@ -25,7 +37,11 @@ impl<'a> Model for ObjRef<'a> {
 
     ghost Value = { NumberedTable };
 
-    ghost view = { λ r. r.table.now };
+    ghost use Rattle.frame_store.specs.Views.{read_table, IsRead};
+
+    ghost view = { read_table };
+
+    ghost invariant = { IsRead };
 }
 
 impl ObjRef<'_> {
@@ -33,7 +49,7 @@ impl ObjRef<'_> {
     pub fn axis(&self) -> &Axis
         ensures { labelled result.now ≡ axis_of self.now }
     {
-        self.table.axis()
+        self.axis
     }
 
     /// A column, counted from 0. Takes no memory.
@@ -42,7 +58,10 @@ impl ObjRef<'_> {
         ensures column { column_at self.now.columns column ≡ table_column result }
         ensures rows { length result.cells ≡ length self.now.labels }
     {
-        self.table.column(column)
+        match self.columns {
+            Columns::Owned(blocks) => blocks[column].column(0),
+            Columns::Placed(pool, manager) => manager.column(pool, column),
+        }
     }
 }
 
@@ -50,42 +69,42 @@ impl Grid for ObjRef<'_> {
     ghost table = { grid_of };
 
     fn shape(&self) -> Shape {
-        self.table.shape()
+        self.shape
     }
 
     fn rows(&self) -> usize {
-        self.table.axis().len()
+        self.axis.len()
     }
 
     fn columns(&self) -> usize {
-        self.table.columns()
+        self.headings.len()
     }
 
     fn levels(&self) -> usize {
-        self.table.axis().levels()
+        self.axis.levels()
     }
 
     fn kind(&self, column: usize) -> Kind {
-        self.table.column(column).kind()
+        self.column(column).kind()
     }
 
     fn heading(&self, column: usize) -> Option<Label> {
-        self.table.heading(column)
+        self.headings[column]
     }
 
     fn columns_name(&self) -> Option<Label> {
-        self.table.columns_name()
+        self.columns_name
     }
 
     fn level_name(&self, level: usize) -> Option<Label> {
-        self.table.axis().name(level)
+        self.axis.name(level)
     }
 
     fn label(&self, row: usize, level: usize) -> Label {
-        self.table.axis().label(row, level)
+        self.axis.label(row, level)
     }
 
     fn cell(&self, row: usize, column: usize) -> Cell {
-        self.table.column(column).cell(row)
+        self.column(column).cell(row)
     }
 }

@@ -1,36 +1,48 @@
 // The live objects and their tables.
-ghost use Rattle.std.specs.Prelude.{◌≡◌, ◌≢◌, ◌↔◌, ◌*◌, ◌<◌, ◌≤◌, length, All, Some, None, IsTrue, IfOk, OnOk, OnErr};
+ghost use Rattle.std.specs.Prelude.{◌≡◌, ◌≢◌, ◌↔◌, ◌*◌, ◌<◌, ◌≤◌, ℕ, length, sum, map, All, Some, None, IsTrue, IfOk, OnOk, OnErr};
 ghost use Rattle.cell_core.specs.declared.grid.Shape.TheVariants.{Series};
 ghost use Rattle.cell_core.specs.Grids.{AreRowsBelow};
 ghost use Rattle.meaning_tables.specs.Table.{column_at};
 ghost use Rattle.meaning_tables.specs.Change.{with_column, without_column, with_labels, with_values};
 ghost use Rattle.meaning_tables.specs.Valid.{AreHeadings, IsWhole};
 ghost use Rattle.multi_index.specs.Axes.{HaveLevels};
+ghost use Rattle.block_pool.specs.Pools.{cells_of};
+ghost use Rattle.block_manager.specs.Managed.{cells_named};
 ghost use Rattle.frame_store.specs.Setting.{AreSet};
 ghost use Rattle.frame_store.specs.Parts.{block_column, table_column, table_of, cut_table, labelled, axis_of, AreRowsOf, AreColumnsOf, FitsRows, IsSingle, HaveRows, AreHeld, TakesHeading, SparesHeading, table_behind};
+ghost use Rattle.frame_store.specs.Stores.{IsStore, charged, table_cells};
 
 use crate::blocks::Blocks;
 use crate::headings::Headings;
+use crate::live::Object;
 use crate::object::{ObjId, ObjRef};
 use crate::table::Table;
+use block_pool::Pool;
 use cell_core::{Cells, Label, NoMemory, Places, Rows, Shape};
 use column_core::{Block, ColRef};
 use multi_index::Axis;
 use slab::Slab;
 use std::alloc::Global;
+use std::mem;
 
 /// A whole table for each live object. It keeps the allocator that it was made with.
 ///
 /// Every call changes the table of the object that it names and no other. An object that is handed
 /// in is live. The only refusal is `NoMemory`, which leaves every table as it was.
+///
+/// The columns of all objects lie on the blocks of one pool. An object that is derived from another one shares its blocks,
+/// and what both hold counts once. A call that changes cells, columns or labels changes the blocks of the object that it
+/// names and of no other.
 #[derive(Drop)]
 pub struct Store {
     alloc: Global,
-    objects: Slab<Table>,
+    pool: Pool,
+    objects: Slab<Object>,
+    pub ghost kept: { IsStore objects.slots pool },
 }
 
 impl Store {
-    ghost use Rattle.frame_store.specs.Objects.{tables, with_object, with_moved, with_replaced, table_on, held_of, IsLiveIn, IsFree, Stays, Becomes, Alters, Turns};
+    ghost use Rattle.frame_store.specs.Objects.{tables, with_object, with_moved, with_replaced, table_on, held_of, AreSoleIn, Raises, blocks_on, IsLiveIn, IsFree, Stays, Becomes, Alters, Turns};
 
     /// A store without objects. Takes no memory.
     pub fn new(alloc: Global) -> Store
@@ -38,6 +50,7 @@ impl Store {
     {
         Store {
             alloc,
+            pool: Pool::new(alloc),
             objects: Slab::new(alloc),
         }
     }
@@ -58,6 +71,7 @@ impl Store {
         ensures ok { IfOk result (λ id.
             Becomes self.old self.new id (table_of shape axis headings blocks)) }
         ensures err { OnErr result (Stays self.old self.new) }
+        ensures held { Raises (charged (sum (map cells_of blocks)) result) self.old self.new }
     {
         self.insert(Table::new(shape, axis, headings, blocks))
     }
@@ -68,8 +82,11 @@ impl Store {
         ensures fresh { IfOk result (IsFree self.old) }
         ensures ok { IfOk result (λ id. Becomes self.old self.new id table) }
         ensures err { OnErr result (Stays self.old self.new) }
+        ensures held { Raises (charged (table_cells table) result) self.old self.new }
     {
-        let key = self.objects.insert(table)?;
+        self.objects.reserve(1)?;
+        let object = table.into_object(self.alloc, &mut self.pool)?;
+        let key = self.objects.insert_reserved(object);
         Ok(ObjId(key as u64))
     }
 
@@ -94,9 +111,13 @@ impl Store {
         ensures ok { IfOk result (λ id. Becomes self.old self.new id
             (cut_table shape axis headings (table_on self.old on) rows columns.now)) }
         ensures err { OnErr result (Stays self.old self.new) }
+        ensures held { Raises 0 self.old self.new }
     {
-        let blocks = self.objects[on.0 as usize].cut_to(self.alloc, rows, columns)?;
-        self.add(shape, axis, headings, blocks)
+        self.objects.reserve(1)?;
+        let manager = self.objects[on.0 as usize].cut(&mut self.pool, rows, columns)?;
+        let object = Object::new(shape, axis, headings, manager);
+        let key = self.objects.insert_reserved(object);
+        Ok(ObjId(key as u64))
     }
 
     /// A new object with the blocks, each of which is one column, before all columns of another object,
@@ -118,15 +139,18 @@ impl Store {
         ensures ok { IfOk result (λ id. Becomes self.old self.new id
             (table_behind shape axis headings first (table_on self.old on))) }
         ensures err { OnErr result (Stays self.old self.new) }
+        ensures held { Raises (charged (sum (map cells_of first)) result) self.old self.new }
     {
-        let blocks = self.objects[on.0 as usize].behind(self.alloc, first)?;
-        self.add(shape, axis, headings, blocks)
+        self.objects.reserve(1)?;
+        let manager = self.objects[on.0 as usize].behind(&mut self.pool, first)?;
+        let object = Object::new(shape, axis, headings, manager);
+        let key = self.objects.insert_reserved(object);
+        Ok(ObjId(key as u64))
     }
 
     /// Puts the values, one for each row and column, row by row. Where a cell is given twice, the
     /// later value stays: each cell is then the last value given for it, else what it was.
     /// `NoMemory` leaves the store as it was.
-    #[tactic(auto, using(crate::proofs::ObjectLaws::cells_of_object_set))]
     pub fn set_cells(
         &mut self,
         on: ObjId,
@@ -144,9 +168,12 @@ impl Store {
         ensures err { OnErr result (Stays self.old self.new) }
         ensures law { OnOk result (AreSet rows.now columns.now values.now
             (table_on self.old on).columns (table_on self.new on).columns) }
+        ensures held { Raises (charged (cells_named (table_on self.old on).columns columns.now)
+            result) self.old self.new }
+        ensures sole { OnOk result (AreSoleIn self.old on columns.now →
+            blocks_on self.new on.0 ≡ blocks_on self.old on.0) }
     {
-        self.objects[on.0 as usize].set_cells(rows, columns, values);
-        Ok(())
+        self.objects[on.0 as usize].set_cells(&mut self.pool, rows, columns, values)
     }
 
     /// Replaces a column, which the block is, and its heading, or appends them last where the number
@@ -166,8 +193,9 @@ impl Store {
         ensures ok { OnOk result (Alters self.old self.new on
             (λ t. with_column t column heading (block_column block))) }
         ensures err { OnErr result (Stays self.old self.new) }
+        ensures held { Raises (charged (cells_of block) result) self.old self.new }
     {
-        self.objects[on.0 as usize].put_column(column, heading, block)
+        self.objects[on.0 as usize].put_column(&mut self.pool, column, heading, block)
     }
 
     /// Puts the column of a Series, which ends, as `put_column` puts a block: it moves, and none of its
@@ -190,9 +218,11 @@ impl Store {
         ensures ok { OnOk result (Turns self.old self.new
             (λ live. with_moved live on.0 column heading series.0)) }
         ensures err { OnErr result (Stays self.old self.new) }
+        ensures held { Raises 0 self.old self.new }
     {
         let source = self.objects.remove(series.0 as usize);
-        match self.objects[on.0 as usize].take_column(column, heading, source) {
+        let object = &mut self.objects[on.0 as usize];
+        match object.take_column(&mut self.pool, column, heading, source) {
             Ok(()) => Ok(()),
             Err(source) => {
                 self.objects.insert_reserved(source);
@@ -208,9 +238,9 @@ impl Store {
         requires headings { SparesHeading (table_on self.old on) column }
         ensures ok { OnOk result (Alters self.old self.new on (λ t. without_column t column)) }
         ensures err { OnErr result (Stays self.old self.new) }
+        ensures held { Raises 0 self.old self.new }
     {
-        self.objects[on.0 as usize].remove_column(column);
-        Ok(())
+        self.objects[on.0 as usize].remove_column(&mut self.pool, column)
     }
 
     /// Gives an object the table of another one, which ends. Takes no memory.
@@ -218,17 +248,20 @@ impl Store {
         requires live { IsLiveIn self.old on }
         requires by { IsLiveIn self.old by }
         requires different { on.0 ≢ by.0 }
-        ensures { Turns self.old self.new (λ live. with_replaced live on.0 by.0) }
+        ensures ok { Turns self.old self.new (λ live. with_replaced live on.0 by.0) }
+        ensures held { Raises 0 self.old self.new }
     {
-        let table = self.objects.remove(by.0 as usize);
-        self.objects[on.0 as usize] = table;
+        let object = self.objects.remove(by.0 as usize);
+        let ended = mem::replace(&mut self.objects[on.0 as usize], object);
+        ended.release(&mut self.pool);
     }
 
     /// Gives an object another axis, with as many tuples as each column has cells. Takes no memory.
     pub fn replace_axis(&mut self, on: ObjId, axis: Axis)
         requires live { IsLiveIn self.old on }
         requires rows { HaveRows (length axis.tuples) (table_on self.old on).columns }
-        ensures { Alters self.old self.new on (λ t. with_labels t axis.tuples axis.names) }
+        ensures ok { Alters self.old self.new on (λ t. with_labels t axis.tuples axis.names) }
+        ensures held { Raises 0 self.old self.new }
     {
         self.objects[on.0 as usize].replace_axis(axis);
     }
@@ -243,9 +276,11 @@ impl Store {
     /// Ends an object. Takes no memory.
     pub fn drop_object(&mut self, on: ObjId)
         requires { IsLiveIn self.old on }
-        ensures { Turns self.old self.new (λ live. with_object live on.0 None) }
+        ensures ok { Turns self.old self.new (λ live. with_object live on.0 None) }
+        ensures held { Raises 0 self.old self.new }
     {
-        let _ = self.objects.remove(on.0 as usize);
+        let object = self.objects.remove(on.0 as usize);
+        object.release(&mut self.pool);
     }
 
     /// The table of an object. Takes no memory.
@@ -255,9 +290,7 @@ impl Store {
         ensures whole { IsWhole result }
         ensures levels { HaveLevels (length result.level_names) result.labels }
     {
-        ObjRef {
-            table: self.objects[on.0 as usize].whole(),
-        }
+        self.objects[on.0 as usize].read(&self.pool)
     }
 
     /// A column of an object. Takes no memory.
@@ -267,7 +300,7 @@ impl Store {
         ensures column { column_at (table_on self.now on).columns column ≡ table_column result }
         ensures rows { length result.cells ≡ length (table_on self.now on).labels }
     {
-        self.objects[on.0 as usize].column(column)
+        self.objects[on.0 as usize].column(&self.pool, column)
     }
 
     /// The axis of an object. Takes no memory.
@@ -278,14 +311,12 @@ impl Store {
         self.objects[on.0 as usize].axis()
     }
 
-    /// How many cells all live objects have together, or 2^64 - 1 where there are more. Takes no memory.
+    /// How many cells the blocks have on which the columns of live objects lie, each block counted once, or
+    /// 2^64 - 1 where there are more: 0 where no object is live. Takes no memory.
     pub fn held(&self) -> u64
-        ensures { result ≡ held_of self.now }
+        ensures count { result ≡ held_of self.now }
+        ensures none { ((id : ℕ) → tables self.now id ≡ None) → result ≡ 0 }
     {
-        let mut held: u64 = 0;
-        for (_, table) in self.objects.iter() {
-            held = held.saturating_add(table.cells());
-        }
-        held
+        self.pool.held()
     }
 }

@@ -9,8 +9,7 @@ ghost use Rattle.frame_store.specs.World.{world, arguments_in, AreKnownArguments
 ghost use Rattle.frame_windows.specs.Windows.{call_seen};
 
 use cell_core::TextDict;
-use frame_labels::no_attribute;
-use frame_signatures::bind;
+use frame_labels::without_arguments;
 use frame_store::{Named, OpFault, Store};
 use rolling::Cumulation;
 use std::alloc::Global;
@@ -40,9 +39,5 @@ pub(crate) fn window_call(
         MakesBy call_seen dict.now result
         (without_arguments (meant.window_call name.now) name.now gs) }
 {
-    let Some(op) = call_named(name) else {
-        return Err(no_attribute(alloc, name));
-    };
-    let _bound = bind(store, dict, &[], args)?;
-    Ok(op)
+    without_arguments(alloc, store, dict, call_named(name), name, args)
 }

@@ -1,12 +1,12 @@
 -- Values behind values, as cells.
 use Rattle.{
-  column_core.{proofs.{cells.Common.{◌≡◌, ◌+◌, ◌-◌, ℕ, zero, suc, Bool, false, List, [], ◌∷◌, ◌++◌, length, take, replicate, map, refl, arith, Option, None, append_assoc, ◌<◌, ◌≤◌, true, cond, drop, slice_index_or, Some, Ok, Err, nat_lt, take_all, map-append, length-map, take_rest, map-range_with_len_more, length-flat_map, list_all-map, and_parts, same_from_decides, range_with_len, list_all, flat_map, Bor, Decides, pointwise, Cell, Na, Kind, Label, tabulate, ColumnValue, CellValue, datum}, ColumnLaws.{length-tabulate}, CellRows.{pushed_column}}, specs.{Lanes.{IsPushed}, Columns.{CellColumn, column_value}}},
+  column_core.{proofs.{cells.Common.{◌≡◌, ◌+◌, ◌-◌, ℕ, zero, suc, Bool, false, List, [], ◌∷◌, ◌++◌, length, take, replicate, map, refl, arith, Option, None, append_assoc, ◌<◌, ◌≤◌, true, cond, drop, slice_index_or, Some, Ok, Err, nat_lt, take_all, map-append, length-map, take_rest, map-range_with_len_more, length-flat_map, list_all-map, and_parts, All-map, same_from_decides, range_with_len, list_all, flat_map, Bor, Decides, pointwise, Cell, Na, Kind, Label, tabulate, ColumnValue, CellValue, datum}, ColumnLaws.{length-tabulate}, CellRows.{pushed_column}}, specs.{Lanes.{IsPushed}, Columns.{CellColumn, column_value}}},
   std.{proofs.{Common.{lt-ltb, le-ltb}, lemmas.Option.{cond_some}}, specs.List.{All}},
-  merge_concat.specs.{Growing.{cells_of_values}, declared.parts.Part.{Part}, Parts.{part_kind, part_column, kind_of_all, cells_below, count_below}, Axes.{tuples_of_each}},
+  merge_concat.specs.{Growing.{cells_of_values}, declared.parts.Part.{Part}, Parts.{part_kind, common_kind, cells_below, count_below, whole_of}, Axes.{tuples_of_each}},
   meaning_join.specs.{align.Joins.{most_rows}, Concat.{mixed_kinds, too_large, same_kind, column_below, rows_concatenated, are_equal}},
   multi_index.specs.Axes.{AxisValue},
   row_keys.specs.Keys.{same_tuple},
-  label_align.proofs.SameLaws.{tuples_decide},
+  factorize.proofs.label_align.SameLaws.{tuples_decide},
 }
 
 next_numbers : {C : Type 0} (f g : ℕ → C) → ((k : ℕ) → f (suc k) ≡ g k) → (a n : ℕ) → map f (range_with_len (a + 1) n) ≡ map g (range_with_len a n)
@@ -41,66 +41,65 @@ module _ {T : Type 0} (cell : Option T → Cell) where
 
 -- Columns one below the other.
 
--- the kind of all parts, where the first one is told
-module _ (missing : Kind) where
-  abbrev alike : Kind → Part → Bool
-  alike kind other = same_kind kind (part_kind missing other)
+-- the kind of all columns, where the first one is told
+pub kind_told : (columns : List CellColumn) (first : CellColumn) (kind : Kind) (told : Bool) → 1 ≤ length columns → first ≡ slice_index_or columns 0 first → kind ≡ first.kind
+    → list_all (λ other. same_kind kind other.kind) (take (length columns - 1) (drop 1 columns)) ≡ told → common_kind columns ≡ cond told (Some kind) None
+kind_told [] _ _ _ some = absurd (omega arith)
+kind_told (column ∷ columns) _ _ _ some = grind (arith, take_rest (column ∷ columns) 1)
 
-  pub kind_told : (parts : List Part) (first : Part) (kind : Kind) (told : Bool) → 1 ≤ length parts → first ≡ slice_index_or parts 0 first → kind ≡ part_kind missing first → list_all (alike kind) (take (length parts - 1) (drop 1 parts)) ≡ told
-      → kind_of_all missing parts ≡ cond told (Some kind) None
-  kind_told [] _ _ _ some = absurd (omega arith)
-  kind_told (part ∷ parts) _ _ _ some = grind (arith, take_rest (part ∷ parts) 1)
+all_at_kind : (kind : Kind) (columns : List CellColumn) → list_all (λ other. same_kind kind other.kind) columns ≡ true → All (λ column. column.kind ≡ kind) columns
+all_at_kind _ [] all = grind arith
+all_at_kind kind (column ∷ columns) all = grind (arith, all_at_kind kind columns, and_parts)
 
-  all_at_kind : (kind : Kind) (parts : List Part) → list_all (alike kind) parts ≡ true → All (λ part. part_kind kind part ≡ kind) parts
-  all_at_kind _ [] all = grind arith
-  all_at_kind kind (part ∷ parts) all = grind (arith, all_at_kind kind parts, and_parts)
+-- each column is of the kind
+pub kinds_alike : (columns : List CellColumn) (kind : Kind) → common_kind columns ≡ Some kind → All (λ column. column.kind ≡ kind) columns
+kinds_alike [] _ is = grind arith
+kinds_alike (column ∷ columns) _ is =
+    let told = cond_some (list_all (λ other. same_kind column.kind other.kind) columns) _ _ is in
+    grind (arith, all_at_kind)
 
-  -- each part is of the kind, or missing
-  pub parts_at_kind : (kind : Kind) (parts : List Part) → kind_of_all missing parts ≡ Some kind → All (λ part. part_kind kind part ≡ kind) parts
-  parts_at_kind _ [] e = grind arith
-  parts_at_kind _ (part ∷ parts) e =
-      let told = cond_some (list_all (alike (part_kind missing part)) parts) _ _ e in
-      grind (arith, all_at_kind)
+pub wholes_alike : (columns : List CellColumn) (parts : List Part) (kind : Kind) → parts ≡ map whole_of columns → common_kind columns ≡ Some kind → All (λ part. part_kind kind part ≡ kind) parts
+wholes_alike columns _ kind are is = rw are (All-map (λ part. part_kind kind part ≡ kind) whole_of columns (kinds_alike columns kind is))
 
-  module _ (texts : List (List ℕ)) where
-    abbrev pub value_of : Part → ColumnValue
-    value_of part = column_value texts (part_column missing part)
+module _ (texts : List (List ℕ)) where
+  abbrev pub value_of : CellColumn → ColumnValue
+  value_of = column_value texts
 
-    kinds_seen : (kind : Kind) (parts : List Part) → list_all (λ other. same_kind kind other.kind) (map value_of parts) ≡ list_all (alike kind) parts
-    kinds_seen _ [] = refl
-    kinds_seen kind (part ∷ parts) = cc (kinds_seen kind parts)
+  pub kinds_seen : (kind : Kind) (columns : List CellColumn) → list_all (λ other. same_kind kind other.kind) (map value_of columns) ≡ list_all (λ other. same_kind kind other.kind) columns
+  kinds_seen _ [] = refl
+  kinds_seen kind (column ∷ columns) = cc (kinds_seen kind columns)
 
-    cells_seen : (parts : List Part) → flat_map (λ (c : ColumnValue). c.cells) (map value_of parts) ≡ map (datum texts) (cells_below parts)
-    cells_seen [] = refl
-    cells_seen (part ∷ parts) = search (map-append, cells_seen parts)
+  cells_seen : (columns : List CellColumn) → flat_map (λ (c : ColumnValue). c.cells) (map value_of columns) ≡ map (datum texts) (cells_below (map whole_of columns))
+  cells_seen [] = refl
+  cells_seen (column ∷ columns) = search (map-append, cells_seen columns)
 
-    abbrev column_if : Option Kind → List CellValue → Option ColumnValue
-    column_if None cells = None
-    column_if (Some kind) cells = Some record { kind = kind; cells = cells }
+  abbrev pub column_if : Option Kind → List CellValue → Option ColumnValue
+  column_if None cells = None
+  column_if (Some kind) cells = Some record { kind = kind; cells = cells }
 
-    below_is : (parts : List Part) → column_below (map value_of parts) ≡ column_if (kind_of_all missing parts) (map (datum texts) (cells_below parts))
-    below_is [] = refl
-    below_is (part ∷ parts) = grind (arith, kinds_seen (part_kind missing part) parts, cells_seen (part ∷ parts))
+  below_is : (columns : List CellColumn) → column_below (map value_of columns) ≡ column_if (common_kind columns) (map (datum texts) (cells_below (map whole_of columns)))
+  below_is [] = refl
+  below_is (column ∷ columns) = grind (arith, kinds_seen column.kind columns, cells_seen (column ∷ columns))
 
-    size : (parts : List Part) → length (map (datum texts) (cells_below parts)) ≡ count_below parts
-    size = search (length-map, length-flat_map)
+  size : (parts : List Part) → length (map (datum texts) (cells_below parts)) ≡ count_below parts
+  size = search (length-map, length-flat_map)
 
-    -- what is answered
-    pub is_mixed : (parts : List Part) → kind_of_all missing parts ≡ None → rows_concatenated {K = List Label} (map value_of parts) ≡ Err mixed_kinds
-    is_mixed parts none = cc (below_is parts)
+  -- what is answered
+  pub is_mixed : (columns : List CellColumn) → common_kind columns ≡ None → rows_concatenated {K = List Label} (map value_of columns) ≡ Err mixed_kinds
+  is_mixed columns none = cc (below_is columns)
 
-    module _ (parts : List Part) (kind : Kind) (found : kind_of_all missing parts ≡ Some kind) where
-      abbrev made : ColumnValue
-      made = record { kind = kind; cells = map (datum texts) (cells_below parts) }
+  module _ (columns : List CellColumn) (parts : List Part) (are : parts ≡ map whole_of columns) (kind : Kind) (found : common_kind columns ≡ Some kind) where
+    abbrev made : ColumnValue
+    made = record { kind = kind; cells = map (datum texts) (cells_below parts) }
 
-      within : (b : Bool) → nat_lt most_rows (count_below parts) ≡ b → rows_concatenated {K = List Label} (map value_of parts) ≡ cond b (Err too_large) (Ok made)
-      within = grind (arith, below_is, size)
+    within : (b : Bool) → nat_lt most_rows (count_below parts) ≡ b → rows_concatenated {K = List Label} (map value_of columns) ≡ cond b (Err too_large) (Ok made)
+    within = grind (arith, below_is, size)
 
-      pub is_too_large : most_rows < count_below parts → rows_concatenated {K = List Label} (map value_of parts) ≡ Err too_large
-      is_too_large lt = search (within, lt-ltb)
+    pub is_too_large : most_rows < count_below parts → rows_concatenated {K = List Label} (map value_of columns) ≡ Err too_large
+    is_too_large lt = search (within, lt-ltb)
 
-      pub is_made : (column : CellColumn) → count_below parts ≤ most_rows → column ≡ record { kind = kind; cells = cells_below parts } → rows_concatenated {K = List Label} (map value_of parts) ≡ Ok (column_value texts column)
-      is_made _ few is = cc (within false (le-ltb most_rows (count_below parts) few))
+    pub is_made : (column : CellColumn) → count_below parts ≤ most_rows → column ≡ record { kind = kind; cells = cells_below parts } → rows_concatenated {K = List Label} (map value_of columns) ≡ Ok (column_value texts column)
+    is_made _ few is = cc (within false (le-ltb most_rows (count_below parts) few))
 
 -- Axes that all have the labels of the first.
 

@@ -6,8 +6,7 @@ use Rattle.{
   merge_concat.specs.{Joining.{same_row, how_often, once_if, same_pair, turned, AreAlike, IsJoin, IsJoinOf, JoinsAreAlike, SidesExchange, ExchangeChangesOrder, keeps_left, keeps_right}, declared.{pairs.{Pairs.{Pairs}, PairLists.{PairLists}}, fault.MergeFault.{MergeFault}}, Codes.{pairs_with, pairs_of, pairs_at, outer_pairs, count_of, count_with, counted_by_row, counted_by_key, repeated_from, AreCounts, keys_of, is_outer, code_pairs, repeated_in}, Pairs.{AreListed, HasMore, IsJoined, JoinsBy}},
   cell_core.specs.declared.cell.Label.TheVariants.{Na},
   row_keys.{specs.{Keys.{same_tuple, place_among}, Buckets.{rows_of_code, buckets_of}}, proofs.{PartnerLaws.{tuple_laws}, KeyLaws.{place_tells, position_in, any_at}, FillLaws.{rows_more}, RecodeLaws.{All-distinct}}},
-  label_align.{proofs.{OrderLaws.{below_range}, SameLaws.{tuple_decides}, LawOfJoins.{tuple_weak}, OuterJoinLaws.{in_order_keeps, once}}, specs.Tuples.{tuple_less}},
-  factorize.{specs.Keys.{seen_rules, levels_of}, proofs.LawOfGroups.{keys_there}},
+  factorize.{specs.{Keys.{seen_rules, levels_of}, label_align.Tuples.{tuple_less}}, proofs.{LawOfGroups.{keys_there}, label_align.{OrderLaws.{below_range}, SameLaws.{tuple_decides}, LawOfJoins.{tuple_weak}, OuterJoinLaws.{in_order_keeps, once}}}},
   multi_index.specs.Axes.{HaveLevels},
 }
 use Rattle.factorize.proofs.KeyNumberLaws as numbers

@@ -4,7 +4,7 @@ use Rattle.{
   std.{specs.Prelude.{AllPairs}, proofs.lemmas.List.Kept.{AllPairs-from_increasing}},
   meaning_join.{specs.{align.Joins.{or_gap, keys_in_order}, pick.Rows.{rows_where}, Pairs.{Pair, pair, exchanged, partners, pairs_from, key_pairs, JoinRefusal, RepeatedKey, within, unless_repeated, repeated_key, joined_within}, declared.{How.{How, TheVariants.{Inner, Left, Right, Outer}}, Validate.{Validate}}}, proofs.{align.{OrderLaws.{all_flat}}, pick.InsideLaws.{rows_ascend}, align.sorting.{SortLaws.{irreflexive}, OrderLaws.{in_order_rises}}}},
   merge_concat.{proofs.JoinLaws.{outer, seen, keys_stand, key_once, only_place}, specs.{Codes.{pairs_with, pairs_of}, Pairs.{JoinsBy}, JoinOrder.{IsEarlier, IsEarlierPair, key_at, key_of, IsEarlierByKey, StandsBefore, IsOrderedJoin}, declared.{pairs.Pairs.{Pairs}, fault.MergeFault.{MergeFault}}}},
-  label_align.{proofs.{SameLaws.{tuple_decides}, LawOfJoins.{tuple_weak}}, specs.Tuples.{tuple_less}},
+  factorize.{proofs.label_align.{SameLaws.{tuple_decides}, LawOfJoins.{tuple_weak}}, specs.label_align.Tuples.{tuple_less}},
   row_keys.{specs.Keys.{same_tuple}, proofs.PartnerLaws.{tuple_laws}},
 }
 pub use Rattle.std.proofs.lemmas.List.Elements.{All-append as all_append}

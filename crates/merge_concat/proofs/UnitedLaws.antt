@@ -1,12 +1,12 @@
 -- Tuples of axes that are put one below the other, level by level.
 use Rattle.{
-  column_core.proofs.cells.Common.{◌≡◌, ◌+◌, ◌-◌, ◌<◌, ℕ, zero, suc, true, List, [], ◌∷◌, ◌++◌, length, map, take, drop, replicate, slice_index_or, refl, arith, append_assoc, not, ◌≤◌, ◌&&◌, Bool, false, ◌==◌, slice_get, Some, None, append-nil, get_or-map, length-map, drop_more, drop_all, length-replicate, flat_map-map, All-append, All-tail, filter_more, get_or_from_slice_get, eqb-false, flat_map, list_any, Bor, Label, distinct},
+  column_core.proofs.cells.Common.{◌≡◌, sym, All, All-map, option_map, ◌+◌, ◌-◌, ◌<◌, ℕ, zero, suc, true, List, [], ◌∷◌, ◌++◌, length, map, take, drop, replicate, slice_index_or, refl, arith, append_assoc, not, ◌≤◌, ◌&&◌, Bool, false, ◌==◌, slice_get, Some, None, append-nil, get_or-map, length-map, drop_more, drop_all, length-replicate, flat_map-map, All-append, All-tail, filter_more, get_or_from_slice_get, eqb-false, flat_map, list_any, Bor, Label, distinct, Option},
   std.{proofs.lemmas.List.{length-append}, specs.List.{filter}},
   multi_index.specs.Axes.{AxisValue, HaveLevels, nameless_axis, single_tuples, tuples_with, with_level, tuples_at},
-  row_keys.{specs.{Keys.{label_in, same_tuple, first_rows}, Partners.{rows_with}}, proofs.RecodeLaws.{drop_none, first_keys}},
-  label_align.proofs.{EntryLaws.{flat_map_more}, SameLaws.{tuple_decides, tuple_laws}},
+  row_keys.{specs.{Keys.{label_in, same_tuple, place_among, codes_of, first_rows}, Partners.{rows_with}}, proofs.{KeyLaws.{position_in, all_known}, RecodeLaws.{drop_none, first_keys}}},
+  factorize.proofs.label_align.{EntryLaws.{flat_map_more}, SameLaws.{tuple_decides, tuple_laws}},
   meaning_join.specs.{Concat.{labels_under, united, repeated_on_any}, pick.Rows.{rows_where}, align.Targets.{first_repeated}},
-  merge_concat.specs.Axes.{tuples_of_each, tuples_in, keys_below},
+  merge_concat.{specs.{Axes.{tuples_of_each, tuples_in, keys_below}, Codes.{repeated_from}}, proofs.JoinLaws.{repeated_coded}},
 }
 
 pub lists_of_axes : (axes : List (Bor AxisValue)) → flat_map (λ tuples. tuples) (tuples_of_each axes) ≡ tuples_in axes
@@ -86,6 +86,21 @@ module _ {K : Type 0} (same : K → K → Bool) where
   told_at [] i d _ lt before here = absurd (omega arith)
   told_at (list ∷ lists) zero d _ lt before here = cc
   told_at (list ∷ lists) (suc i) d _ lt before here = grind (arith, told_at lists)
+
+-- the first tuple that stands twice, by the numbers of the tuples
+module _ (tuples none : List (List Label)) (codes : List ℕ) (coded : codes ≡ codes_of same_tuple (tuples ++ none)) where
+  pub codes_counted : (firsts : List ℕ) → firsts ≡ first_rows same_tuple (tuples ++ none) → All (λ code. code < length firsts) codes
+  codes_counted _ first =
+      let keys = tuples ++ none in
+      rw (first, length-map, coded) (All-map (λ code. code < length (distinct same_tuple keys)) (place_among same_tuple (distinct same_tuple keys)) keys (λ k d lt. position_in _ _ (all_known same_tuple tuple_laws keys k d lt)))
+
+  pub repeated_told : none ≡ [] → option_map (λ row. slice_index_or tuples row []) (repeated_from codes 0 codes) ≡ first_repeated same_tuple tuples
+  repeated_told empty =
+      let alone : codes ≡ codes_of same_tuple tuples = rw (empty, append-nil) at coded in
+      rw alone (sym (repeated_coded same_tuple tuple_laws (distinct same_tuple tuples) tuples (all_known same_tuple tuple_laws tuples) []))
+
+  pub none_repeated : none ≡ [] → (found : Option ℕ) → found ≡ repeated_from codes 0 codes → found ≡ None → None ≡ first_repeated same_tuple tuples
+  none_repeated empty _ is nothing = cc (repeated_told empty)
 
 -- rows pass a test exactly where an element does
 rows_told : {X : Type 0} (p : X → Bool) (at : ℕ) (xs : List X) → (length (rows_where p at xs) == 0) ≡ not (list_any p xs)

@@ -4,7 +4,7 @@ use Rattle.cell_core.specs.declared.cell.Label.{Label}
 use Rattle.meaning_join.specs.Concat.{ConcatRefusal, mixed_kinds, repeated_label, too_large}
 use Rattle.merge_concat.specs.declared.fault.MergeFault.{MergeFault}
 use Rattle.merge_concat.specs.declared.fault.MergeFault.TheVariants.{NotOneToOne, DuplicateLabels, MixedKinds, TooLarge, NoMemory}
-pub use Rattle.label_align.specs.index_core.Picks.{as_it_is}
+pub use Rattle.factorize.specs.index_core.Picks.{as_it_is}
 
 -- what is answered is what is meant, as it is seen, or the fault is; want of memory may come in place of any answer
 abbrev pub ConcatsBy : {A B : Type 0} → (A → B) → Result A MergeFault → Result B (ConcatRefusal (List Label)) → Type 0

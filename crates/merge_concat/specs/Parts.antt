@@ -19,15 +19,10 @@ abbrev pub part_cells : Part → List Cell
 part_cells (Cells column) = column.cells
 part_cells (Missing count) = replicate count cell.Na
 
--- the column that a part stands for
-abbrev pub part_column : Kind → Part → CellColumn
-part_column missing part = record { kind = part_kind missing part; cells = part_cells part }
-
--- the kind that all parts have, if they have one; of no part it is that of whole numbers
-abbrev pub kind_of_all : Kind → List Part → Option Kind
-kind_of_all missing [] = Some Int64
-kind_of_all missing (part ∷ parts) =
-    if list_all (λ other. same_kind (part_kind missing part) (part_kind missing other)) parts then Some (part_kind missing part) else None
+-- the kind that all columns have, if they have one; of no column it is that of whole numbers
+abbrev pub common_kind : List CellColumn → Option Kind
+common_kind [] = Some Int64
+common_kind (column ∷ columns) = if list_all (λ other. same_kind column.kind other.kind) columns then Some column.kind else None
 
 abbrev pub cells_below : List Part → List Cell
 cells_below parts = flat_map part_cells parts

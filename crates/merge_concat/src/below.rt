@@ -1,13 +1,13 @@
 // Columns one below the other.
 ghost use Rattle.std.specs.Prelude.{◌≡◌, ◌≤◌, ◌<◌, ◌^◌, List, ℕ, map, All, IfOk, MatchOption};
-ghost use Rattle.cell_core.specs.declared.cell.Kind.TheVariants.{Int64};
 ghost use Rattle.column_core.specs.Columns.{column_value};
 ghost use Rattle.meaning_join.specs.Concat.{rows_concatenated};
 ghost use Rattle.merge_concat.specs.Concats.{ConcatsBy};
-ghost use Rattle.merge_concat.specs.Parts.{part_kind, part_column, kind_of_all, cells_below, count_below};
+ghost use Rattle.merge_concat.specs.Parts.{part_kind, common_kind, cells_below, count_below, whole_of};
 
 use crate::fault::MergeFault;
-use crate::growing::{Grows, with_part, with_room};
+use crate::growing::{with_part, with_room};
+use crate::lanes::Laid;
 use crate::parts::Part;
 use cell_core::{Kind, NoMemory, TextId};
 use column_core::{ColRef, Column};
@@ -16,16 +16,16 @@ use std::alloc::Global;
 // As many cells as a column may have.
 const MOST_CELLS: usize = 1 << 26;
 
-// The kind that all parts have, if they have one.
-fn kind_of(missing: Kind, parts: &[Part<'_>]) -> Option<Kind>
-    ensures { result ≡ kind_of_all missing parts.now }
+/// The kind that all columns have, if they have one; of no column it is `Int64`. Takes no memory.
+pub fn common_kind(columns: &[ColRef<'_>]) -> Option<Kind>
+    ensures { result ≡ common_kind columns.now }
 {
-    let [first, others @ ..] = parts else {
+    let [first, others @ ..] = columns else {
         return Some(Kind::Int64);
     };
-    let kind = first.kind(missing);
+    let kind = first.kind();
     for other in others {
-        if other.kind(missing) != kind {
+        if other.kind() != kind {
             return None;
         }
     }
@@ -48,7 +48,7 @@ fn count_of(parts: &[Part<'_>]) -> Option<usize>
 }
 
 // The cells of parts of one kind, which are so many.
-fn column_of<T: Grows>(alloc: Global, parts: &[Part<'_>], count: usize) -> Result<Column, NoMemory>
+fn column_of<T: Laid>(alloc: Global, parts: &[Part<'_>], count: usize) -> Result<Column, NoMemory>
     requires kind { All (λ part. part_kind T.kind part ≡ T.kind) parts.now }
     requires count { count_below parts.now ≤ 2 ^ 26 }
     ensures { IfOk result (λ column. column
@@ -61,27 +61,9 @@ fn column_of<T: Grows>(alloc: Global, parts: &[Part<'_>], count: usize) -> Resul
     Ok(T::column(rows))
 }
 
-// The same of parts of this kind.
-fn column_of_kind(
-    alloc: Global,
-    kind: Kind,
-    parts: &[Part<'_>],
-    count: usize,
-) -> Result<Column, NoMemory>
-    requires kind { All (λ part. part_kind kind part ≡ kind) parts.now }
-    requires count { count_below parts.now ≤ 2 ^ 26 }
-    ensures { IfOk result (λ column. column ≡ record { kind = kind; cells = cells_below parts.now }) }
-{
-    match kind {
-        Kind::Int64 => column_of::<i64>(alloc, parts, count),
-        Kind::Boolean => column_of::<bool>(alloc, parts, count),
-        Kind::Text => column_of::<TextId>(alloc, parts, count),
-    }
-}
-
 // All cells of each column.
 fn parts_of<'a>(alloc: Global, columns: &[ColRef<'a>]) -> Result<Vec<Part<'a>>, NoMemory>
-    ensures { IfOk result (λ parts. map (part_column Int64) parts.items ≡ columns.now) }
+    ensures { IfOk result (λ parts. parts.items ≡ map whole_of columns.now) }
 {
     let mut parts = Vec::with_capacity(alloc, columns.len())?;
     for column in columns {
@@ -101,28 +83,33 @@ pub fn concat_rows(alloc: Global, parts: &[ColRef<'_>]) -> Result<Column, MergeF
     ensures { (texts : List (List ℕ)) → ConcatsBy (column_value texts) result
         (rows_concatenated (map (column_value texts) parts.now)) }
 {
-    let parts = parts_of(alloc, parts)?;
-    concat_parts(alloc, Kind::Int64, &parts)
-}
-
-/// The cells of the parts of a column, one below the other. A part may lack the column: its cells are missing ones, and
-/// of the kind that is told.
-///
-/// # Errors
-///
-/// Those of [`concat_rows`].
-#[tactic(auto, using(crate::proofs::BelowLaws::parts_at_kind))]
-pub fn concat_parts(alloc: Global, missing: Kind, parts: &[Part<'_>]) -> Result<Column, MergeFault>
-    ensures { (texts : List (List ℕ)) → ConcatsBy (column_value texts) result
-        (rows_concatenated (map (λ part. column_value texts (part_column missing part))
-        parts.now)) }
-{
-    let Some(kind) = kind_of(missing, parts) else {
+    let Some(kind) = common_kind(parts) else {
         return Err(MergeFault::MixedKinds);
     };
-    let Some(count) = count_of(parts) else {
+    let parts = parts_of(alloc, parts)?;
+    let Some(count) = count_of(&parts) else {
         return Err(MergeFault::TooLarge);
     };
-    let column = column_of_kind(alloc, kind, parts, count)?;
+    let column = concat_parts(alloc, kind, &parts, count)?;
     Ok(column)
+}
+
+/// The cells of the parts of a column of this kind, one below the other. A part may lack the column: its cells are missing
+/// ones. They are so many in all, and no more than a column may have. `NoMemory` is the only refusal.
+pub fn concat_parts(
+    alloc: Global,
+    kind: Kind,
+    parts: &[Part<'_>],
+    count: usize,
+) -> Result<Column, NoMemory>
+    requires kind { All (λ part. part_kind kind part ≡ kind) parts.now }
+    requires count { count ≡ count_below parts.now }
+    requires few { count ≤ 2 ^ 26 }
+    ensures { IfOk result (λ column. column ≡ record { kind = kind; cells = cells_below parts.now }) }
+{
+    match kind {
+        Kind::Int64 => column_of::<i64>(alloc, parts, count),
+        Kind::Boolean => column_of::<bool>(alloc, parts, count),
+        Kind::Text => column_of::<TextId>(alloc, parts, count),
+    }
 }

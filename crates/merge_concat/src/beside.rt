@@ -11,8 +11,8 @@ ghost use Rattle.merge_concat.specs.Axes.{HaveLevelsOfFirst, tuples_of_each};
 
 use crate::axes::all_levels;
 use crate::fault::MergeFault;
+use crate::repeats::first_repeated_row;
 use cell_core::{NoMemory, TextDict, Tuple, Tuples};
-use label_align::{AlignFault, reindex};
 use multi_index::Axis;
 use row_keys::{LevelRows, find_partners, numbered, tuples_at};
 use std::alloc::Global;
@@ -35,15 +35,16 @@ pub fn have_same_labels(axes: &[&Axis]) -> bool
     true
 }
 
-// The first tuple that stands on more than one row, if there is one: `reindex` refuses an axis with such a tuple, whatever
-// is looked for there.
+// The first tuple that stands on more than one row, if there is one.
+#[tactic(auto, using(crate::proofs::Hints::repeated_on))]
 fn repeated_on(alloc: Global, axis: &Axis) -> Result<Option<Tuple>, NoMemory>
     ensures { IfOk result (λ repeated. repeated ≡ first_repeated same_tuple axis.now.tuples) }
 {
-    match reindex(alloc, axis, &Tuples::new(alloc)) {
-        Ok(_) => Ok(None),
-        Err(AlignFault::DuplicateLabels(repeated)) => Ok(Some(repeated)),
-        Err(_) => Err(NoMemory),
+    let none = Tuples::new(alloc);
+    let numbers = numbered(alloc, axis, &none, axis.levels())?;
+    match first_repeated_row(alloc, numbers.firsts.len(), &numbers.codes)? {
+        Some(row) => Ok(Some(axis.tuple(alloc, row))),
+        None => Ok(None),
     }
 }
 

@@ -3,7 +3,7 @@ ghost use Rattle.std.specs.Prelude.{◌≡◌, ◌≤◌, ◌++◌, IfOk};
 ghost use Rattle.multi_index.specs.Axes.{HaveLevels};
 ghost use Rattle.meaning_join.specs.Pairs.{joined, joined_within};
 ghost use Rattle.row_keys.specs.Keys.{same_tuple};
-ghost use Rattle.label_align.specs.Tuples.{tuple_less};
+ghost use Rattle.factorize.specs.label_align.Tuples.{tuple_less};
 ghost use Rattle.factorize.specs.Keys.{levels_of};
 ghost use Rattle.merge_concat.specs.Codes.{is_outer};
 ghost use Rattle.merge_concat.specs.Joining.{IsJoinOf};

@@ -4,7 +4,9 @@
 //! [`join_pairs`] tuples of labels. [`concat_rows`] and [`concat_parts`] put columns one below the other, where a part may
 //! lack the column; [`axis_below`] puts labels of rows so, with a label for each part if there are such.
 //! [`concat_columns`] has the labels of axes that are put side by side. [`first_repeated_row`] finds a key that stands twice
-//! by the numbers of keys, and [`key_of_row`] makes it a tuple. What is answered is defined in `meaning_join`.
+//! by the numbers of keys, and [`key_of_row`] makes it a tuple. [`Laid`] has the values of a column of a kind, and
+//! [`with_room`] room for such values, for those who put columns together in another order. What is answered is defined in
+//! `meaning_join`.
 //!
 //! ```text
 //! let once = Validate { left: true, right: false };
@@ -21,6 +23,7 @@ mod beside;
 mod fault;
 mod growing;
 mod joins;
+mod lanes;
 mod numbers;
 mod pairs;
 mod parts;
@@ -28,10 +31,12 @@ mod repeats;
 mod sides;
 
 pub use axes::axis_below;
-pub use below::{concat_parts, concat_rows};
+pub use below::{common_kind, concat_parts, concat_rows};
 pub use beside::{concat_columns, have_same_labels};
 pub use fault::MergeFault;
+pub use growing::with_room;
 pub use joins::{join_pairs, join_rows};
+pub use lanes::Laid;
 pub use pairs::Pairs;
 pub use parts::Part;
 pub use repeats::{first_repeated_row, key_of_row};

@@ -1,8 +1,7 @@
 // Parts of a column.
 ghost use Rattle.std.specs.Prelude.{◌≡◌, length};
-ghost use Rattle.merge_concat.specs.Parts.{part_kind, part_cells, whole_of};
+ghost use Rattle.merge_concat.specs.Parts.{part_cells, whole_of};
 
-use cell_core::Kind;
 use column_core::{Borrowed, ColRef};
 
 /// A part of a column that is put together.
@@ -25,16 +24,6 @@ impl<'a> Part<'a> {
             Borrowed::Texts(lane) => Borrowed::Texts(*lane),
         };
         Part::Cells(ColRef { lanes })
-    }
-
-    // The kind of the part: of missing cells the one that is told.
-    pub(crate) fn kind(&self, missing: Kind) -> Kind
-        ensures { result ≡ part_kind missing self.now }
-    {
-        match self {
-            Part::Cells(column) => column.kind(),
-            Part::Missing(_) => missing,
-        }
     }
 
     // How many cells there are.

@@ -1,21 +1,5 @@
 -- Columns whose cells become one column.
-use Rattle.{column_core.{proofs.cells.Common.{◌≡◌, ◌∙◌, ◌≤◌, ◌+◌, ◌*◌, ◌-◌, ◌^◌, ℕ, Bool, true, false, cond, List, [], ◌∷◌, ◌++◌, refl, sym, ap, arith, length, map, take, drop, nat_le, nat_tests, Option, Some, None, Ok, Err, All, slice_index_or, append-nil, length-map, get_or-map, get_or-range_with_len, length-range_with_len, take_rest, range_with_len, list_all, flat_map, flat_map-append, and_parts, All-cons, Cell, Na, Kind, CellValue, ColumnValue, datum, Label}, specs.Columns.{CellColumn, column_value}}, std.proofs.{Math.ListN.{get_or-map as seen_at}, lemmas.Option.{cond_some}}, meaning_shapes.{specs.{join.Concat.{mixed_kinds, too_large, same_kind}, Reshape.{cells_of_row, count_of_rows, cells_by_row, column_by_row, stacked}}, proofs.GridLaws.{length-even, even_at, map-flat_map}}, merge_concat.proofs.JoinLaws.{range_more}, reshape.specs.Blocks.{height_of, common_kind, row_of_cells, cells_across, AreByRow}}
-
--- the kind of all columns, where the first one is told
-pub kind_told : (columns : List CellColumn) (first : CellColumn) (kind : Kind) (told : Bool) → 1 ≤ length columns → first ≡ slice_index_or columns 0 first → kind ≡ first.kind
-    → list_all (λ other. same_kind kind other.kind) (take (length columns - 1) (drop 1 columns)) ≡ told → common_kind columns ≡ cond told (Some kind) None
-kind_told [] _ _ _ some = absurd (omega arith)
-kind_told (column ∷ columns) _ _ _ some = grind (arith, take_rest (column ∷ columns) 1)
-
-pub kinds_alike : (columns : List CellColumn) (kind : Kind) → common_kind columns ≡ Some kind → All (λ column. column.kind ≡ kind) columns
-kinds_alike [] kind is = grind arith
-kinds_alike (column ∷ columns) kind is =
-    let told = cond_some (list_all (λ other. same_kind column.kind other.kind) columns) _ _ is in
-    All-cons (λ (c : CellColumn). c.kind ≡ kind) column columns (grind arith) (λ k d lt. grind (arith, alike column.kind columns))
-  where
-    alike : (kind : Kind) (columns : List CellColumn) → list_all (λ other. same_kind kind other.kind) columns ≡ true → All (λ column. column.kind ≡ kind) columns
-    alike kind [] all = grind arith
-    alike kind (column ∷ columns) all = grind (arith, and_parts, alike kind columns)
+use Rattle.{column_core.{proofs.cells.Common.{◌≡◌, ◌∙◌, ◌+◌, ◌*◌, ◌-◌, ◌^◌, ℕ, Bool, true, false, cond, List, [], ◌∷◌, ◌++◌, refl, sym, ap, arith, length, map, nat_le, nat_tests, Some, None, Ok, Err, slice_index_or, append-nil, length-map, get_or-map, get_or-range_with_len, length-range_with_len, range_with_len, flat_map, flat_map-append, Cell, Na, Kind, ColumnValue, datum, Label}, specs.Columns.{CellColumn, column_value}}, std.proofs.Math.ListN.{get_or-map as seen_at}, meaning_shapes.{specs.{join.Concat.{mixed_kinds, too_large}, Reshape.{cells_of_row, count_of_rows, cells_by_row, column_by_row, stacked}}, proofs.GridLaws.{length-even, even_at, map-flat_map}}, merge_concat.{proofs.{JoinLaws.{range_more}, BelowLaws.{kinds_seen, column_if}}, specs.Parts.{common_kind}}, reshape.specs.Blocks.{height_of, row_of_cells, cells_across, AreByRow}}
 
 -- one row more
 pub row_more : (rows : ℕ) (columns : List CellColumn) → cells_across (rows + 1) columns ≡ cells_across rows columns ++ row_of_cells columns rows
@@ -38,10 +22,6 @@ module _ (texts : List (List ℕ)) where
   abbrev value_of : CellColumn → ColumnValue
   value_of = column_value texts
 
-  kinds_seen : (kind : Kind) (columns : List CellColumn) → list_all (λ other. same_kind kind other.kind) (map value_of columns) ≡ list_all (λ other. same_kind kind other.kind) columns
-  kinds_seen kind [] = refl
-  kinds_seen kind (column ∷ columns) = cc (kinds_seen kind columns)
-
   row_seen : (columns : List CellColumn) (row : ℕ) → cells_of_row (map value_of columns) row ≡ map (datum texts) (row_of_cells columns row)
   row_seen [] row = refl
   row_seen (column ∷ columns) row = cc (row_seen columns row, seen_at (datum texts) column.cells row Na)
@@ -53,13 +33,9 @@ module _ (texts : List (List ℕ)) where
   cells_seen : (columns : List CellColumn) → cells_by_row (map value_of columns) ≡ map (datum texts) (cells_across (height_of columns) columns)
   cells_seen columns = (λ i. flat_map (λ row. row_seen columns row i) (range_with_len 0 (height_seen columns i))) ∙ sym (map-flat_map (datum texts) (row_of_cells columns) (range_with_len 0 (height_of columns)))
 
-  abbrev column_if : Option Kind → List CellValue → Option ColumnValue
-  column_if None cells = None
-  column_if (Some kind) cells = Some record { kind = kind; cells = cells }
-
-  by_row_is : (columns : List CellColumn) → column_by_row (map value_of columns) ≡ column_if (common_kind columns) (map (datum texts) (cells_across (height_of columns) columns))
+  by_row_is : (columns : List CellColumn) → column_by_row (map value_of columns) ≡ column_if texts (common_kind columns) (map (datum texts) (cells_across (height_of columns) columns))
   by_row_is [] = refl
-  by_row_is (column ∷ columns) = grind (arith, kinds_seen column.kind columns, cells_seen (column ∷ columns))
+  by_row_is (column ∷ columns) = grind (arith, kinds_seen texts column.kind columns, cells_seen (column ∷ columns))
 
   module _ (columns : List CellColumn) where
     -- what is answered

@@ -1,12 +1,9 @@
 -- Columns whose cells become one column.
-use Rattle.std.specs.Prelude.{◌≡◌, ◌<◌, ℕ, ◌+◌, ◌*◌, List, [], ◌∷◌, map, length, slice_index_or, Option, Some, None, All, if◌then◌else◌}
-use Rattle.std.specs.List.{list_all, flat_map, range_with_len}
-use Rattle.cell_core.specs.declared.cell.Kind.{Kind}
-use Rattle.cell_core.specs.declared.cell.Kind.TheVariants.{Int64}
+use Rattle.std.specs.Prelude.{◌≡◌, ◌<◌, ℕ, ◌+◌, ◌*◌, List, [], ◌∷◌, map, length, slice_index_or, All}
+use Rattle.std.specs.List.{flat_map, range_with_len}
 use Rattle.cell_core.specs.declared.cell.Cell.{Cell}
 use Rattle.cell_core.specs.declared.cell.Cell.TheVariants.{Na}
 use Rattle.column_core.specs.Columns.{CellColumn}
-use Rattle.meaning_shapes.specs.join.Concat.{same_kind}
 
 -- how many rows columns of one length have
 abbrev pub height_of : List CellColumn → ℕ
@@ -16,11 +13,6 @@ height_of (column ∷ columns) = length column.cells
 -- the columns have one length
 abbrev pub HaveOneHeight : List CellColumn → Type 0
 HaveOneHeight columns = All (λ column. length column.cells ≡ height_of columns) columns
-
--- the kind that all columns have, if they have one; of no column it is that of whole numbers
-abbrev pub common_kind : List CellColumn → Option Kind
-common_kind [] = Some Int64
-common_kind (column ∷ columns) = if list_all (λ other. same_kind column.kind other.kind) columns then Some column.kind else None
 
 -- the cell of each column in a row
 abbrev pub row_of_cells : List CellColumn → ℕ → List Cell

@@ -3,33 +3,17 @@ ghost use Rattle.std.specs.Prelude.{◌≡◌, ◌<◌, ◌*◌, ◌^◌, ℕ, n
 ghost use Rattle.column_core.specs.Columns.{column_value};
 ghost use Rattle.meaning_shapes.specs.Reshape.{stacked as stacked_meant, melted};
 ghost use Rattle.reshape.specs.Answers.{ReshapesBy};
-ghost use Rattle.reshape.specs.Blocks.{height_of, common_kind, cells_across, AreByRow, HaveOneHeight};
+ghost use Rattle.reshape.specs.Blocks.{height_of, cells_across, AreByRow, HaveOneHeight};
 
 use crate::fault::ReshapeFault;
 use crate::lanes::stacked;
 use cell_core::{Kind, NoMemory, TextId};
 use column_core::{ColRef, Column};
-use merge_concat::concat_rows;
+use merge_concat::{common_kind, concat_rows};
 use std::alloc::Global;
 
 // As many cells as a column may have.
 const MOST_CELLS: usize = 1 << 26;
-
-// The kind that all columns have, if they have one.
-fn kind_of(columns: &[ColRef<'_>]) -> Option<Kind>
-    ensures { result ≡ common_kind columns.now }
-{
-    let [first, others @ ..] = columns else {
-        return Some(Kind::Int64);
-    };
-    let kind = first.kind();
-    for other in others {
-        if other.kind() != kind {
-            return None;
-        }
-    }
-    Some(kind)
-}
 
 // How many rows columns of one length have.
 fn height_of(columns: &[ColRef<'_>]) -> usize
@@ -86,7 +70,7 @@ pub fn stack_block(alloc: Global, parts: &[ColRef<'_>]) -> Result<Column, Reshap
         (stacked_meant (map (column_value texts) parts.now)) }
     ensures law { IfOk result (λ made. AreByRow parts.now made.cells) }
 {
-    let Some(kind) = kind_of(parts) else {
+    let Some(kind) = common_kind(parts) else {
         return Err(ReshapeFault::MixedKinds);
     };
     let rows = height_of(parts);

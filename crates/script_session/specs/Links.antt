@@ -1,5 +1,6 @@
 -- Calls behind `groupby`, `rolling` and `expanding`.
 use Rattle.std.specs.Prelude.{List, Option, codes}
+use Rattle.std.specs.Borrow.{Bor}
 use Rattle.script_state.specs.cells.Text.{Text}
 use Rattle.script_state.specs.tables.Value.{Entry, Given, NamedGiven}
 use Rattle.script_state.specs.language.Tree.{parts}
@@ -8,11 +9,10 @@ use Rattle.script_state.specs.script.Reading.{Files, Reads, at_once, then_read}
 use Rattle.script_state.specs.script.State.{State}
 use Rattle.script_state.specs.script.Expression.{where_named, named_of, brackets_of}
 use Rattle.script_tree.specs.View.{named_parts_of, optional_arg}
-use Rattle.cell_core.specs.declared.words.Words.{Words}
 use Rattle.frame_store.specs.declared.arguments.Argument.{Argument}
-use Rattle.frame_store.specs.declared.arguments.Chain.{Chain}
 use Rattle.frame_store.specs.declared.arguments.Named.{Named}
-use Rattle.frame_store.specs.declared.arguments.Chain.TheVariants as chain
+use Rattle.script_state.specs.frame_calls.declared.between.Between.{Between}
+use Rattle.script_state.specs.frame_calls.declared.between.Between.TheVariants as between
 use Rattle.script_session.specs.declared.link.Link.{Link}
 use Rattle.script_session.specs.declared.link.Link.TheVariants.{Groupby, Rolling, Expanding}
 use Rattle.script_session.specs.declared.link.Linked.{Linked}
@@ -22,13 +22,13 @@ link_name Groupby = codes "groupby"
 link_name Rolling = codes "rolling"
 link_name Expanding = codes "expanding"
 
--- the chain of a link with its arguments, what stands in brackets, and the name behind it
-abbrev pub chain_behind : Link → List Named → Option Argument → Words → Chain
-chain_behind Groupby args by name = chain.Group args by name
-chain_behind Rolling args by name = chain.Rolling args name
-chain_behind Expanding args by name = chain.Expanding args name
+-- what stands before a name: a link with its arguments and what stands in brackets, which windows don't have
+abbrev pub between_of : Link → Bor (List Named) → Bor (Option Argument) → Between
+between_of Groupby args by = between.Groupby args by
+between_of Rolling args by = between.Rolling args
+between_of Expanding args by = between.Expanding args
 
--- the same with plain values; windows have no brackets
+-- the same with plain values, and the name behind it
 abbrev pub chain_meant : Link → List NamedGiven → Option Given → Text → ChainValue
 chain_meant Groupby args by name = grouped args by name
 chain_meant Rolling args by name = rolling args name

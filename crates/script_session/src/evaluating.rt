@@ -12,7 +12,7 @@ ghost use Rattle.script_state.specs.Work.{world_of};
 
 use crate::link::{Link, Linked};
 use crate::words::{copied_name, selector_of};
-use cell_core::{Code, Words};
+use cell_core::Code;
 use frame_store::{Argument, Entries, Item, Items, Named, NamedList, Selector, Subscript, Value};
 use outside_io::Files;
 use script_state::{EvalFault, FileNames, Work, evaluated, expect_function};
@@ -125,8 +125,8 @@ fn through<F: Files>(
     let args = arguments(work, files, names, call.args)?;
     let by = brackets(work, files, names, call.by)?;
     let more = arguments(work, files, names, call.more)?;
-    let name = Words::from_text(work.alloc(), call.name.as_str())?;
-    evaluated(work.chained(on, &call.link.chain(args, by, name), &more))
+    let between = call.link.between(&args, &by);
+    evaluated(work.chained(on, between, call.name.as_str(), &more))
 }
 
 // What stands in the brackets of an accessor.

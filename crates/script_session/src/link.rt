@@ -1,9 +1,10 @@
 // What stands between a value and a method that is called behind it.
 ghost use Rattle.std.specs.Prelude.{◌≡◌};
-ghost use Rattle.script_session.specs.Links.{link_name, chain_behind};
+ghost use Rattle.script_session.specs.Links.{link_name, between_of};
 
 use cell_core::Words;
-use frame_store::{Argument, Chain, NamedList};
+use frame_store::{Argument, NamedList};
+use script_state::Between;
 use script_tree::{Arg, Args};
 
 // The link of a chained call.
@@ -60,20 +61,14 @@ impl Link {
         }
     }
 
-    // The chain of evaluated parts. Only `groupby` has brackets.
-    pub(crate) fn chain(self, args: NamedList, by: Option<Argument>, name: Words) -> Chain
-        ensures { result ≡ chain_behind self args by name }
+    // What stands before a name, of evaluated parts. Only `groupby` has brackets.
+    pub(crate) fn between<'a>(self, args: &'a NamedList, by: &'a Option<Argument>) -> Between<'a>
+        ensures { result ≡ between_of self args.entry by.entry }
     {
         match self {
-            Link::Groupby => Chain::Group(args, by, name),
-            Link::Rolling => {
-                drop(by);
-                Chain::Rolling(args, name)
-            }
-            Link::Expanding => {
-                drop(by);
-                Chain::Expanding(args, name)
-            }
+            Link::Groupby => Between::Groupby(args, by),
+            Link::Rolling => Between::Rolling(args),
+            Link::Expanding => Between::Expanding(args),
         }
     }
 }

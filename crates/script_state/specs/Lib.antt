@@ -5,6 +5,7 @@ pub mod Faults
 pub mod Work
 pub mod Evaluates
 -- definitions of crates below, passed on to the crates above
+pub use Rattle.frame_calls.specs as frame_calls
 pub use Rattle.frame_calls.specs.frame_labels as frame_labels
 pub use Rattle.frame_select.specs as frame_select
 pub use Rattle.frame_set.specs as frame_set

@@ -1,7 +1,7 @@
 // Forms on values. What they make is noted.
 ghost use Rattle.std.specs.Prelude.{◌≡◌, ◌<◌, List, Some, IfOk, IfErr, OnOk, IfSome, true, false, is_some, option_map, vec_len, vec_capacity};
 ghost use Rattle.meaning_laws.specs.cells.Text.{Text as OneText};
-ghost use Rattle.meaning_laws.specs.cells.Cell.{datum, label_datum};
+ghost use Rattle.meaning_laws.specs.cells.Cell.{label_datum};
 ghost use Rattle.meaning_laws.specs.cells.Operator.{cell_label};
 ghost use Rattle.meaning_laws.specs.tables.Value.{cell};
 ghost use Rattle.meaning_laws.specs.tables.Settled.{IsSettled};
@@ -12,10 +12,8 @@ ghost use Rattle.meaning_laws.specs.select.Select.{select_result};
 ghost use Rattle.meaning_laws.specs.select.Set.{assign_result, removal_result};
 ghost use Rattle.meaning_laws.specs.method.Calls.{call_result, has_method, plain};
 ghost use Rattle.meaning_laws.specs.method.Functions.{made_by};
-ghost use Rattle.meaning_laws.specs.Validity.{IsHeldCell};
 ghost use Rattle.frame_store.specs.Arguments.{entry_of, argument_of, IsLive};
-ghost use Rattle.frame_calls.specs.frame_labels.Chains.{chain_in, IsKnownChain};
-ghost use Rattle.frame_calls.specs.Calls.{method_in};
+ghost use Rattle.frame_calls.specs.Calls.{method_in, chain_of, IsKnownBetween};
 ghost use Rattle.frame_select.specs.Selected.{way_of};
 ghost use Rattle.frame_set.specs.Assigned.{new_value, moved_object, IsLiveNew, IsOther};
 ghost use Rattle.column_operators.specs.Tasks.{operator_of};
@@ -32,9 +30,11 @@ use crate::names::find;
 use crate::work::Work;
 use cell_core::{Cell, Code, Grid, Label, Words};
 use column_operators::Operator;
-use frame_calls::{function_called, function_named, method_called, method_of};
+use frame_calls::{
+    Between, function_called, function_named, method_behind, method_called, method_of,
+};
 use frame_set::NewValue;
-use frame_store::{Argument, Chain, NamedList, ObjId, OpFault, Selector, Subscript, Value};
+use frame_store::{Argument, NamedList, ObjId, OpFault, Selector, Subscript, Value};
 use meaning_call::{Function, Method};
 use script_tokens::Binary;
 use script_tree::{Literal, Unary};
@@ -197,24 +197,31 @@ impl Work {
         Ok(made)
     }
 
-    /// What a method gives behind `groupby`, `rolling` or `expanding`, or alone: a new object, or a scalar.
+    /// What a method gives behind `groupby`, `rolling` or `expanding`: a new object, or a scalar.
     /// The refusals are those of the method, in its order.
-    pub fn chained(&mut self, on: Value, chain: &Chain, args: &NamedList) -> Result<Value, OpFault>
+    pub fn chained(
+        &mut self,
+        on: Value,
+        between: Between<'_>,
+        name: &str,
+        args: &NamedList,
+    ) -> Result<Value, OpFault>
         requires on { IsKnownValue (world_of self.old) on }
-        requires before { IsKnownChain (world_of self.old) chain.now }
+        requires before { IsKnownBetween (world_of self.old) between }
         requires arguments { AreKnownArguments (world_of self.old) args.now }
         ensures { FormsIn result (call_result (entry_in (world_of self.old) on)
-            (chain_in (world_of self.old) chain.now)
+            (chain_of (world_of self.old) between.entry name.now)
             (arguments_in (world_of self.old) args.now))
             self.old self.new }
     {
         self.temps.reserve(1)?;
-        let made = frame_calls::method(
+        let made = method_behind(
             self.alloc,
             &mut self.store,
             &mut self.dict,
             on,
-            chain,
+            between,
+            name,
             args,
         )?;
         note(&mut self.temps, made);
@@ -275,8 +282,8 @@ impl Work {
             (argument_in (world_of self.old) value.now))
             self.old self.new }
     {
-        let scalar = value.scalar();
-        prove!(is_held(scalar));
+        // A column can hold the scalar: whole numbers of the code have 64 bits.
+        let _ = value.scalar();
         let second = second.as_ref();
         let value = self.new_value(on, value);
         frame_set::assign(
@@ -355,20 +362,6 @@ fn note(temps: &mut Vec<ObjId>, made: Value)
 {
     if let Value::Object(id) = made {
         temps.push_reserved(id);
-    }
-}
-
-// Whether a column can hold the scalar, if there is one. It can: whole numbers of the code have 64 bits.
-fn is_held(scalar: Option<Cell>) -> bool
-    ensures so { result ≡ true }
-    ensures held { (texts : List OneText) → IfSome (option_map (datum texts) scalar) IsHeldCell }
-{
-    match scalar {
-        Some(Cell::Int(_)) => true,
-        Some(Cell::Bool(_)) => true,
-        Some(Cell::Text(_)) => true,
-        Some(Cell::Na) => true,
-        None => true,
     }
 }
 

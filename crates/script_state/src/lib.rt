@@ -26,4 +26,5 @@ mod work;
 pub use fault::{EvalFault, evaluated};
 pub use file_names::{FileName, FileNames};
 pub use forms::expect_function;
+pub use frame_calls::Between;
 pub use work::Work;

@@ -18,4 +18,4 @@ replace-requires-clause-by c =
 
 pub returns-in_ok-grown-in-Table-clause-ok : goal.returns-in_ok-grown-in-Table-clause-ok
 returns-in_ok-grown-in-Table-clause-ok c =
-    grind (arith, replaced (tables c.args.store.now) (tables c.insert.new.self) (tables c.replace.new.self) c.args.on.0 c.in_ok-grown-in-Table.grown.0 c.in-Table.table c.requires.live c.in_ok-grown-in-Table.ensures.fresh c.in_ok-grown-in-Table.ensures.ok c.replace.ensures, c.in-Table.is)
+    grind (arith, replaced (tables c.args.store.now) (tables c.insert.new.self) (tables c.replace.new.self) c.args.on.0 c.in_ok-grown-in-Table.grown.0 c.in-Table.table c.requires.live c.in_ok-grown-in-Table.ensures.fresh c.in_ok-grown-in-Table.ensures.ok c.replace.ensures.ok, c.in-Table.is)

@@ -1,8 +1,9 @@
 use Rattle.{
-  script_state.{proofs.{cells.Common.{rules, refl, length, ◌≡◌, sym, ◌∙◌, ap, subst, Some, None, arith, Option, append-nil, List, is_some, IfSome, Text, Words}, Evaluations.{evaluates_by, apart, flat, spent, known_after, seen_after, stops, goes_on, adds, makes, stays, forms, knows_none, names_value, writes_out}, Worlds.{of_value, of_items, of_argument, of_pairs, of_arguments, of_subscript, seen_kept, keeps_both, brackets_seen, brackets_kept}, Rides.{then_gives}, laws.{FormFaults.{sign_result_fault, infix_result_fault, length_result_fault}, SelectFaults.{select_result_fault}, CallFaults.{call_result_fault}}}, specs.{language.{Tree.{bare, named, keyed}, Depth.{depth, step_depth}}, tables.Value.{Entry, one, entries, Given, NamedGiven}, call.Signature.{function_named}, select.Select.{plain, through}, method.Calls.{has_method, call_result}, script_tokens.View.{binary_of}, script.{Reading.{Reads, at_once, gives, then_read}, Expression.{where_named}}, Work.{world_of}, frame_labels.Chains.{chain_in, IsKnownChain}}},
+  std.specs.Borrow.{Bor},
+  script_state.{proofs.{cells.Common.{rules, refl, length, ◌≡◌, sym, ◌∙◌, ap, subst, Some, None, arith, Option, append-nil, List, is_some, IfSome, Text}, Evaluations.{evaluates_by, apart, flat, spent, known_after, seen_after, stops, goes_on, adds, makes, stays, forms, knows_none, names_value, writes_out}, Worlds.{of_value, of_items, of_argument, of_pairs, of_arguments, of_subscript, seen_kept, keeps_both, brackets_seen, brackets_kept}, Rides.{then_gives}, laws.{FormFaults.{sign_result_fault, infix_result_fault, length_result_fault}, SelectFaults.{select_result_fault}, CallFaults.{call_result_fault}}}, specs.{language.{Tree.{bare, named, keyed}, Depth.{depth, step_depth}}, tables.Value.{Entry, one, entries, Given, NamedGiven}, call.Signature.{function_named}, select.Select.{plain, through}, method.Calls.{has_method, call_result}, script_tokens.View.{binary_of}, script.{Reading.{Reads, at_once, gives, then_read}, Expression.{where_named}}, Work.{world_of}, frame_calls.Calls.{chain_of, IsKnownBetween}}},
   frame_store.{proofs.RowLaws.{item_of-Row, argument_of-Table}, specs.{declared.arguments.{Named.{Named}, Argument.{Argument}}, World.{World, arguments_in, entry_in, subscript_in, IsKnownArgument, AreKnownArguments}}},
   script_tree.{specs.View.{expr_of, step_of, arg_of, parts_of, named_parts_of, pair_parts_of, sub_of as view_sub}, proofs.Rows.{expr_of-Make, step_of-Method, step_of-Group, step_of-Rolling, step_of-Expanding, arg_of-Many, arg_of-Row, arg_of-Table}},
-  script_session.{specs.{Parts.{brackets_in}, Links.{link_name, chain_behind, chain_meant}, declared.link.Link.{Link}}, proofs.{Gathering.{gathered, gathers_first, gathers_next, gathers_none}, Refusing.{refuses_kind}, Parts.{reads_items, reads_pairs, reads_arguments, parts_end, pairs_end, no_items, no_pairs, no_arguments, items_push, pairs_push, arguments_push, items_known, pairs_known, arguments_known, key_known, span_known, row_known, table_known}, Trees.{part_depth, sub_of-Span, step_of-Access}}},
+  script_session.{specs.{Parts.{brackets_in}, Links.{link_name, between_of, chain_meant}, declared.link.Link.{Link}}, proofs.{Gathering.{gathered, gathers_first, gathers_next, gathers_none}, Refusing.{refuses_kind}, Parts.{reads_items, reads_pairs, reads_arguments, parts_end, pairs_end, no_items, no_pairs, no_arguments, items_push, pairs_push, arguments_push, items_known, pairs_known, arguments_known, key_known, span_known, row_known, table_known}, Trees.{part_depth, sub_of-Span, step_of-Access}}},
 }
 use Rattle.script_state.specs.method.Calls as calls
 use Rattle.script_state.specs.language.Tree as tree
@@ -135,11 +136,11 @@ after-returns-in_ok-args-in-Method g t c =
     (forms _ (call_result_fault (entry_in (world_of c.arguments.new.work) c.args.on) (calls.plain c.as_str-in-Method.result.now) _) c.evaluated-in-Method.ensures (search))))
 
 -- what a chain is seen as
-chain_seen : (w : World) (link : Link) (args : List Named) (by : Option Argument) (name : Words) → chain_in w (chain_behind link args by name) ≡ chain_meant link (arguments_in w args) (brackets_in w by) name
+chain_seen : (w : World) (link : Link) (args : Bor (List Named)) (by : Bor (Option Argument)) (name : Text) → chain_of w (between_of link args by) name ≡ chain_meant link (arguments_in w args.now) (brackets_in w by.now) name
 chain_seen = grind arith
 
 -- its arguments and brackets are known
-chain_known : (w : World) (link : Link) (args : List Named) (by : Option Argument) (name : Words) → AreKnownArguments w args → IfSome by (IsKnownArgument w) → IsKnownChain w (chain_behind link args by name)
+chain_known : (w : World) (link : Link) (args : Bor (List Named)) (by : Bor (Option Argument)) → AreKnownArguments w args.now → IfSome by.now (IsKnownArgument w) → IsKnownBetween w (between_of link args by)
 chain_known = grind arith
 
 -- a call without brackets reads nothing in their place
@@ -189,10 +190,6 @@ pub through-returns-in_err-more : goal.through-returns-in_err-more
 through-returns-in_err-more g t c = rw (rw c.name.ensures at (c.in_ok-expect_method.ensures.known c.args.work.now.dict))
     (goes_on _ c.in_ok-args.ensures (goes_on _ c.in_ok-by.ensures (stops _ c.in_err-more.ensures (search))))
 
-pub through-returns-in_err-name : goal.through-returns-in_err-name
-through-returns-in_err-name g t c = rw (rw c.name.ensures at (c.in_ok-expect_method.ensures.known c.args.work.now.dict))
-    (goes_on _ c.in_ok-args.ensures (goes_on _ c.in_ok-by.ensures (stops _ (spent c.in_ok-more.ensures) (search))))
-
 pub through-chained-requires : goal.through-chained-requires
 through-chained-requires g t c =
     let x = c.in_ok-args.ensures in
@@ -202,7 +199,7 @@ through-chained-requires g t c =
     let by = brackets_kept _ _ c.brackets.new.work.settled c.arguments-2.new.work.settled z.kept c.in_ok-by.by y.found in
     record {
       on = known_after z of_value (known_after y of_value (known_after x of_value c.requires));
-      before = subst (IsKnownChain (world_of c.arguments-2.new.work)) (sym c.chain.ensures) (search chain_known);
+      before = subst (IsKnownBetween (world_of c.arguments-2.new.work)) (sym c.between-between.ensures) (search chain_known);
       arguments = z.found;
     }
 
@@ -218,10 +215,10 @@ through-returns g t c =
     let on = seen_kept _ _ c.args.work.now.settled w.settled (keeps_both _ _ _ x.kept kept) of_value c.requires in
     let args = seen_kept _ _ p.settled w.settled kept of_arguments x.found in
     let by : brackets_in (world_of w) c.in_ok-by.by ≡ brackets_in (world_of q) c.in_ok-by.by = search brackets_seen in
-    let named = c.in_ok-name.ensures ∙ c.as_str.ensures in
-    let chained = ap (chain_in (world_of w)) c.chain.ensures ∙ chain_seen _ _ _ _ _ ∙ (λ i. chain_meant c.args.call.link (args i) (by i) (named i)) in
+    let name = c.as_str.result.now in
+    let chained = (λ i. chain_of (world_of w) (c.between-between.ensures i) name) ∙ chain_seen _ _ _ _ _ ∙ (λ i. chain_meant c.args.call.link (args i) (by i) (c.as_str.ensures i)) in
     rw (rw c.name.ensures at (c.in_ok-expect_method.ensures.known c.args.work.now.dict)) (goes_on _ x (goes_on _ y (goes_on _ z (rw (← on, ← chained)
-    (forms _ (call_result_fault (entry_in (world_of w) c.args.on) (chain_in (world_of w) c.chain.result) _) c.evaluated.ensures (search))))))
+    (forms _ (call_result_fault (entry_in (world_of w) c.args.on) (chain_of (world_of w) c.between-between.result name) _) c.evaluated.ensures (search))))))
 
 pub subscripts-returns-in_err-first : goal.subscripts-returns-in_err-first
 subscripts-returns-in_err-first g t c = stops _ c.in_err-first.ensures (search)

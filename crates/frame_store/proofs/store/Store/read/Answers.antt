@@ -1,0 +1,5 @@
+use Rattle.frame_store.proofs.ChangedLaws.{kept_there}
+use Rattle.frame_store.proofs.store.Store.read.Goals as goal
+
+pub read-requires : goal.read-requires
+read-requires c = kept_there c.args.self.now.pool c.args.self.now.objects.slots c.args.self.now.kept c.args.on.0 c.index.result.now c.index.ensures

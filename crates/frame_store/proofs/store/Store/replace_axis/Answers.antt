@@ -1,0 +1,7 @@
+use Rattle.frame_store.proofs.ChangedLaws.{relabelled}
+use Rattle.frame_store.proofs.store.Store.replace_axis.Goals as goal
+
+pub invariant_of-self : goal.invariant_of-self
+invariant_of-self c = record {
+  kept = relabelled c.args.self.now.pool c.args.self.now.objects.slots c.args.on.0 c.index_mut.result.now c.replace_axis.new.self c.args.axis c.args.self.now.kept c.index_mut.ensures.value c.replace_axis.ensures c.requires.rows;
+}
