@@ -1,8 +1,13 @@
 # Completion of pdscript for bash: scripts and options, then the names that the script reads, and paths behind NAME=.
 _pdscript() {
-    local line=${COMP_LINE:0:COMP_POINT} word script name
+    local line=${COMP_LINE:0:COMP_POINT} word before script name
     word=${line##* }
+    before=${line% *}
     script=${COMP_WORDS[1]}
+    if [ "$script" = --stats ]; then
+        before=${before/ --stats/}
+        script=${COMP_WORDS[2]}
+    fi
     COMPREPLY=()
     case $word in
     *=*)
@@ -10,10 +15,10 @@ _pdscript() {
         mapfile -t COMPREPLY < <(compgen -f -- "${word#*=}")
         ;;
     *)
-        if [ "${line% *}" = "${COMP_WORDS[0]}" ]; then
+        if [ "$before" = "${COMP_WORDS[0]}" ]; then
             compopt -o filenames 2>/dev/null
             mapfile -t COMPREPLY < <(compgen -d -- "$word"; compgen -f -X '!*.pds' -- "$word")
-            case $word in -*) mapfile -t COMPREPLY < <(compgen -W "--help --demo" -- "$word") ;; esac
+            case $word in -*) mapfile -t COMPREPLY < <(compgen -W "--help --demo --stats" -- "$word") ;; esac
         elif [ -f "$script" ]; then
             compopt -o nospace 2>/dev/null
             while IFS= read -r name; do

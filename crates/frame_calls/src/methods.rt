@@ -2,10 +2,12 @@
 ghost use Rattle.std.specs.Prelude.{◌≡◌, List, Some};
 ghost use Rattle.frame_labels.specs.method.cells.Text.{Text as OneText};
 ghost use Rattle.meaning_call.specs.Signature as signature;
+ghost use Rattle.frame_labels.specs.method.Calls as calls;
 ghost use Rattle.frame_labels.specs.method.Calls.{has_method, plain_result, table_call, call_result};
+ghost use Rattle.frame_labels.specs.method.Charges.{method_charge, call_charge};
 ghost use Rattle.frame_store.specs.Arguments.{entry_of, object_value, shape_at, IsLive, IsLiveObject};
 ghost use Rattle.frame_store.specs.Objects.{tables};
-ghost use Rattle.frame_store.specs.World.{world, entry_in, arguments_in, IsSettledWorld, AreKnownArguments, Forms};
+ghost use Rattle.frame_store.specs.World.{world, entry_in, arguments_in, IsSettledWorld, AreKnownArguments, FormsFor};
 ghost use Rattle.frame_labels.specs.Chains.{chain_in, IsKnownChain};
 ghost use Rattle.frame_calls.specs.Calls.{method_in, chain_of, IsKnownBetween};
 
@@ -62,8 +64,10 @@ fn answered(
     requires settled { IsSettledWorld (world store.old dict.old) }
     requires arguments { AreKnownArguments (world store.old dict.old) args.now }
     ensures { let w = world store.old dict.old in
-        Forms result (table_call (Some method) name.now (arguments_in w args.now)
-        (object_value w.tables w.texts on)) w (world store.new dict.new) }
+        let given = arguments_in w args.now in
+        let t = object_value w.tables w.texts on in
+        FormsFor (method_charge method given t) result (table_call (Some method) name.now given t)
+        w (world store.new dict.new) }
 {
     match method {
         Method::Columns(method) => column_method(alloc, store, dict, on, method, args),
@@ -97,8 +101,9 @@ pub fn method_called(
     requires settled { IsSettledWorld (world store.old dict.old) }
     requires arguments { AreKnownArguments (world store.old dict.old) args.now }
     ensures { let w = world store.old dict.old in
-        Forms result (plain_result (entry_in w on) name.now (arguments_in w args.now))
-        w (world store.new dict.new) }
+        let given = arguments_in w args.now in
+        FormsFor (call_charge (entry_in w on) (calls.plain name.now) given) result
+        (plain_result (entry_in w on) name.now given) w (world store.new dict.new) }
 {
     let Value::Object(id) = on else {
         return Err(no_attribute(alloc, name));
@@ -119,8 +124,9 @@ fn plain(
     requires settled { IsSettledWorld (world store.old dict.old) }
     requires arguments { AreKnownArguments (world store.old dict.old) args.now }
     ensures { let w = world store.old dict.old in
-        Forms result (plain_result (entry_in w on) name.now (arguments_in w args.now))
-        w (world store.new dict.new) }
+        let given = arguments_in w args.now in
+        FormsFor (call_charge (entry_in w on) (calls.plain name.now) given) result
+        (plain_result (entry_in w on) name.now given) w (world store.new dict.new) }
 {
     let Value::Object(id) = on else {
         return Err(no_attribute(alloc, name));
@@ -148,8 +154,10 @@ pub fn method_behind(
     requires before { IsKnownBetween (world store.old dict.old) between }
     requires arguments { AreKnownArguments (world store.old dict.old) args.now }
     ensures { let w = world store.old dict.old in
-        Forms result (call_result (entry_in w on) (chain_of w between.entry name.now)
-        (arguments_in w args.now)) w (world store.new dict.new) }
+        let chain = chain_of w between.entry name.now in
+        let given = arguments_in w args.now in
+        FormsFor (call_charge (entry_in w on) chain given) result
+        (call_result (entry_in w on) chain given) w (world store.new dict.new) }
 {
     let args = args.as_slice();
     match between {
@@ -176,8 +184,9 @@ pub fn method_behind(
 /// A method of a value by its name, alone or behind `groupby`, `rolling` or `expanding`: `s.name(..)`.
 ///
 /// The answer is a scalar, or a new object whose table is that of its own rows; no other object
-/// changes. The scalar that `to_csv` answers is a text, to which the dictionary gives a number. The
-/// methods are those of the API reference of pandas, "Series" and "DataFrame".
+/// changes. The objects hold at most as many cells more as the call costs. The scalar that `to_csv`
+/// answers is a text, to which the dictionary gives a number. The methods are those of the API reference
+/// of pandas, "Series" and "DataFrame".
 ///
 /// # Errors
 ///
@@ -200,8 +209,10 @@ pub fn method(
     requires before { IsKnownChain (world store.old dict.old) chain.now }
     requires arguments { AreKnownArguments (world store.old dict.old) args.now }
     ensures { let w = world store.old dict.old in
-        Forms result (call_result (entry_in w on) (chain_in w chain.now)
-        (arguments_in w args.now)) w (world store.new dict.new) }
+        let called = chain_in w chain.now in
+        let given = arguments_in w args.now in
+        FormsFor (call_charge (entry_in w on) called given) result
+        (call_result (entry_in w on) called given) w (world store.new dict.new) }
 {
     match chain {
         Chain::Plain(name) => plain(alloc, store, dict, on, name.as_str(), args.as_slice()),

@@ -1,6 +1,6 @@
 -- What a form answers, by what it reads.
 use Rattle.{
-  frame_parts.proofs.Common.{arith, ◌≡◌, ◌∙◌, ℕ, sym, List, ◌++◌, false, Some, None, Result, Err, Text, IsLonger, FaultValue, IsSettled, NumberedTable, table_value, IsWhole, Entry, list_in, Cell, Value, Argument, Item, OpFault, NoMemory, argument_of, items_of, Tables, table_or, shown, cells_value, World, IsSettledWorld, IsKnownTable, IsKnownArgument, Forms, AreColumnsOf, object_settled, settled_later, seen_later},
+  frame_parts.proofs.Common.{arith, ◌≡◌, ◌∙◌, refl, subst, ℕ, sym, List, ◌++◌, false, Some, None, Result, Err, Text, IsLonger, FaultValue, IsSettled, NumberedTable, table_value, IsWhole, Entry, list_in, Cell, Value, Argument, Item, OpFault, NoMemory, argument_of, items_of, Tables, table_or, shown, cells_value, World, IsSettledWorld, IsKnownTable, IsKnownArgument, Forms, AreColumnsOf, object_settled, settled_later, seen_later},
   frame_select.specs.Selected.{scalars_in},
   frame_signatures.{specs.Scalars.{scalars}, proofs.{ScalarLaws.{scalars_are}, ToldLaws.{some_same}}},
   frame_groups.specs.Grouped.{AreValues},
@@ -16,11 +16,11 @@ pub seen_before : (w : World) (texts : List Text) (id : ℕ) (t : NumberedTable)
 seen_before w texts id t at longer settled = cc (seen_later table_value w.texts texts t longer (object_settled w.texts w.tables id t at settled))
 
 -- want of memory after texts were added
-pub no_memory_forms : (w : World) (texts : List Text) (r : Result Value OpFault) (meant : Result Entry FaultValue) → r ≡ Err NoMemory → IsLonger w.texts texts → IsSettledWorld w → Forms r meant w (record { tables = w.tables; texts = texts })
-no_memory_forms w _ r meant is longer settled = rw is (seen_later shown _ _ _ longer settled, longer, search settled_later)
+pub no_memory_forms : (w : World) (texts : List Text) (r : Result Value OpFault) (meant : Result Entry FaultValue) → r ≡ Err NoMemory → IsLonger w.texts texts → IsSettledWorld w → Forms r meant w (record { tables = w.tables; texts = texts; holding = w.holding })
+no_memory_forms w _ r meant is longer settled = rw is (seen_later shown _ _ _ longer settled, longer, search settled_later, record { cells = omega arith; blocks = λ id live there apart. refl })
 
 pub forms_so : (r : Result Value OpFault) (meant meant' : Result Entry FaultValue) (old new : World) → Forms r meant old new → meant ≡ meant' → Forms r meant' old new
-forms_so r meant = grind arith
+forms_so r _ _ old new forms is = subst (λ m. Forms r m old new) is forms
 
 -- the same of a table that is read, and of a call that is told
 pub answer_at : (texts : List Text) (g : meant.Grouping) (v : meant.Values) {t t' : NumberedTable} {call call' : meant.GroupCall} → t ≡ t' → call ≡ call' → group_answer (table_value texts t) g v call ≡ group_answer (table_value texts t') g v call'

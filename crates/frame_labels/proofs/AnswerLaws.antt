@@ -1,7 +1,8 @@
 -- Tables that are read of a world, and answers by another wording.
 use Rattle.{
-  frame_parts.proofs.Common.{arith, ◌≡◌, ◌∙◌, refl, ap, subst, ℕ, List, [], Option, None, Some, option_map, Result, Ok, Err, Text, FaultValue, then_value, NumberedTable, IsWhole, Entry, Value, OpFault, World, IsSettledWorld, IsKnownTable, Forms, MakesBy, object_settled},
-  frame_store.specs.{Derivations.{Derives}, declared.{derivations.Derivation.{Derivation}, fault.OpFault.TheVariants.{Refused, NoMemory}}, tables.Value.{NamedGiven}},
+  frame_parts.proofs.Common.{arith, ◌≡◌, ◌∙◌, refl, ap, subst, ℕ, List, [], Option, None, Some, option_map, Result, Ok, Err, Text, FaultValue, then_value, NumberedTable, IsWhole, Entry, Value, OpFault, World, IsSettledWorld, IsKnownTable, MakesBy, object_settled},
+  frame_store.proofs.FormLaws.{free_forms},
+  frame_store.specs.{Derivations.{Derives}, World.{FormsFor}, tables.Cost.{free}, declared.{derivations.Derivation.{Derivation}, fault.OpFault.TheVariants.{Refused, NoMemory}}, tables.Value.{NamedGiven}},
   frame_select.specs.Selected.{as_it_is},
   frame_signatures.specs.call.Binding.{Bound, not_taken, not_listed, bound, bound_of},
   meaning_method.specs.Groups.{of_bound, without_arguments},
@@ -11,8 +12,16 @@ use Rattle.{
 pub known_table : (w : World) (id : ℕ) (t : NumberedTable) → w.tables id ≡ Some t → IsWhole t → IsSettledWorld w → IsKnownTable w.texts t
 known_table = search object_settled
 
-pub forms_so : (r : Result Value OpFault) (meant meant' : Result Entry FaultValue) (old new : World) → meant ≡ meant' → Forms r meant old new → Forms r meant' old new
-forms_so = grind arith
+pub forms_so : (charge : Entry → ℕ) (r : Result Value OpFault) (meant meant' : Result Entry FaultValue) (old new : World) → meant ≡ meant' → FormsFor charge r meant old new → FormsFor charge r meant' old new
+forms_so charge r _ _ old new is forms = subst (λ m. FormsFor charge r m old new) is forms
+
+-- what shares its cells has a charge, and costs nothing
+pub free_so : (charge : Entry → ℕ) (r : Result Value OpFault) (meant meant' : Result Entry FaultValue) (old new : World) → meant ≡ meant' → FormsFor free r meant old new → FormsFor charge r meant' old new
+free_so charge r _ meant' old new is forms = free_forms charge r meant' old new (forms_so free r _ meant' old new is forms)
+
+-- the same charge, in other words
+pub charged_so : (charge charge' : Entry → ℕ) (r : Result Value OpFault) (meant meant' : Result Entry FaultValue) (old new : World) → charge ≡ charge' → meant ≡ meant' → FormsFor charge r meant old new → FormsFor charge' r meant' old new
+charged_so charge _ r _ meant' old new same is forms = subst (λ (c : Entry → ℕ). FormsFor c r meant' old new) same (forms_so charge r _ meant' old new is forms)
 
 pub derives_so : (texts : List Text) (t : NumberedTable) (r : Result Derivation OpFault) (meant meant' : Result Entry FaultValue) → meant ≡ meant' → Derives texts t r meant → Derives texts t r meant'
 derives_so texts t r _ _ is derives = subst (Derives texts t r) is derives

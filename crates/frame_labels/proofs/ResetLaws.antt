@@ -1,9 +1,10 @@
 -- The levels of a table as columns of a frame, and the frame that they become with its columns.
 use Rattle.{
-  frame_parts.proofs.Common.{◌≡◌, refl, ℕ, pos, ◌+◌, ◌<◌, not, nat_eq, Bool, true, false, List, [], ◌∷◌, ◌++◌, map, take, drop, length, slice_index_or, slice_get, All, Option, Some, None, if◌then◌else◌, append_assoc, append-nil, add-one, arith, sym, subst, Result, Ok, Err, get_or-map, drop-cons, nat_tests, length-map, map-append, take_more, All-append, All-nil, All-map, length-range_with_len, length-map-range_with_len, get_or_from_slice_get, slice_get_within, unwrap_or, codes, IsSome, IfOk, list_any, range_with_len, AreDistinct, Label, TextId, Cell, Frame, CellBlock, Text, LabelValue, int, label_datum, IsLonger, CellValue, na, FaultValue, limit, then_value, IsSettled, NumberedTable, Table, table_value, heading_value, ColumnOf, tuple_value, column_value, with_labels, IsWhole, Entry, same_heading, within_limits, limited, finished, unless_repeated, default_labels, try_all, list_column, block_column, IsSingle, HeadingList, axis_of, headings_value, labels_value, columns_value, cells_value, Makes, OpFault, Refused, NoMemory, settled_later, seen_later, settled_by, headings_part, level_names_part, cell_settled, columns_given, columns_part, AreGiven, columns_name_part, columns_settled, table_settled, AxisValue, range_axis, MakesBy, blocks_value, AreColumns, default_seen, refused_on},
+  frame_parts.proofs.Common.{◌≡◌, ◌∙◌, refl, ap, ℕ, pos, ◌+◌, ◌<◌, not, nat_eq, Bool, true, false, List, [], ◌∷◌, ◌++◌, map, take, drop, length, slice_index_or, slice_get, All, Option, Some, None, if◌then◌else◌, append_assoc, append-nil, add-one, arith, sym, subst, Result, Ok, Err, get_or-map, drop-cons, nat_tests, length-map, map-append, take_more, All-append, All-nil, All-map, length-range_with_len, length-map-range_with_len, get_or_from_slice_get, slice_get_within, unwrap_or, codes, IsSome, IfOk, list_any, range_with_len, AreDistinct, Label, TextId, Cell, Frame, CellBlock, Text, LabelValue, int, label_datum, IsLonger, CellValue, na, FaultValue, limit, then_value, IsSettled, NumberedTable, Table, table_value, heading_value, ColumnOf, tuple_value, column_value, with_labels, IsWhole, Entry, same_heading, within_limits, limited, finished, unless_repeated, default_labels, try_all, list_column, block_column, IsSingle, HeadingList, axis_of, headings_value, labels_value, columns_value, cells_value, Makes, OpFault, Refused, NoMemory, settled_later, seen_later, settled_by, headings_part, level_names_part, cell_settled, columns_given, columns_part, AreGiven, columns_name_part, columns_settled, table_settled, AxisValue, range_axis, MakesBy, blocks_value, AreColumns, default_seen, refused_on},
   column_core.proofs.{cells.Common.{length-append, with_text, text}, CellRows.{map-map}},
   cell_core.specs.declared.cell.Label.TheVariants.{Na},
-  frame_store.specs.Parts.{table_behind},
+  std.specs.Prelude.{◌*◌, sum},
+  frame_store.{proofs.KeptLaws.{cells_of_blocks}, specs.{Derivations.{IsWithin}, Parts.{cells_of, table_behind}, declared.derivations.Extension.{Extension}}},
   meaning_method.specs.{Levels.{numbered_label, nameless_label, label_cell, level_labels, levels_reset, renumbered}, Methods.{as_frame}},
   frame_select.{proofs.{PlaceLaws.{heading_settled, label_settled as label_settled_by}, HeadingLaws.{repeated_seen, different}, RefusalLaws.{repeated_settled}}, specs.Headings.{NamesRepeated, repeated_heading}},
   frame_labels.specs.{Labels.{column_tuple}, Resets.{frame_heading, frame_headings, reset_headings, reset_frame}, LevelColumns.{cell_of}},
@@ -153,6 +154,16 @@ levels_made texts t _ made = rw (made texts) at (made_of texts t)
 
 pub levels_count : (t : NumberedTable) (blocks : List CellBlock) → AreLevels t blocks → length blocks ≡ length t.level_names
 levels_count t blocks made = grind (arith, levels_made [] t blocks made, length-map)
+
+-- one column for each level, of as many cells as there are rows
+pub levels_within : (t : NumberedTable) (blocks : List CellBlock) (r : Result Extension OpFault) → All IsSingle blocks → AreLevels t blocks → IfOk r (λ made. made.first ≡ blocks) → IfOk r (IsWithin (length t.labels * length t.level_names))
+levels_within t blocks (Err fault) single made first = tt
+levels_within t blocks (Ok e) single made first =
+    let n = length t.labels in
+    let filled = rows_numbered [] n (map block_column blocks) (levels_made [] t blocks made).1 in
+    let all : sum (map cells_of e.first) ≡ n * length t.level_names =
+    ap (λ (bs : List CellBlock). sum (map cells_of bs)) first ∙ cells_of_blocks blocks n single filled ∙ ap (λ (k : ℕ). n * k) (levels_count t blocks made) in
+    omega (arith, all)
 
 pub columns_are : (texts : List Text) (t : NumberedTable) (blocks : List CellBlock) → IsSettled table_value texts t → All IsSingle blocks → AreLevels t blocks → AreColumns texts (length t.labels) (length blocks) blocks
 columns_are texts t blocks settled single made =

@@ -4,6 +4,7 @@ ghost use Rattle.std.specs.List.{list_any, range_with_len};
 ghost use Rattle.cell_core.specs.declared.grid.Shape.TheVariants.{Frame};
 ghost use Rattle.column_core.specs.cells.Cell.{datum};
 ghost use Rattle.column_core.specs.cells.Operator.{cell_label};
+ghost use Rattle.frame_store.specs.tables.Cost.{free};
 ghost use Rattle.frame_store.specs.tables.Settled.{IsSettled};
 ghost use Rattle.frame_store.specs.tables.Table.{table_value};
 ghost use Rattle.frame_parts.specs.form.Finish.{finished};
@@ -12,7 +13,7 @@ ghost use Rattle.frame_parts.specs.form.Select.{columns_frame};
 ghost use Rattle.meaning_method.specs.Rows as meant;
 ghost use Rattle.frame_store.specs.Arguments.{object_value, shape_at, IsLiveObject};
 ghost use Rattle.frame_store.specs.Objects.{tables, table_at};
-ghost use Rattle.frame_store.specs.World.{world, IsSettledWorld, IsKnownTable, Forms};
+ghost use Rattle.frame_store.specs.World.{world, IsSettledWorld, IsKnownTable, FormsFor};
 ghost use Rattle.frame_signatures.specs.Scalars.{scalars};
 ghost use Rattle.frame_labels.specs.Named.{stands_in, first_in, NamesColumnsAt, NamesColumns, FindsPlaces, AreMarks};
 ghost use Rattle.frame_store.specs.Parts.{AreColumnsOf};
@@ -178,8 +179,8 @@ pub fn places_besides(alloc: Global, count: usize, places: &Places) -> Result<Pl
     Ok(others)
 }
 
-/// A new object, the frame without these columns; `BadValue` where two of those that stay have one label, which
-/// no frame has, and `Limit`. `NoMemory` may come in place of any answer.
+/// A new object, the frame without these columns, which shares the cells of those that stay; `BadValue` where two
+/// of those have one label, which no frame has, and `Limit`. `NoMemory` may come in place of any answer.
 pub fn drop_columns(
     alloc: Global,
     store: &mut Store,
@@ -192,7 +193,7 @@ pub fn drop_columns(
     requires settled { IsSettledWorld (world store.old dict.now) }
     requires places { AreColumnsOf (table_at (tables store.old) on.0) places.now }
     ensures { let t = object_value (tables store.old) dict.now on in
-        Forms result (finished (columns_frame t (meant.places_besides t places.now)))
+        FormsFor free result (finished (columns_frame t (meant.places_besides t places.now)))
         (world store.old dict.now) (world store.new dict.now) }
 {
     let kept = places_besides(alloc, store.read(on).columns(), places)?;

@@ -1,5 +1,5 @@
 // Levels of the rows as the first columns of a frame, whose rows get the labels 0, 1 and so on.
-ghost use Rattle.std.specs.Prelude.{◌≡◌, ◌<◌, ◌≤◌, ◌++◌, ◌+◌, ℕ, List, length, map, unwrap_or, Some, IfOk, OnOk, codes, decimal, All, IsSome};
+ghost use Rattle.std.specs.Prelude.{◌≡◌, ◌<◌, ◌≤◌, ◌++◌, ◌+◌, ◌*◌, ℕ, List, length, map, unwrap_or, Some, IfOk, OnOk, codes, decimal, All, IsSome};
 ghost use Rattle.std.specs.List.{list_any};
 ghost use Rattle.column_core.specs.cells.Text.{Text as OneText};
 ghost use Rattle.column_core.specs.cells.Cell.{IsLonger, label_datum};
@@ -7,7 +7,7 @@ ghost use Rattle.frame_store.specs.tables.Settled.{IsSettled};
 ghost use Rattle.frame_store.specs.tables.Table.{heading_value, table_value};
 ghost use Rattle.frame_parts.specs.form.Finish.{finished, same_heading as same_as};
 ghost use Rattle.frame_parts.specs.Makes.{blocks_value, AreColumns};
-ghost use Rattle.frame_store.specs.Derivations.{Extends};
+ghost use Rattle.frame_store.specs.Derivations.{Extends, IsWithin};
 ghost use Rattle.frame_store.specs.Shown.{headings_value};
 ghost use Rattle.frame_store.specs.World.{IsKnownTable};
 ghost use Rattle.meaning_method.specs.Levels as meant;
@@ -167,8 +167,10 @@ fn reset_frame(
     requires some { All IsSome labels.now }
     requires columns { AreColumns dict.now (length on.now.labels) (length first) first }
     requires count { length first + length on.now.columns ≡ length labels.now }
-    ensures { Extends dict.now on.now result (finished (reset_frame (table_value dict.now on.now)
+    ensures answer { Extends dict.now on.now result
+        (finished (reset_frame (table_value dict.now on.now)
         (headings_value dict.now labels.now) (blocks_value dict.now first))) }
+    ensures first { IfOk result (λ made. made.first ≡ first) }
 {
     // Equal texts have equal numbers: `TextDict::len` says so.
     let _ = dict.len();
@@ -186,7 +188,8 @@ fn reset_frame(
 }
 
 /// The levels of the rows as columns before those of the table, in a frame whose rows have the labels
-/// 0, 1 and so on. The dictionary gives numbers to the headings of levels without a name.
+/// 0, 1 and so on. Each level has as many cells as there are rows. The dictionary gives numbers to the
+/// headings of levels without a name.
 ///
 /// `WrongKind` where a level has labels of several kinds, `BadValue` of a heading that would stand
 /// twice, `Limit`. `NoMemory` may come in place of any answer.
@@ -200,6 +203,8 @@ pub fn reset_levels(
     ensures longer { IsLonger dict.old dict.new }
     ensures answer { Extends dict.new on.now result
         (meant.levels_reset (as_frame (table_value dict.old on.now))) }
+    ensures within { IfOk result
+        (IsWithin (length on.now.labels * length on.now.level_names)) }
 {
     let first = level_columns(alloc, on.axis())?;
     let labels = reset_labels(alloc, dict, on)?;

@@ -5,7 +5,7 @@ ghost use Rattle.meaning_call.specs.Signature.{fits_shape};
 ghost use Rattle.frame_store.specs.Arguments.{shape_at};
 ghost use Rattle.frame_store.specs.Objects.{tables, table_at};
 ghost use Rattle.frame_store.specs.World.{world, arguments_in, AreKnownArguments};
-ghost use Rattle.frame_methods.specs.Calls.{own_call, Binds};
+ghost use Rattle.frame_methods.specs.Calls.{Binds};
 
 use cell_core::TextDict;
 use frame_signatures::{Bound, bind, parameters};
@@ -24,8 +24,8 @@ pub(crate) fn bound_call<'a>(
     requires shape { fits_shape method (shape_at (tables store.now) on) ≡ true }
     requires arguments { AreKnownArguments (world store.now dict.now) args.now }
     ensures { let w = world store.now dict.now in
-        let t = table_value dict.now (table_at (tables store.now) on.0) in
-        Binds w method result t (own_call method t (arguments_in w args.now)) }
+        Binds w method (arguments_in w args.now) result
+        (table_value dict.now (table_at (tables store.now) on.0)) }
 {
     Ok(bind(store, dict, parameters(method), args)?)
 }

@@ -11,8 +11,8 @@ ghost use Rattle.frame_parts.specs.Makes.{MakesBy};
 ghost use Rattle.frame_store.specs.Arguments.{object_value, shape_at};
 ghost use Rattle.frame_store.specs.Objects.{tables};
 ghost use Rattle.frame_store.specs.Shown.{Makes};
-ghost use Rattle.frame_store.specs.World.{world, arguments_in, IsSettledWorld, AreKnownArguments, Forms};
-ghost use Rattle.frame_methods.specs.Calls.{answer_in, own_call, IsCall};
+ghost use Rattle.frame_store.specs.World.{world, IsSettledWorld, AreKnownArguments, Forms};
+ghost use Rattle.frame_methods.specs.Calls.{answer_in, IsCall, FormsBound, FormsCall};
 ghost use Rattle.frame_methods.specs.Made.{made_value};
 
 use crate::binding::bound_call;
@@ -118,8 +118,7 @@ fn levels_answer(
     requires settled { IsSettledWorld (world store.old dict.old) }
     requires call { IsCall (world store.old dict.old) (Levels method) bound.now
         (shape_at (tables store.old) on) }
-    ensures { Forms result (answer_in (world store.old dict.old) (Levels method) bound.now
-        (object_value (tables store.old) dict.old on))
+    ensures { FormsBound (Levels method) on bound.now result
         (world store.old dict.old) (world store.new dict.new) }
 {
     let source = store.read(on);
@@ -206,8 +205,7 @@ fn table_answer(
     requires settled { IsSettledWorld (world store.old dict.old) }
     requires call { IsCall (world store.old dict.old) (Whole method) bound.now
         (shape_at (tables store.old) on) }
-    ensures { Forms result (answer_in (world store.old dict.old) (Whole method) bound.now
-        (object_value (tables store.old) dict.old on))
+    ensures { FormsBound (Whole method) on bound.now result
         (world store.old dict.old) (world store.new dict.new) }
 {
     match method {
@@ -253,9 +251,8 @@ pub fn column_method(
     requires shape { fits_shape (Columns method) (shape_at (tables store.old) on) ≡ true }
     requires settled { IsSettledWorld (world store.old dict.old) }
     requires arguments { AreKnownArguments (world store.old dict.old) args.now }
-    ensures { let w = world store.old dict.old in
-        Forms result (own_call (Columns method) (object_value w.tables w.texts on)
-        (arguments_in w args.now)) w (world store.new dict.new) }
+    ensures { FormsCall (Columns method) on args.now result
+        (world store.old dict.old) (world store.new dict.new) }
 {
     let bound = bound_call(store, dict, Method::Columns(method), on, args)?;
     columns_answer(alloc, store, dict, method, &bound, on)
@@ -280,9 +277,8 @@ pub fn summary_method(
     requires shape { fits_shape (Summary method) (shape_at (tables store.old) on) ≡ true }
     requires settled { IsSettledWorld (world store.old dict.old) }
     requires arguments { AreKnownArguments (world store.old dict.old) args.now }
-    ensures { let w = world store.old dict.old in
-        Forms result (own_call (Summary method) (object_value w.tables w.texts on)
-        (arguments_in w args.now)) w (world store.new dict.new) }
+    ensures { FormsCall (Summary method) on args.now result
+        (world store.old dict.old) (world store.new dict.new) }
 {
     let _bound = bound_call(store, dict, Method::Summary(method), on, args)?;
     let made = summarize(alloc, dict, summary_of(method), &store.read(on));
@@ -307,16 +303,16 @@ pub fn row_method(
     requires shape { fits_shape (Rows method) (shape_at (tables store.old) on) ≡ true }
     requires settled { IsSettledWorld (world store.old dict.old) }
     requires arguments { AreKnownArguments (world store.old dict.old) args.now }
-    ensures { let w = world store.old dict.old in
-        Forms result (own_call (Rows method) (object_value w.tables w.texts on)
-        (arguments_in w args.now)) w (world store.new dict.new) }
+    ensures { FormsCall (Rows method) on args.now result
+        (world store.old dict.old) (world store.new dict.new) }
 {
     let bound = bound_call(store, dict, Method::Rows(method), on, args)?;
     let table = rows_made(alloc, store, dict, method, &bound, on);
     placed(store, dict, table)
 }
 
-/// What a method of the levels of the rows answers, with these arguments: a new object.
+/// What a method of the levels of the rows answers, with these arguments: a new object, which shares the cells of
+/// the object; the labels that `reset_index` puts before them are cells of its own.
 ///
 /// # Errors
 ///
@@ -334,9 +330,8 @@ pub fn level_method(
     requires shape { fits_shape (Levels method) (shape_at (tables store.old) on) ≡ true }
     requires settled { IsSettledWorld (world store.old dict.old) }
     requires arguments { AreKnownArguments (world store.old dict.old) args.now }
-    ensures { let w = world store.old dict.old in
-        Forms result (own_call (Levels method) (object_value w.tables w.texts on)
-        (arguments_in w args.now)) w (world store.new dict.new) }
+    ensures { FormsCall (Levels method) on args.now result
+        (world store.old dict.old) (world store.new dict.new) }
 {
     let bound = bound_call(store, dict, Method::Levels(method), on, args)?;
     levels_answer(alloc, store, dict, method, &bound, on)
@@ -360,17 +355,16 @@ pub fn label_method(
     requires shape { fits_shape (Labels method) (shape_at (tables store.old) on) ≡ true }
     requires settled { IsSettledWorld (world store.old dict.old) }
     requires arguments { AreKnownArguments (world store.old dict.old) args.now }
-    ensures { let w = world store.old dict.old in
-        Forms result (own_call (Labels method) (object_value w.tables w.texts on)
-        (arguments_in w args.now)) w (world store.new dict.new) }
+    ensures { FormsCall (Labels method) on args.now result
+        (world store.old dict.old) (world store.new dict.new) }
 {
     let bound = bound_call(store, dict, Method::Labels(method), on, args)?;
     let table = labels_made(alloc, store, dict, method, &bound, on);
     placed(store, dict, table)
 }
 
-/// What a method of the whole table answers, with these arguments: a new object, or for `to_csv` a text, to which
-/// the dictionary gives a number.
+/// What a method of the whole table answers, with these arguments: a new object, which shares the cells of the
+/// object, or for `to_csv` a text, to which the dictionary gives a number.
 ///
 /// # Errors
 ///
@@ -388,9 +382,8 @@ pub fn table_method(
     requires shape { fits_shape (Whole method) (shape_at (tables store.old) on) ≡ true }
     requires settled { IsSettledWorld (world store.old dict.old) }
     requires arguments { AreKnownArguments (world store.old dict.old) args.now }
-    ensures { let w = world store.old dict.old in
-        Forms result (own_call (Whole method) (object_value w.tables w.texts on)
-        (arguments_in w args.now)) w (world store.new dict.new) }
+    ensures { FormsCall (Whole method) on args.now result
+        (world store.old dict.old) (world store.new dict.new) }
 {
     let bound = bound_call(store, dict, Method::Table(method), on, args)?;
     table_answer(alloc, store, dict, method, &bound, on)

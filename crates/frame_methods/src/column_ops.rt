@@ -6,10 +6,10 @@ ghost use Rattle.meaning_call.specs.declared.Method.TheVariants.{Columns};
 ghost use Rattle.frame_labels.specs.method.Methods.{filled_column, shifted_column, cast_as, cumulated};
 ghost use Rattle.nullable_array.specs.Folds.{cumulation_of};
 ghost use Rattle.column_operators.specs.Marks.{missing_mark};
-ghost use Rattle.frame_store.specs.Arguments.{object_value, shape_at};
+ghost use Rattle.frame_store.specs.Arguments.{shape_at};
 ghost use Rattle.frame_store.specs.Objects.{tables};
-ghost use Rattle.frame_store.specs.World.{world, IsSettledWorld, Forms};
-ghost use Rattle.frame_methods.specs.Calls.{answer_in, IsCall};
+ghost use Rattle.frame_store.specs.World.{world, IsSettledWorld};
+ghost use Rattle.frame_methods.specs.Calls.{IsCall, FormsBound};
 ghost use Rattle.frame_methods.specs.Marks.{marked_column};
 ghost use Rattle.frame_methods.specs.Listed.{listed_column};
 
@@ -139,8 +139,7 @@ pub(crate) fn columns_answer(
     requires settled { IsSettledWorld (world store.old dict.old) }
     requires call { IsCall (world store.old dict.old) (Columns method) bound.now
         (shape_at (tables store.old) on) }
-    ensures { Forms result (answer_in (world store.old dict.old) (Columns method) bound.now
-        (object_value (tables store.old) dict.old on))
+    ensures { FormsBound (Columns method) on bound.now result
         (world store.old dict.old) (world store.new dict.new) }
 {
     match method {

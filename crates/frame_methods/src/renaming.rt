@@ -1,6 +1,7 @@
 // The methods that give an object's rows and columns under other headings.
 ghost use Rattle.std.specs.Prelude.{◌≡◌, IsSome};
 ghost use Rattle.cell_core.specs.declared.grid.Shape.TheVariants.{Series, Frame};
+ghost use Rattle.frame_store.specs.tables.Cost.{free};
 ghost use Rattle.frame_store.specs.tables.Settled.{IsSettled};
 ghost use Rattle.frame_store.specs.tables.Table.{heading_value, table_value};
 ghost use Rattle.frame_parts.specs.form.Finish.{limited};
@@ -8,7 +9,7 @@ ghost use Rattle.frame_parts.specs.form.Make.{pairs_in};
 ghost use Rattle.frame_labels.specs.method.Methods as meant;
 ghost use Rattle.frame_store.specs.Arguments.{entries_of};
 ghost use Rattle.frame_store.specs.Objects.{Tables, tables, table_at};
-ghost use Rattle.frame_store.specs.World.{world, IsSettledWorld, Forms};
+ghost use Rattle.frame_store.specs.World.{world, IsSettledWorld, FormsFor};
 ghost use Rattle.frame_methods.specs.Renames.{given_labels};
 
 use crate::relabelling::renamed_headings;
@@ -30,7 +31,7 @@ pub(crate) fn rename_series(
     requires shape { (table_at (tables store.old) on.0).shape ≡ Series }
     requires settled { IsSettledWorld (world store.old dict.now) }
     requires name { IsSettled heading_value dict.now name }
-    ensures { Forms result
+    ensures { FormsFor free result
         (limited (meant.renamed_series (table_value dict.now (table_at (tables store.old) on.0))
         (heading_value dict.now name)))
         (world store.old dict.now) (world store.new dict.now) }
@@ -54,7 +55,7 @@ pub(crate) fn rename_frame(
     requires shape { (table_at (tables store.old) on.0).shape ≡ Frame }
     requires settled { IsSettledWorld (world store.old dict.now) }
     requires given { IsSettled given_labels dict.now pairs.now }
-    ensures { (live : Tables) → Forms result
+    ensures { (live : Tables) → FormsFor free result
         (meant.renamed_frame (table_value dict.now (table_at (tables store.old) on.0))
         (pairs_in (entries_of live dict.now pairs.now)))
         (world store.old dict.now) (world store.new dict.now) }
@@ -73,7 +74,7 @@ pub(crate) fn to_frame(
     requires live { IsSome (tables store.old on.0) }
     requires shape { (table_at (tables store.old) on.0).shape ≡ Series }
     requires settled { IsSettledWorld (world store.old dict.now) }
-    ensures { Forms result
+    ensures { FormsFor free result
         (limited (meant.as_frame (table_value dict.now (table_at (tables store.old) on.0))))
         (world store.old dict.now) (world store.new dict.now) }
 {

@@ -4,6 +4,7 @@ ghost use Rattle.std.specs.List.{list_all};
 ghost use Rattle.column_core.specs.cells.Cell.{na_cell};
 ghost use Rattle.column_core.specs.cells.Reduce.{is_present};
 ghost use Rattle.column_core.specs.cells.Text.{Text as OneText};
+ghost use Rattle.frame_store.specs.tables.Cost.{free};
 ghost use Rattle.frame_store.specs.tables.Settled.{IsSettled};
 ghost use Rattle.frame_store.specs.tables.Table.{row_of, table_value};
 ghost use Rattle.frame_store.specs.tables.Valid.{IsWhole};
@@ -14,7 +15,7 @@ ghost use Rattle.frame_labels.specs.method.Rows as meant;
 ghost use Rattle.frame_store.specs.Arguments.{object_value, IsLiveObject};
 ghost use Rattle.frame_store.specs.Objects.{tables};
 ghost use Rattle.frame_store.specs.Shown.{Makes};
-ghost use Rattle.frame_store.specs.World.{world, IsSettledWorld, Forms};
+ghost use Rattle.frame_store.specs.World.{world, IsSettledWorld, FormsFor};
 ghost use Rattle.frame_methods.specs.Rows.{complete};
 
 use cell_core::{Cell, Code, Grid, NoMemory, Places, Rows};
@@ -40,7 +41,7 @@ fn count_taken(count: usize, n: i64) -> usize
 pub(crate) fn head(alloc: Global, store: &mut Store, on: ObjId, n: i64) -> Result<Value, OpFault>
     requires { IsLiveObject (tables store.old) on }
     ensures { (texts : List OneText) → IsSettledWorld (world store.old texts)
-        → Forms result (meant.head_result (object_value (tables store.old) texts on) n)
+        → FormsFor free result (meant.head_result (object_value (tables store.old) texts on) n)
         (world store.old texts) (world store.new texts) }
 {
     let count = count_taken(store.read(on).rows(), n);
@@ -56,7 +57,7 @@ pub(crate) fn head(alloc: Global, store: &mut Store, on: ObjId, n: i64) -> Resul
 pub(crate) fn tail(alloc: Global, store: &mut Store, on: ObjId, n: i64) -> Result<Value, OpFault>
     requires { IsLiveObject (tables store.old) on }
     ensures { (texts : List OneText) → IsSettledWorld (world store.old texts)
-        → Forms result (meant.tail_result (object_value (tables store.old) texts on) n)
+        → FormsFor free result (meant.tail_result (object_value (tables store.old) texts on) n)
         (world store.old texts) (world store.new texts) }
 {
     let all = store.read(on).rows();

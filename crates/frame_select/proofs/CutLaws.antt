@@ -1,13 +1,5 @@
 -- What a form answers with a new object.
-use Rattle.{
-  frame_parts.{proofs.Common.{◌≡◌, ℕ, List, arith, Option, Some, None, Result, Ok, take, ◌∙◌, suc, zero, ◌+◌, ◌<◌, pos, [], ◌∷◌, length, map, refl, ap, All, ◌++◌, sym, true, drop, Bool, false, ◌&&◌, Err, if◌then◌else◌, unwrap_or, subst, get_or-map, drop-cons, drop-length, get_or_from_slice_get, slice_get_within, map_more, length-map, map-append, get_or-range_with_len, length-range_with_len, fill_by_all, All-map, All-push, list_all-map, map-map, IsSome, slice_index_or, slice_get, slice_index, ◌≢◌, range_with_len, list_all, Cell, Na, Label, Kind, Int64, Rows, Shape, Series, Frame, AreDistinct, Text, FaultValue, then_value, wrong_kind, limit, LabelValue, datum, CellValue, label_datum, int, na_cell, tabulate, fault_of, IsSettled, ColumnOf, NumberedTable, table_value, heading_value, column_value, column_at, Table, no_column, tuple_value, Entry, GivenSub, IsWhole, AreHeadings, kind_itself, Value, Object, Scalar, ObjId, Store, OpFault, Refused, NoMemory, HeadingList, block_column, IsSingle, table_with, axis_of, Tables, with_object, table_or, tables, shown, headings_value, columns_value, FormAnswers, Makes, world, IsSettledWorld, Forms, World, entry_in, object_value, object_settled, columns_name_part, longer_self, table_settled, level_names_part, labels_part, columns_part, settled_by, headings_part, AxisValue, taken_axis, CellColumn, CellBlock, get_or-tabulate, limited, within_limits, same_kind, unless_repeated, finished, heading_at, MakesBy}, specs.form.Select.{columns_frame}},
-  column_core.{proofs.{cells.Common.{map-id, get_or-map as get_or-map_at, drop-map, option_and_then}, CellRows.{range-same}}, specs.Columns.{column_with}},
-  std.proofs.lemmas.{List.Folds.{map_fixed}, Option.{slice_get-get_or}},
-  frame_store.specs.tables.Change.{cut_columns},
-  indexers.{proofs.SpanLaws.{all_listed}, specs.{declared.keys.Picked.{Picked}, pick.Rows.{rows_of}}},
-  meaning_select.specs.{Keys.{Reach}, Select.{picked_result, without_leading, column_rows, rows_taken, kind_across, one_kind, cut, first_cell, row_name, row_series, row_result, as_series, shown_as, Way, way_reach, select_result}},
-  frame_select.{specs.{Plans.{reach_of_plan, rows_in, levels_lost, taken_table, AreTakenFrom, CanTake, has_single_row, has_single_column, PlansBy}, declared.{planning.{Plan.{Plan}, Taken.{Taken, TheVariants.{Slice, Listed, Under}}, Extent.{Extent}}}, Reaches.{picked_reach, columns_axis, tuples_value}, Chosen.{cells_by_place, cells_at, columns_at, chosen, chosen_under, AreSettledHeadings}, Across.{cell_across}, Selected.{as_it_is, headings_at}, Headings.{NamesRepeated, repeated_heading}, Picked.{headed_by}}, proofs.HeadingLaws.{heading_seen, repeated_seen, different, repeated_settled}},
-}
+use Rattle.{frame_parts.{proofs.Common.{◌≡◌, ℕ, List, arith, Option, Some, None, Result, Ok, take, ◌∙◌, suc, zero, ◌+◌, ◌<◌, pos, [], ◌∷◌, length, map, refl, ap, All, ◌++◌, sym, true, drop, Bool, false, ◌&&◌, Err, if◌then◌else◌, unwrap_or, subst, get_or-map, drop-cons, drop-length, get_or_from_slice_get, slice_get_within, map_more, length-map, map-append, get_or-range_with_len, length-range_with_len, fill_by_all, All-map, All-push, list_all-map, map-map, IsSome, slice_index_or, slice_get, slice_index, ◌≢◌, range_with_len, list_all, Cell, Na, Label, Kind, Int64, Rows, Shape, Series, Frame, AreDistinct, Text, FaultValue, wrong_kind, limit, LabelValue, datum, CellValue, label_datum, int, na_cell, tabulate, fault_of, IsSettled, ColumnOf, NumberedTable, table_value, heading_value, column_value, column_at, Table, no_column, tuple_value, Entry, GivenSub, IsWhole, AreHeadings, kind_itself, Value, Object, Scalar, ObjId, Store, OpFault, Refused, NoMemory, HeadingList, block_column, IsSingle, table_with, axis_of, Tables, with_object, table_or, tables, shown, headings_value, columns_value, FormAnswers, Makes, world, IsSettledWorld, FormsFor, World, entry_in, object_value, object_settled, columns_name_part, longer_self, table_settled, level_names_part, labels_part, columns_part, settled_by, headings_part, AxisValue, taken_axis, CellColumn, CellBlock, get_or-tabulate, limited, within_limits, same_kind, unless_repeated, finished, heading_at, MakesBy}, specs.form.Select.{columns_frame}}, column_core.{proofs.{cells.Common.{map-id, get_or-map as get_or-map_at, drop-map, option_and_then}, CellRows.{range-same}}, specs.Columns.{column_with}}, std.proofs.lemmas.{List.Folds.{map_fixed}, Option.{slice_get-get_or}}, frame_store.{specs.tables.Change.{cut_columns}, proofs.FormLaws.{holds_still}}, indexers.{proofs.SpanLaws.{all_listed}, specs.{Picks.{pick_of}, declared.keys.Picked.{Picked}, pick.Rows.{rows_of}}}, meaning_charge.specs.{Charge.{select_charge}, select.{Keys.{Reach}, Select.{picked_result, without_leading, column_rows, rows_taken, kind_across, one_kind, cut, first_cell, row_name, row_series, row_result, as_series, shown_as, Way, way_reach, select_result}}}, frame_select.{specs.{Plans.{reach_of_plan, rows_in, levels_lost, taken_table, AreTakenFrom, CanTake, has_single_row, has_single_column, is_shared, is_sliced, unless_shared, IsPlanOf, PlansBy}, declared.{planning.{Plan.{Plan}, Taken.{Taken, TheVariants.{Slice, Listed, Under}}, Extent.{Extent}}}, Reaches.{picked_reach, columns_axis, tuples_value}, Chosen.{cells_by_place, cells_at, columns_at, chosen, chosen_under, AreSettledHeadings}, Across.{cell_across}, Selected.{as_it_is, headings_at}, Headings.{NamesRepeated, repeated_heading}, Picked.{headed_by}}, proofs.{FreeLaws.{selection_within}, HeadingLaws.{heading_seen, repeated_seen, different, repeated_settled}}}}
 use Rattle.frame_store.specs.tables.Value as value
 use Rattle.frame_select.specs.declared.planning.Extent.TheVariants as answer
 
@@ -100,8 +92,8 @@ only_place (p ∷ (q ∷ ps)) _ one at = cc
 -- what is reached is what is taken
 pub reached_plan : (texts : List Text) (t : NumberedTable) (meant_reach : Result Reach FaultValue) (rows columns : Picked) (plan : Plan) → meant_reach ≡ Ok (picked_reach rows columns)
     → picked_result (table_value texts t) (reach_of_plan plan) ≡ picked_result (table_value texts t) (picked_reach rows columns)
-    → then_value meant_reach (picked_result (table_value texts t)) ≡ picked_result (table_value texts t) (reach_of_plan plan)
-reached_plan _ t _ _ _ _ is same = cc
+    → is_shared plan ≡ is_sliced (pick_of rows) → IsPlanOf texts t plan meant_reach
+reached_plan _ _ _ _ _ _ is same shared = record { picked = cc; shared = cc }
 
 -- Rows that are taken from a column.
 
@@ -398,11 +390,11 @@ module _ (texts : List Text) (t : NumberedTable) where
     frame_meant taken _ frame is none = grind (arith, taken_seen, cut_seen texts (rows_in taken) columns t Frame t.columns_name, finished_is (levels_lost taken) (rows_in taken) None none)
 
     pub frame_refused : (store : Store) (lost : ℕ) (rows : List ℕ) (why : OpFault) → NamesRepeated why (repeated_heading (headings_at t columns)) → IsSettledWorld (world store texts)
-        → Forms (Err why) (finished (without_leading lost (cut (table_value texts t) rows columns))) (world store texts) (world store texts)
-    frame_refused _ lost rows (Refused code) named left =
+        → (charge : Entry → ℕ) → FormsFor charge (Err why) (finished (without_leading lost (cut (table_value texts t) rows columns))) (world store texts) (world store texts)
+    frame_refused _ lost rows (Refused code) named left _ =
         let meant = finished_is lost rows _ named.1 ∙ ap (λ c. Err (fault_of texts c)) (sym named.2) in
-        search (repeated_settled, headings_settled, longer_self)
-    frame_refused _ _ _ NoMemory named left = search longer_self
+        search (repeated_settled, headings_settled, longer_self, holds_still)
+    frame_refused _ _ _ NoMemory named left _ = search (longer_self, holds_still)
 
 -- What a plan answers, and a selection with it.
 
@@ -437,23 +429,27 @@ cell_seen texts t row place c is = cc (column_seen texts t.columns place, get_or
 module _ (texts : List Text) (store : Store) where
   pub cell_made : (on : ObjId) (source : NumberedTable) (plan : Plan) (row place : ℕ) (c : Cell) → tables store on.0 ≡ Some source → IsSettledWorld (world store texts) → plan.extent ≡ answer.Cell
       → rows_in plan.rows ≡ row ∷ [] → levels_lost plan.rows ≡ 0 → plan.columns ≡ place ∷ [] → c ≡ slice_index_or (column_at source.columns place).cells row Na
-      → Forms (Ok (Scalar c)) (picked_result (object_value (tables store) texts on) (reach_of_plan plan)) (world store texts) (world store texts)
-  cell_made on source plan row place c live_is settled form rows whole columns is = (
+      → (charge : Entry → ℕ) → FormsFor charge (Ok (Scalar c)) (picked_result (object_value (tables store) texts on) (reach_of_plan plan)) (world store texts) (world store texts)
+  cell_made on source plan row place c live_is settled form rows whole columns is charge = (
     (
       cc (plan_meant texts (tables store) on source plan answer.Cell (row ∷ []) (place ∷ []) live_is form rows whole columns, cell_seen texts source row place c is),
       (refl, settled_by table_value datum (taken_cell row place) _ _ c (λ ts. cell_seen ts source row _ c is) (object_settled _ _ _ _ live_is settled)),
     ),
     longer_self _,
     settled,
+    record { cells = omega arith; blocks = λ id live there apart. refl },
   )
 
   -- what is selected from an object
   module _ (on : Value) (id : ObjId) (source : NumberedTable) (way : Way) (first : GivenSub) (second : Option GivenSub) (is : on ≡ Object id) (live_is : tables store id.0 ≡ Some source) where
-    selected : select_result (entry_in (world store texts) on) way first second ≡ then_value (way_reach way (table_value texts source) first second) (picked_result (table_value texts source))
-    selected = grind (arith, read_is)
+    entry_is : entry_in (world store texts) on ≡ value.table (table_value texts source)
+    entry_is = grind (arith, read_is)
 
     pub select_made : (plan : Plan) (result : Result Value OpFault) (new : World) → PlansBy texts source (Ok plan) (way_reach way (table_value texts source) first second)
-        → Forms result (picked_result (object_value (tables store) texts id) (reach_of_plan plan)) (world store texts) new → Forms result (select_result (entry_in (world store texts) on) way first second) (world store texts) new
-    select_made _ result new planned made =
-        subst (λ (m : Result Entry FaultValue). Forms result m (world store texts) new)
-        (cc (read_is (tables store id.0) source live_is, selected)) made
+        → FormsFor (unless_shared (is_shared plan)) result (picked_result (object_value (tables store) texts id) (reach_of_plan plan)) (world store texts) new
+        → FormsFor (select_charge (entry_in (world store texts) on) way first) result (select_result (entry_in (world store texts) on) way first second) (world store texts) new
+    select_made plan result new planned made =
+        let v = table_value texts source in
+        rw entry_is (selection_within v way first second (is_shared plan) result (world store texts) new planned.shared
+        (subst (λ (m : Result Entry FaultValue). FormsFor (unless_shared (is_shared plan)) result m (world store texts) new)
+        (cc (read_is (tables store id.0) source live_is, planned.picked)) made))

@@ -1,13 +1,5 @@
 -- Headings that are told apart by the numbers of their texts.
-use Rattle.{
-  frame_parts.{proofs.{Common.{◌≡◌, ◌<◌, ◌+◌, refl, ℕ, zero, suc, Bool, false, ◌||◌, cond, List, [], ◌∷◌, map, length, drop, slice_index_or, Option, Some, None, All, if◌then◌else◌, arith, rules, true, ◌++◌, ap, append_assoc, append-nil, Result, Ok, Err, ℤ, ◌-◌, ◌&&◌, take, drop_more, length-map, list_any-append, list_any_at, get_or_from_slice_get, slice_get_within, get_or-map, drop-cons, drop-length, ◌≢◌, IsSome, AllPairs, slice_get, Decides, list_any, list_all, lookup, option_map, Label, Cell, Na, Code, NoKey, AreDistinct, Text, label_datum, na_cell, LabelValue, datum, CellValue, fault_of, cell_label, FaultValue, then_value, IsSettled, heading_value, NumberedTable, Table, table_value, tuple_value, IsWhole, cell, table, GivenList, one, many, no_given, more_given, try_all, place_of_label, argument_column, cells_of, same_by_number, heading_label, value_decides, label_of, headings_value, cells_value, Item, Tables, items_of}, LabelLaws.{label_given, label_one}}, specs.form.{Finish.{first_repeated}, Select.{found}, Given.{count_of, each, is_scalar, is_truth}}},
-  column_core.proofs.cells.Common.{position_from},
-  indexmap.specs.IndexSet.{insert_key},
-  cell_core.specs.declared.code.{Code.TheVariants.{BadValue}, Reason.TheVariants.{Repeated}},
-  frame_store.specs.tables.Value.{nothing, row, entries},
-  frame_select.specs.{Headings.{same_number, same_heading, repeated_heading, HaveFirstPlaces}, Reaches.{tuples_value}, Selected.{each_truth, scalars_in}, Plans.{TakesAll, reach_of_plan}, declared.planning.Plan.{Plan}},
-  meaning_select.specs.{Keys.{whole_cell}, Select.{are_truths, column_reach, picked_result}},
-}
+use Rattle.{frame_parts.{proofs.{Common.{◌≡◌, ◌<◌, ◌+◌, refl, ℕ, zero, suc, Bool, false, ◌||◌, cond, List, [], ◌∷◌, map, length, drop, slice_index_or, Option, Some, None, All, if◌then◌else◌, arith, rules, true, ◌++◌, ap, append_assoc, append-nil, Result, Ok, Err, ℤ, ◌-◌, ◌&&◌, take, drop_more, length-map, list_any-append, list_any_at, get_or_from_slice_get, slice_get_within, get_or-map, drop-cons, drop-length, ◌≢◌, IsSome, AllPairs, slice_get, Decides, list_any, list_all, lookup, option_map, Label, Cell, Na, Code, NoKey, AreDistinct, Text, label_datum, na_cell, LabelValue, datum, CellValue, fault_of, cell_label, FaultValue, then_value, IsSettled, heading_value, NumberedTable, Table, table_value, tuple_value, IsWhole, cell, table, GivenList, one, many, no_given, more_given, try_all, place_of_label, argument_column, cells_of, same_by_number, heading_label, value_decides, label_of, headings_value, cells_value, Item, Tables, items_of}, LabelLaws.{label_given, label_one}}, specs.form.{Finish.{first_repeated}, Select.{found}, Given.{count_of, each, is_scalar, is_truth}}}, column_core.proofs.cells.Common.{position_from}, indexmap.specs.IndexSet.{insert_key}, cell_core.specs.declared.code.{Code.TheVariants.{BadValue}, Reason.TheVariants.{Repeated}}, frame_store.specs.tables.Value.{nothing, row, entries}, frame_select.specs.{Headings.{same_number, same_heading, repeated_heading, HaveFirstPlaces}, Reaches.{tuples_value}, Selected.{each_truth, scalars_in}, Plans.{IsPlanOf, TakesAll}, declared.planning.Plan.{Plan}}, meaning_charge.specs.select.{Keys.{whole_cell}, Select.{are_truths, column_reach}}}
 use Rattle.frame_parts.specs.form.Finish as finish
 use Rattle.frame_parts.specs.form.Select as form
 use Rattle.frame_select.specs.declared.planning.Extent.TheVariants as answer
@@ -257,5 +249,5 @@ module _ (texts : List Text) where
   -- all rows of some columns
   module _ (t : NumberedTable) (plan : Plan) (all : TakesAll t plan.rows) where
     pub column_planned : (label : LabelValue) (place : ℕ) → form.selected_column (table_value texts t) label ≡ Ok place → plan.columns ≡ place ∷ [] → plan.extent ≡ answer.Column
-        → then_value (column_reach (table_value texts t) label) (picked_result (table_value texts t)) ≡ picked_result (table_value texts t) (reach_of_plan plan)
-    column_planned = grind (arith, length-map)
+        → IsPlanOf texts t plan (column_reach (table_value texts t) label)
+    column_planned _ _ found column extent = record { picked = grind (arith, length-map); shared = grind arith }

@@ -12,6 +12,7 @@ pub mod BracketLaws
 pub mod TruthLaws
 pub mod TakenLaws
 pub mod CutLaws
+pub mod FreeLaws
 pub mod ListedLaws
 pub mod CarryLaws
 pub mod Hints

@@ -2,7 +2,7 @@
 use Rattle.{
   frame_parts.proofs.Common.{◌≡◌, ◌∙◌, refl, ap, sym, arith, ◌<◌, ◌^◌, ℕ, true, false, List, length, Option, Some, None, Result, Ok, Err, length-map, nat_tests, Label, AreDistinct, Text, FaultValue, Entry, limit, fault_of, IsSettled, tuple_value, NumberedTable, table_value, headings_part, tuples_settled, OpFault, Refused, NoMemory, IsKnownTable, MakesBy},
   indexers.{specs.{Lists.{rows_of_list, list_within}, Picks.{PicksBy, pick_of, as_it_is}, declared.keys.{Picked.{Picked}, KeyFault.{KeyFault}}, pick.{Faults.{then_pick, pick_seen}, Keys.{Pick, each_key, listed_pick}}}, proofs.{AnswerLaws.{handed_on}, ListLaws.{some_within, none_within, refused_within}}},
-  meaning_select.specs.{Keys.{found_pick, found_labels, reach_of, Reach}, Select.{picked_result}},
+  meaning_charge.specs.select.{Keys.{found_pick, found_labels, reach_of, Reach}, Select.{picked_result}},
   frame_select.{specs.{Reaches.{label_key_value, tuples_value, pick_value, refusal_of, listed_reach, FindsBy, IsPicked, IsReached}, Plans.{PlansBy}, Selected.{headings_at}, Headings.{NamesRepeated, repeated_heading}}, proofs.{ReachLaws.{labels_found, picked_is}, CutLaws.{finished_is, headings_settled}, HeadingLaws.{repeated_settled}}},
 }
 use Rattle.indexers.specs.declared.keys.LocKey.TheVariants as key

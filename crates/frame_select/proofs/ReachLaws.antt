@@ -5,12 +5,12 @@ use Rattle.{
   std.specs.Option.{is_some},
   indexers.{specs.{Picks.{PicksBy, pick_of}, declared.keys.{PosKey.{PosKey}, Picked.{Picked}, LocKey.{LocKey}, KeyFault.{KeyFault}}, Keys.{label_key, place_key}, Masks.{is_true}, index_core.Labels.{same_number, order_in}, pick.{Faults.{PickFault, not_there, bound_not_unique, out_of_range, no_mask_label, step_zero, then_pick, pick_seen}, Positions.{row_or_fault, rows_at}, Leading.{leads, leading_cmp}, Labels.{unless_none, rows_of_key, rows_of_keys}, Slices.{slice_on}, Masks.{cell_or_fault, kept_by_label, masked_rows, is_kept}, Keys.{listed_pick, sliced_pick, key_pick, picked_by_label, PlaceKey, one_place, each_place, place_slice, picked_by_place, one_key, Pick}}}, proofs.pick.SeenLaws.{then_seen, rows_of_key-map, rows_of_keys-map, slice_on-map, masked_rows-map}},
   frame_select.{proofs.{HeadingLaws.{label_decides, head_settled, rest_settled}, CutLaws.{column_seen, list_is, listed_is}}, specs.Reaches.{label_key_value, tuples_value, pick_value, found_result, object_key, heading_tuple, columns_axis, is_row, is_series}},
-  meaning_select.specs.Keys.{found_pick, found_labels, once},
+  meaning_charge.specs.select.Keys.{found_pick, found_labels, once},
 }
 use Rattle.indexers.specs.declared.keys.LocKey.TheVariants as key
 use Rattle.indexers.specs.declared.keys.KeyFault.TheVariants as fault
 use Rattle.cell_core.specs.declared.cell.Cell.TheVariants as code_cell
-use Rattle.meaning_select.specs.Keys as meant
+use Rattle.meaning_charge.specs.select.Keys as meant
 
 -- a fault's key, where it has one
 abbrev pub KeyIn : {K : Type 0} → (K → Type 0) → PickFault K → Type 0

@@ -1,5 +1,5 @@
 -- Keys and what they pick, as they are meant.
-use Rattle.std.specs.Prelude.{◌≡◌, ℕ, ℤ, ◌<◌, ◌^◌, nat_eq, Bool, true, false, List, [], ◌∷◌, length, map, slice_index_or, Option, Some, None, IfSome, option_map, Result, Ok, Err, All, ⊤, if◌then◌else◌}
+use Rattle.std.specs.Prelude.{◌≡◌, ℕ, ℤ, ◌<◌, ◌^◌, nat_eq, Bool, true, false, List, [], ◌∷◌, length, map, slice_index_or, Option, Some, None, IfSome, option_map, Result, Ok, Err, All, if◌then◌else◌}
 use Rattle.std.specs.Option.{is_some}
 use Rattle.cell_core.specs.declared.cell.Label.{Label}
 use Rattle.cell_core.specs.declared.grid.Shape.{Shape}
@@ -17,7 +17,7 @@ use Rattle.frame_parts.specs.form.Select.{labels_of}
 use Rattle.column_core.specs.cells.Operator.{cell_label}
 use Rattle.multi_index.specs.Axes.{AxisValue, HaveLevels}
 use Rattle.indexers.specs.pick.Keys.{LabelKey, all_rows, one_key, each_key, between, PlaceKey, Pick, listed_pick}
-use Rattle.meaning_select.specs.Keys.{Reach}
+use Rattle.meaning_charge.specs.select.Keys.{Reach}
 use Rattle.frame_store.specs.declared.arguments.Selector.{Selector}
 use Rattle.frame_store.specs.declared.arguments.Selector.TheVariants as selector
 use Rattle.frame_store.specs.declared.fault.OpFault.{OpFault}

@@ -9,7 +9,7 @@ use Rattle.frame_store.specs.tables.Table.{NumberedTable}
 use Rattle.frame_store.specs.tables.Value.{Given, GivenList, GivenSub, cell, one}
 use Rattle.frame_parts.specs.form.Given.{each, is_scalar, is_truth}
 use Rattle.frame_parts.specs.form.Select.{cells_of}
-use Rattle.meaning_select.specs.Select.{Way, plain, through}
+use Rattle.meaning_charge.specs.select.Select.{Way, plain, through}
 use Rattle.frame_store.specs.World.{World, subscript_in, IsKnownSubscript}
 use Rattle.frame_store.specs.declared.arguments.Subscript.{Subscript}
 use Rattle.frame_store.specs.declared.arguments.Selector.{Selector}

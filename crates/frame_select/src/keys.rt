@@ -5,7 +5,7 @@ ghost use Rattle.column_core.specs.cells.Text.{Text as OneText};
 ghost use Rattle.column_core.specs.cells.Cell.{datum};
 ghost use Rattle.frame_store.specs.tables.Table.{tuple_value};
 ghost use Rattle.frame_parts.specs.form.Finish.{try_all};
-ghost use Rattle.meaning_select.specs.Keys as meant;
+ghost use Rattle.meaning_charge.specs.select.Keys as meant;
 ghost use Rattle.cell_core.specs.Values as labels;
 ghost use Rattle.frame_parts.specs.Makes.{MakesBy};
 ghost use Rattle.multi_index.specs.Axes.{HaveLevels, AreLeading};

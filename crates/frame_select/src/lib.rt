@@ -9,7 +9,7 @@
 //! Labels are compared by their numbers. In brackets one column is looked up by a walk, which takes
 //! no memory, and a list of them by a map of all columns, made once. Rows have labels of one to four levels.
 //!
-//! The definitions are in the crate `meaning_select`.
+//! The definitions are in the crates `meaning_select` and `meaning_charge`.
 //!
 //! ```text
 //! // `f["price"]`: `price` is a key, the text

@@ -1,14 +1,15 @@
-// Objects that have the rows of another one.
+// Objects that have the rows of another one, and share its cells.
 ghost use Rattle.std.specs.Prelude.{◌≡◌, length, IsSome, IfOk};
 ghost use Rattle.std.specs.List.{range_with_len};
 ghost use Rattle.cell_core.specs.declared.grid.Shape.TheVariants.{Frame};
+ghost use Rattle.frame_store.specs.tables.Cost.{free};
 ghost use Rattle.frame_store.specs.tables.Settled.{IsSettled};
 ghost use Rattle.frame_store.specs.tables.Table.{heading_value, table_value};
 ghost use Rattle.frame_store.specs.tables.Valid.{AreHeadings};
 ghost use Rattle.frame_parts.specs.form.Finish.{limited};
 ghost use Rattle.frame_store.specs.Objects.{tables, table_at};
 ghost use Rattle.frame_store.specs.Shown.{headings_value};
-ghost use Rattle.frame_store.specs.World.{world, IsSettledWorld, Forms};
+ghost use Rattle.frame_store.specs.World.{world, IsSettledWorld, FormsFor};
 ghost use Rattle.frame_select.specs.Picked.{headed_by as under_headings};
 
 use crate::planning::all_rows;
@@ -46,7 +47,7 @@ fn headed_by(
     requires settled { IsSettledWorld (world store.old dict.now) }
     requires name { IsSettled heading_value dict.now headings.columns_name }
     requires labels { IsSettled headings_value dict.now headings.labels }
-    ensures { Forms result (limited (table_value dict.now
+    ensures { FormsFor free result (limited (table_value dict.now
         (under_headings shape headings (table_at (tables store.old) on.0))))
         (world store.old dict.now) (world store.new dict.now) }
 {
@@ -70,7 +71,7 @@ pub fn copied(
 ) -> Result<Value, OpFault>
     requires live { IsSome (tables store.old on.0) }
     requires settled { IsSettledWorld (world store.old dict.now) }
-    ensures { Forms result
+    ensures { FormsFor free result
         (limited (table_value dict.now (table_at (tables store.old) on.0)))
         (world store.old dict.now) (world store.new dict.now) }
 {
@@ -96,7 +97,7 @@ pub fn renamed(
     requires settled { IsSettledWorld (world store.old dict.now) }
     requires name { IsSettled heading_value dict.now headings.columns_name }
     requires labels { IsSettled headings_value dict.now headings.labels }
-    ensures { Forms result (limited (table_value dict.now (under_headings
+    ensures { FormsFor free result (limited (table_value dict.now (under_headings
         (table_at (tables store.old) on.0).shape headings (table_at (tables store.old) on.0))))
         (world store.old dict.now) (world store.new dict.now) }
 {
@@ -119,7 +120,7 @@ pub fn as_frame(
     requires settled { IsSettledWorld (world store.old dict.now) }
     requires name { IsSettled heading_value dict.now headings.columns_name }
     requires labels { IsSettled headings_value dict.now headings.labels }
-    ensures { Forms result (limited (table_value dict.now
+    ensures { FormsFor free result (limited (table_value dict.now
         (under_headings Frame headings (table_at (tables store.old) on.0))))
         (world store.old dict.now) (world store.new dict.now) }
 {

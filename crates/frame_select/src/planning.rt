@@ -1,16 +1,18 @@
 // Plans of selections: what they take from a table that is read.
 ghost use Rattle.std.specs.Prelude.{◌≡◌, ℕ, ◌<◌, ◌^◌, ◌∷◌, [], List, length, Some, None, Ok, Err, IfOk, IfErr, All};
+ghost use Rattle.std.specs.Option.{is_some};
 ghost use Rattle.cell_core.specs.declared.grid.Shape.TheVariants.{Frame};
 ghost use Rattle.column_core.specs.cells.Text.{Text as OneText};
 ghost use Rattle.frame_store.specs.tables.Settled.{IsSettled};
 ghost use Rattle.frame_store.specs.tables.Table.{NumberedTable, table_value};
 ghost use Rattle.frame_store.specs.tables.Value.{one, key_given};
-ghost use Rattle.meaning_select.specs.Keys.{reach_by};
-ghost use Rattle.meaning_select.specs.Select as meant;
+ghost use Rattle.meaning_charge.specs.select.Keys.{reach_by};
+ghost use Rattle.meaning_charge.specs.select.Select as meant;
 ghost use Rattle.frame_store.specs.Objects.{Tables, tables};
 ghost use Rattle.frame_store.specs.Arguments.{object_value, items_of, subscript_of, IsLiveObject};
 ghost use Rattle.frame_store.specs.World.{world, entry_in, subscript_in, IsKnownValue, IsKnownSubscript, IsKnownTable, IsSettledWorld};
-ghost use Rattle.frame_select.specs.Plans.{rows_in, TakesPicked, TakesAll, has_single_row, has_single_column, reach_of_plan, IsPlanFor, PlansBy};
+ghost use Rattle.indexers.specs.Picks.{pick_of};
+ghost use Rattle.frame_select.specs.Plans.{rows_in, TakesPicked, TakesAll, has_single_row, has_single_column, is_shared, is_sliced, share_cells, reach_of_plan, IsPlanFor, PlansBy};
 ghost use Rattle.frame_select.specs.Headings.{repeated_heading, NamesRepeated};
 ghost use Rattle.frame_select.specs.Reaches.{accessor_of, picked_reach, listed_reach, PicksBelow, ReachesWithin, CanSelect};
 ghost use Rattle.frame_select.specs.Selected.{headings_at as meant_headings, IsKnownSecond, second_in, each_truth, way_of};
@@ -100,8 +102,9 @@ fn extent_of(single_row: bool, single_column: bool) -> Extent
 
 // The rows that were picked. A slice needs no list.
 fn rows_taken(rows: Picked) -> Taken
-    ensures { (t : NumberedTable) → PicksBelow (length t.labels) rows
+    ensures taken { (t : NumberedTable) → PicksBelow (length t.labels) rows
         → rows.dropped < length t.level_names → TakesPicked t rows result }
+    ensures shared { share_cells result ≡ is_some rows.span }
 {
     match rows.span {
         Some(span) => Taken::Slice(span),
@@ -116,6 +119,7 @@ fn plan_of(rows: Picked, columns: Picked) -> Plan
         → ReachesWithin t (record { rows = Some rows; columns = columns })
         → meant.picked_result (table_value texts t) (reach_of_plan result)
         ≡ meant.picked_result (table_value texts t) (picked_reach rows columns) }
+    ensures shared { is_shared result ≡ is_sliced (pick_of rows) }
     ensures whole { (t : NumberedTable)
         → ReachesWithin t (record { rows = Some rows; columns = columns }) → IsPlanFor t result }
 {

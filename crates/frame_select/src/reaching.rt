@@ -6,7 +6,7 @@ ghost use Rattle.cell_core.specs.declared.grid.Shape.TheVariants.{Series, Frame}
 ghost use Rattle.column_core.specs.cells.Text.{Text as OneText};
 ghost use Rattle.frame_store.specs.tables.Table.{table_value};
 ghost use Rattle.frame_store.specs.tables.Valid.{IsWhole};
-ghost use Rattle.meaning_select.specs.Keys as meant;
+ghost use Rattle.meaning_charge.specs.select.Keys as meant;
 ghost use Rattle.frame_parts.specs.Makes.{MakesBy};
 ghost use Rattle.frame_store.specs.Objects.{Tables, tables};
 ghost use Rattle.frame_store.specs.Parts.{labelled};

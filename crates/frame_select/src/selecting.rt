@@ -1,20 +1,23 @@
 // Selections: a plan of a table that is read, which one call of the store carries out.
-ghost use Rattle.std.specs.Prelude.{◌≡◌, ◌<◌, ◌^◌, ◌∷◌, [], true, false, List, length, slice_index_or, All, IfOk, OnErr};
+ghost use Rattle.std.specs.Prelude.{◌≡◌, ◌<◌, ◌^◌, ◌∷◌, [], true, false, List, length, slice_index_or, None, All, IfOk, OnErr};
 ghost use Rattle.cell_core.specs.Grids.{AreRowsBelow, place_from, IsPlace};
 ghost use Rattle.cell_core.specs.declared.grid.Shape.TheVariants.{Frame};
 ghost use Rattle.column_core.specs.cells.Text.{Text as OneText};
+ghost use Rattle.frame_store.specs.tables.Cost.{free};
 ghost use Rattle.frame_store.specs.tables.Table.{table_value, tuple_value, heading_value};
 ghost use Rattle.frame_parts.specs.form.Finish.{limited, finished};
 ghost use Rattle.frame_parts.specs.form.Select.{columns_frame};
-ghost use Rattle.meaning_select.specs.Select as meant;
+ghost use Rattle.meaning_charge.specs.Charge.{select_charge};
+ghost use Rattle.meaning_charge.specs.select.Select as meant;
 ghost use Rattle.indexers.specs.pick.Rows.{rows_of};
 ghost use Rattle.multi_index.specs.Axes.{taken_axis};
 ghost use Rattle.frame_parts.specs.Makes.{MakesBy};
-ghost use Rattle.frame_store.specs.Objects.{tables, table_at, IsFree, Becomes, Stays};
+ghost use Rattle.frame_store.specs.Objects.{tables, table_at, IsFree, Becomes, Stays, KeepBlocks, Raises};
+ghost use Rattle.frame_store.specs.Stores.{charged};
 ghost use Rattle.frame_store.specs.Arguments.{object_value, shape_at, IsLiveObject};
 ghost use Rattle.frame_store.specs.Shown.{Makes};
-ghost use Rattle.frame_store.specs.World.{world, entry_in, subscript_in, IsKnownValue, IsKnownSubscript, IsKnownTable, IsSettledWorld, Forms};
-ghost use Rattle.frame_select.specs.Plans.{taken_table, has_single_column, reach_of_plan, cut_by, IsPlanFor, CanTake};
+ghost use Rattle.frame_store.specs.World.{world, entry_in, subscript_in, IsKnownValue, IsKnownSubscript, IsKnownTable, IsSettledWorld, FormsFor};
+ghost use Rattle.frame_select.specs.Plans.{taken_table, cells_made, has_single_column, is_shared, reach_of_plan, cut_by, share_cells, unless_shared, IsPlanFor, CanTake};
 ghost use Rattle.frame_select.specs.Selected.{IsKnownSecond, second_in, as_it_is, way_of};
 ghost use Rattle.frame_select.specs.Chosen.{AreSettledHeadings};
 ghost use Rattle.frame_select.specs.Across.{HaveKind, cells_across};
@@ -165,6 +168,9 @@ fn make_taken(
     ensures ok { IfOk result (λ id. Becomes store.old store.new id (taken_table shape headings
         rows.now columns.now (table_at (tables store.old) on.0))) }
     ensures err { OnErr result (Stays store.old store.new) }
+    ensures held { Raises (charged (cells_made rows.now (taken_table shape headings
+        rows.now columns.now (table_at (tables store.old) on.0))) result) store.old store.new }
+    ensures blocks { KeepBlocks None store.old store.new }
 {
     match rows {
         Taken::Slice(rows) => {
@@ -184,7 +190,8 @@ fn make_taken(
     }
 }
 
-/// A new object with these rows and columns of another one, unless it would be beyond the limits.
+/// A new object with these rows and columns of another one, unless it would be beyond the limits. Rows at equal distances
+/// are shared.
 pub(crate) fn cut_within(
     alloc: Global,
     store: &mut Store,
@@ -198,7 +205,8 @@ pub(crate) fn cut_within(
     requires taken { CanTake shape headings rows.now columns.now
         (table_at (tables store.old) on.0) }
     ensures { (texts : List OneText) → IsSettledWorld (world store.old texts)
-        → AreSettledHeadings texts headings → Forms result (limited (table_value texts
+        → AreSettledHeadings texts headings
+        → FormsFor (unless_shared (share_cells rows.now)) result (limited (table_value texts
         (taken_table shape headings rows.now columns.now (table_at (tables store.old) on.0))))
         (world store.old texts) (world store.new texts) }
 {
@@ -214,7 +222,8 @@ fn take_column(alloc: Global, store: &mut Store, on: ObjId, plan: &Plan) -> Resu
     requires live { IsLiveObject (tables store.old) on }
     requires plan { IsPlanFor (table_at (tables store.old) on.0) plan.now }
     requires single { has_single_column plan.now.extent ≡ true }
-    ensures { (texts : List OneText) → IsSettledWorld (world store.old texts) → Forms result
+    ensures { (texts : List OneText) → IsSettledWorld (world store.old texts)
+        → FormsFor (unless_shared (share_cells plan.now.rows)) result
         (limited (meant.as_series (cut_by plan.now (object_value (tables store.old) texts on))))
         (world store.old texts) (world store.new texts) }
 {
@@ -245,7 +254,7 @@ fn take_frame(
     requires settled { IsSettledWorld (world store.old dict.now) }
     requires plan { IsPlanFor (table_at (tables store.old) on.0) plan.now }
     requires several { has_single_column plan.now.extent ≡ false }
-    ensures { Forms result
+    ensures { FormsFor (unless_shared (share_cells plan.now.rows)) result
         (finished (cut_by plan.now (object_value (tables store.old) dict.now on)))
         (world store.old dict.now) (world store.new dict.now) }
 {
@@ -265,7 +274,7 @@ fn take_frame(
     )
 }
 
-/// A new frame of all rows of these columns of another one, in their order, for `drop`.
+/// A new frame of all rows of these columns of another one, in their order, for `drop`. It shares their cells.
 ///
 /// # Errors
 ///
@@ -284,7 +293,7 @@ pub fn columns_of(
     requires frame { shape_at (tables store.old) on ≡ Frame }
     requires columns { All (λ place. place < length (table_at (tables store.old) on.0).columns)
         columns }
-    ensures { Forms result
+    ensures { FormsFor free result
         (finished (columns_frame (object_value (tables store.old) dict.now on) columns))
         (world store.old dict.now) (world store.new dict.now) }
 {
@@ -292,7 +301,7 @@ pub fn columns_of(
     take_frame(alloc, store, dict, on, &plan)
 }
 
-/// A new object with these rows of another one, of all its columns, for `head` and `tail`.
+/// A new object with these rows of another one, of all its columns, for `head` and `tail`. It shares their cells.
 ///
 /// # Errors
 ///
@@ -301,7 +310,7 @@ pub fn columns_of(
 pub fn sliced(alloc: Global, store: &mut Store, on: ObjId, rows: Rows) -> Result<Value, OpFault>
     requires live { IsLiveObject (tables store.old) on }
     requires rows { AreRowsBelow rows (length (table_at (tables store.old) on.0).labels) }
-    ensures { (texts : List OneText) → IsSettledWorld (world store.old texts) → Forms result
+    ensures { (texts : List OneText) → IsSettledWorld (world store.old texts) → FormsFor free result
         (limited (meant.rows_taken (object_value (tables store.old) texts on) (rows_of rows)))
         (world store.old texts) (world store.new texts) }
 {
@@ -325,8 +334,9 @@ fn carry_out(
     requires live { IsLiveObject (tables store.old) on }
     requires settled { IsSettledWorld (world store.old dict.now) }
     requires plan { IsPlanFor (table_at (tables store.old) on.0) plan }
-    ensures { Forms result (meant.picked_result (object_value (tables store.old) dict.now on)
-        (reach_of_plan plan)) (world store.old dict.now) (world store.new dict.now) }
+    ensures { FormsFor (unless_shared (is_shared plan)) result
+        (meant.picked_result (object_value (tables store.old) dict.now on) (reach_of_plan plan))
+        (world store.old dict.now) (world store.new dict.now) }
 {
     match plan.extent {
         Extent::Cell => {
@@ -377,7 +387,9 @@ pub fn select(
     requires settled { IsSettledWorld (world store.old dict.old) }
     requires first { IsKnownSubscript (world store.old dict.old) first.now }
     requires second { IsKnownSecond (world store.old dict.old) second }
-    ensures { Forms result (meant.select_result (entry_in (world store.old dict.old) on) (way_of by)
+    ensures { FormsFor (select_charge (entry_in (world store.old dict.old) on) (way_of by)
+        (subscript_in (world store.old dict.old) first.now)) result
+        (meant.select_result (entry_in (world store.old dict.old) on) (way_of by)
         (subscript_in (world store.old dict.old) first.now)
         (second_in (world store.old dict.old) second.entry))
         (world store.old dict.old) (world store.new dict.new) }

@@ -1,11 +1,5 @@
 -- Cells that are set: the table that a target grows, with the values.
-use Rattle.{
-  frame_parts.proofs.Common.{◌∙◌, sym, ◌++◌, nat_eq, ◌≡◌, ℕ, zero, suc, ◌+◌, ◌<◌, ◌%◌, ◌/◌, Bool, true, false, List, [], ◌∷◌, length, map, refl, arith, if◌then◌else◌, Option, Some, None, Result, Ok, Err, map-map, get_or_push, length-map, length-set, map-append, map-set, and_parts, nat_tests, get_or-map as get_or-map0, slice_index, slice_index_or, not, IfOk, columns_part, cells_settled, map-put_at, cells_value, columns_value, labels_value, axis_of, no_column, ColumnOf, NumberedTable, Table, table_value, tuple_value, column_at, IsSettled, with_column, with_values, with_values_from, Cell, Na, Kind, Label, Text, CellValue, LabelValue, datum, label_datum, holds, AreGiven, Accessor, FaultValue, wrong_kind, limit, then_value, within_limits, limited_table, missing_column as missing_value, AxisValue, taken_axis},
-  column_core.proofs.cells.Common.{option_map, get_or_append_left, get_or-map},
-  frame_store.specs.tables.Change.{with_cell},
-  frame_select.proofs.AnswerLaws.{column_seen as seen_column},
-  frame_set.{specs.{declared.targets.{Reached.{Reached}, Target.{Target}}, Grown.{column_added, grown_table, reached_tuples, row_added, with_gap}, Values.{ArePlacesOf, HasKinds, columns_after, kind_added, kind_there, reached_value, rows_after, target_value}}, proofs.{ColumnLaws.{map-replicate}, GrowLaws.{grown_columns, grown_rows, reached_below}}},
-}
+use Rattle.{frame_parts.proofs.Common.{◌∙◌, sym, ◌++◌, nat_eq, ◌≡◌, ℕ, zero, suc, ◌+◌, ◌<◌, ◌%◌, ◌/◌, Bool, true, false, List, [], ◌∷◌, length, map, refl, arith, if◌then◌else◌, Option, Some, None, Result, Ok, Err, map-map, get_or_push, length-map, length-set, map-append, map-set, and_parts, nat_tests, get_or-map as get_or-map0, slice_index, slice_index_or, IfOk, columns_part, cells_settled, map-put_at, cells_value, columns_value, labels_value, axis_of, no_column, ColumnOf, NumberedTable, Table, table_value, tuple_value, column_at, IsSettled, with_column, with_values, with_values_from, Cell, Na, Kind, Label, Text, CellValue, LabelValue, datum, label_datum, holds, AreGiven, Accessor, FaultValue, wrong_kind, limit, then_value, within_limits, limited_table, missing_column as missing_value, AxisValue, taken_axis}, column_core.proofs.cells.Common.{option_map, get_or_append_left, get_or-map}, frame_store.specs.tables.Change.{with_cell}, frame_select.proofs.AnswerLaws.{column_seen as seen_column}, frame_set.{specs.{declared.targets.{Reached.{Reached}, Target.{Target}}, Grown.{column_added, grown_table, reached_tuples, row_added, with_gap}, Values.{ArePlacesOf, HasKinds, columns_after, kind_added, kind_there, reached_value, rows_after, target_value}}, proofs.{ColumnLaws.{map-replicate}, GrowLaws.{grown_columns, grown_rows, reached_below}}}}
 use Rattle.frame_select.specs.select.Set as meant
 
 -- columns and cells with texts

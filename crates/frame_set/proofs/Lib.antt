@@ -1,6 +1,7 @@
 pub mod AlignLaws
 pub mod CellLaws
 pub mod ColumnLaws
+pub mod CostLaws
 pub mod FillLaws
 pub mod FitLaws
 pub mod GrowLaws
@@ -8,5 +9,7 @@ pub mod MoveLaws
 pub mod PutCases
 pub mod PutLaws
 pub mod SetLaws
+pub mod SoleLaws
 pub mod TargetLaws
+pub mod TouchLaws
 pub mod Hints

@@ -1,28 +1,30 @@
 -- What settings make of the table of an object.
 use Rattle.{
   column_core.proofs.cells.Common.{cond_both, all_pairs_remove, option_map},
-  frame_parts.proofs.Common.{nat_tests, ◌≡◌, ℕ, ◌<◌, List, ◌++◌, length, refl, arith, nat_eq, Option, Some, None, Result, Ok, Err, ◌≢◌, IsSome, Frame, Cell, Label, Code, Text, datum, label_datum, cell_label, FaultValue, then_value, fault_of, loc, IsSettled, NumberedTable, Table, table_value, AreHeadings, IsWhole, Given, GivenSub, selected_column, MakesBy, Value, Object, Scalar, Subscript, ObjId, OpFault, Refused, NoMemory, Tables, with_object, table_at, entry_of, subscript_of, shown, World, Sets, map-remove, longer_self, settled_by, settled_with, object_settled},
-  frame_store.{specs.tables.Change.{without_column}, proofs.{ColumnLaws.{All-remove}, Settling.{shown_with}}},
-  frame_select.specs.select.{Set.{removal_result, added_label, assign_result, table_set}, Select.{Way}},
-  frame_set.specs.{declared.changes.Setting.{Setting}, Assigned.{without}, Changes.{ended, table_after, RefusesBy, SetsBy}},
+  frame_parts.proofs.Common.{nat_tests, ◌≡◌, ℕ, ◌+◌, ◌<◌, ◌≤◌, List, ◌++◌, length, refl, subst, arith, nat_eq, Option, Some, None, Result, Ok, Err, ◌≢◌, IsSome, Frame, Cell, Label, Code, Text, datum, label_datum, cell_label, FaultValue, then_value, fault_of, loc, IsSettled, NumberedTable, Table, table_value, AreHeadings, IsWhole, Given, GivenSub, selected_column, MakesBy, Value, Object, Scalar, Subscript, ObjId, OpFault, Refused, NoMemory, Tables, with_object, table_at, table_or, entry_of, subscript_of, shown, Holding, World, SetsFor, Holds, cost_of, free, table, map-remove, longer_self, settled_by, settled_with, object_settled},
+  frame_store.{specs.{tables.Change.{without_column}, Objects.{LieStill}}, proofs.{ColumnLaws.{All-remove}, Settling.{shown_with}}},
+  frame_select.specs.{charge.Charge.{setting_charge, touched_in}, select.{Set.{removal_result, added_label, assign_result, table_set}, Select.{Way}}},
+  frame_set.{specs.{declared.changes.Setting.{Setting}, Assigned.{without}, Changes.{cells_after, columns_after, ended, table_after, IsSettingOf, RefusesBy, SetsBy}}, proofs.CostLaws.{setting_within, still_without}},
 }
 
 -- an object has got another table
 
-abbrev pub in_world : List Text → Tables → World
-in_world texts tables = record { tables = tables; texts = texts }
+abbrev pub in_world : List Text → Tables → Holding → World
+in_world texts tables holding = record { tables = tables; texts = texts; holding = holding }
 
-pub set_made : (texts : List Text) (tables tables' : Tables) (on : ObjId) (t : NumberedTable) (meant : Result Table FaultValue) → IsSettled shown texts tables → IsSettled table_value texts t → tables' ≡ with_object tables on.0 (Some t)
-    → meant ≡ Ok (table_value texts t) → Sets (Ok tt) (Object on) meant (in_world texts tables) (in_world texts tables')
-set_made _ _ _ _ t _ settled given put is = (grind (arith, shown_with, nat_tests, longer_self), longer_self _, search settled_with)
+pub set_made : (texts : List Text) (tables tables' : Tables) (holding holding' : Holding) (charge : Table → ℕ) (on : ObjId) (t : NumberedTable) (meant : Result Table FaultValue) → IsSettled shown texts tables → IsSettled table_value texts t → tables' ≡ with_object tables on.0 (Some t)
+    → meant ≡ Ok (table_value texts t) → Holds (cost_of charge meant) (Some on.0) (in_world texts tables holding) (in_world texts tables' holding') → SetsFor charge (Ok tt) (Object on) meant (in_world texts tables holding) (in_world texts tables' holding')
+set_made _ _ _ _ _ _ _ t _ settled given put is held = (grind (arith, shown_with, nat_tests, longer_self), longer_self _, search settled_with, held)
 
 -- or it hasn't
-pub set_refused : (texts : List Text) (tables : Tables) (on : Value) (meant : Result Table FaultValue) (fault : OpFault) → IsSettled shown texts tables → RefusesBy texts fault meant
-    → Sets (Err fault) on meant (in_world texts tables) (in_world texts tables)
-set_refused = grind (arith, longer_self)
-
-pub set_left : (texts : List Text) (tables tables' : Tables) (on : Value) (meant : Result Table FaultValue) → IsSettled shown texts tables → tables' ≡ tables → Sets (Err NoMemory) on meant (in_world texts tables) (in_world texts tables')
-set_left _ _ _ on meant settled same = rw same (set_refused _ _ on meant NoMemory settled tt)
+pub set_left : (texts : List Text) (tables tables' : Tables) (holding holding' : Holding) (charge : Table → ℕ) (on : Value) (meant : Result Table FaultValue) → IsSettled shown texts tables → tables' ≡ tables
+    → holding'.cells ≤ holding.cells + 0 → LieStill None tables tables' holding.blocks holding'.blocks → SetsFor charge (Err NoMemory) on meant (in_world texts tables holding) (in_world texts tables' holding')
+set_left texts _ _ _ _ _ on meant settled same held still = (
+  rw same refl,
+  longer_self _,
+  rw same settled,
+  record { cells = held; blocks = λ id live there apart. still id live there (λ none. cc) },
+)
 
 -- a part that is refused, and another name for what is meant
 pub part_refused : {X Y : Type 0} (view : List Text → X → Y) (texts : List Text) (meant : Result Y FaultValue) (go : Y → Result Table FaultValue) (fault : OpFault) → MakesBy view texts (Err fault) meant
@@ -44,11 +46,12 @@ removed_headed t _ whole frame inside = record {
   different = λ e. all_pairs_remove (λ a b. a ≢ b) _ _ (omega (arith, whole.headed, inside)) (whole.headings.different e);
 }
 
-pub removal_set : (texts : List Text) (tables tables' : Tables) (on v : Value) (id : ObjId) (c : Cell) (t : NumberedTable) (l : Label) (place : ℕ) → on ≡ Object id → v ≡ Scalar c → tables id.0 ≡ Some t → t.shape ≡ Frame
+pub removal_set : (texts : List Text) (tables tables' : Tables) (holding holding' : Holding) (on v : Value) (id : ObjId) (c : Cell) (t : NumberedTable) (l : Label) (place : ℕ) → on ≡ Object id → v ≡ Scalar c → tables id.0 ≡ Some t → t.shape ≡ Frame
     → label_datum texts l ≡ cell_label (datum texts c) → IsSettled shown texts tables → selected_column (table_value texts t) (label_datum texts l) ≡ Ok place → tables' ≡ with_object tables id.0 (Some (without_column (table_at tables id.0) place))
-    → Sets (Ok tt) on (removal_result (entry_of tables texts on) (entry_of tables texts v)) (in_world texts tables) (in_world texts tables')
-removal_set texts _ _ _ v id c t l place on_is v_is there frame seen settled placed put =
-    rw (on_is, v_is) (set_made _ _ _ id _ _ settled (removed_settled texts t place (search object_settled)) (grind arith) (grind (arith, removed_is)))
+    → holding'.cells ≤ holding.cells + 0 → LieStill (Some id.0) tables tables' holding.blocks holding'.blocks
+    → SetsFor free (Ok tt) on (removal_result (entry_of tables texts on) (entry_of tables texts v)) (in_world texts tables holding) (in_world texts tables' holding')
+removal_set texts _ _ _ _ _ v id c t l place on_is v_is there frame seen settled placed put held still =
+    rw (on_is, v_is) (set_made _ _ _ _ _ free id _ _ settled (removed_settled texts t place (search object_settled)) (grind arith) (grind (arith, removed_is)) record { cells = omega arith; blocks = still })
 
 -- the label that a settled scalar is
 
@@ -60,11 +63,17 @@ pub ended_settled : (texts : List Text) (ends : Option ObjId) (tables : Tables) 
 ended_settled _ None _ settled = settled
 ended_settled texts (Some id) _ settled = λ more j other. cond_both (nat_eq id.0 other) None _ (λ t. option_map (table_value (texts ++ more)) t ≡ option_map (table_value texts) t) (λ _. refl) (λ _ j. settled more j other) j
 
-pub assign_set : (texts : List Text) (live live' : Tables) (on : Value) (id : ObjId) (t : NumberedTable) (setting : Setting) (ends : Option ObjId) (way : Way) (first : GivenSub) (second : Option GivenSub) (g : Given) → on ≡ Object id → live id.0 ≡ Some t → IsSettled shown texts live
+pub assign_set : (texts : List Text) (live live' : Tables) (holding holding' : Holding) (on : Value) (id : ObjId) (t : NumberedTable) (setting : Setting) (ends : Option ObjId) (way : Way) (first : GivenSub) (second : Option GivenSub) (g : Given) → on ≡ Object id → live id.0 ≡ Some t → IsSettled shown texts live
     → SetsBy live texts t (Ok setting) (table_set way (table_value texts t) first second g) → live' ≡ with_object (ended ends live) id.0 (Some (table_after live (table_at live id.0) setting))
-    → Sets (Ok tt) on (assign_result (entry_of live texts on) way first second g) (without (Ok tt) ends (in_world texts live)) (in_world texts live')
-assign_set _ _ _ _ id t _ _ _ _ _ g on_is there settled sets put =
-    rw on_is (set_made _ _ _ id _ _ (ended_settled _ _ _ settled) sets.1 (grind arith) (grind arith))
+    → IsSettingOf live ends t setting → columns_after setting ≤ touched_in t.shape way (table_value texts t) first second
+    → holding'.cells ≤ holding.cells + cells_after (table_at live id.0) setting → LieStill (Some id.0) live live' holding.blocks holding'.blocks
+    → SetsFor (setting_charge (entry_of live texts on) way first second) (Ok tt) on (assign_result (entry_of live texts on) way first second g) (without (Ok tt) ends (in_world texts live holding)) (in_world texts live' holding')
+assign_set texts live live' holding holding' _ id t setting ends way first second g on_is there settled sets put fits touched held still =
+    let least : cells_after t setting ≤ cost_of (setting_charge (table (table_value texts t)) way first second) (table_set way (table_value texts t) first second g) =
+    rw sets.0 (setting_within texts live ends t setting way first second fits touched) in
+    let raised : holding'.cells ≤ holding.cells + cells_after t setting = rw there at held in
+    let done = subst (λ (o : Option NumberedTable). live' ≡ with_object (ended ends live) id.0 (Some (table_after live (table_or o) setting))) there put in
+    rw (on_is, there) (set_made _ _ _ _ _ (setting_charge (table (table_value texts t)) way first second) id _ _ (ended_settled _ _ _ settled) sets.1 done sets.0 record { cells = omega arith; blocks = still_without ends live live' _ _ _ still })
 
 -- the label that a settled scalar key is
 

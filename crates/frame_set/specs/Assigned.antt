@@ -48,9 +48,9 @@ IsLiveNew tables (Moved id) = IsLiveObject tables id
 abbrev pub IsKnownNew : World → NewValue → Type 0
 IsKnownNew w value = IsKnown IsLiveNew new_value w value
 
--- the world without an object, if there is one, that ends with a setting; a refusal ends none
+-- the world without an object, if there is one, that ends with a setting; a refusal ends none. What it holds counts on.
 abbrev pub without : Result ⊤ OpFault → Option ObjId → World → World
-without r spare w = record { tables = spent r spare w.tables; texts = w.texts }
+without r spare w = record w { tables = spent r spare w.tables }
 
 -- a column of a kernel as a column of a table
 abbrev pub table_column : CellColumn → ColumnOf Cell

@@ -7,10 +7,11 @@ use Rattle.column_core.specs.Blocks.{CellBlock}
 use Rattle.column_core.specs.cells.Text.{Text}
 use Rattle.column_core.specs.cells.Fault.{FaultValue}
 use Rattle.frame_store.specs.tables.Settled.{IsSettled}
-use Rattle.frame_store.specs.tables.Table.{NumberedTable, Table, table_value, column_at}
+use Rattle.frame_store.specs.tables.Table.{NumberedTable, Table, table_value, cell_count, column_at}
 use Rattle.frame_store.specs.tables.Change.{with_column, with_values, put_at}
 use Rattle.frame_store.specs.tables.Valid.{AreHeadings}
 use Rattle.frame_store.specs.Objects.{Tables, table_at}
+use Rattle.frame_select.specs.charge.Charge.{different_count}
 use Rattle.frame_store.specs.Arguments.{shape_at, IsLiveObject}
 use Rattle.frame_store.specs.Parts.{block_column, IsSingle, AreHeld}
 use Rattle.frame_store.specs.Shown.{Refuses, spent}
@@ -33,11 +34,31 @@ abbrev pub table_after : Tables → NumberedTable → Setting → NumberedTable
 table_after live t (setting.Change change) = changed t change
 table_after live t (setting.Move place label series) = with_column t place (Some label) (column_at (table_at live series.0).columns 0)
 
+-- how many cells that makes: those of the columns that it touches, or all
+abbrev pub cells_changed : NumberedTable → Change → ℕ
+cells_changed t (change.Cells rows columns values) = length t.labels * different_count columns
+cells_changed t (change.Column place label block) = length t.labels
+cells_changed t (change.Table made) = cell_count made
+
+abbrev pub cells_after : NumberedTable → Setting → ℕ
+cells_after t (setting.Change change) = cells_changed t change
+cells_after t (setting.Move place label series) = 0
+
+-- and how many columns it touches, where it adds no row
+abbrev pub columns_changed : Change → ℕ
+columns_changed (change.Cells rows columns values) = different_count columns
+columns_changed (change.Column place label block) = 1
+columns_changed (change.Table made) = 0
+
+abbrev pub columns_after : Setting → ℕ
+columns_after (setting.Change change) = columns_changed change
+columns_after (setting.Move place label series) = 0
+
 -- the headings with the label at a place are those of a table
 abbrev pub MayHead : NumberedTable → Label → ℕ → Type 0
 MayHead t label place = AreHeadings t.shape t.columns_name (put_at t.headings place (Some label))
 
--- cells for places of the table that its columns hold, and a column that fits it
+-- cells for places of the table that its columns hold, a column that fits it, and a table with more rows
 pub record FitsCells (t : NumberedTable) (rows columns : List ℕ) (values : List Cell) : Type 0 where
   pub rows_below : All (λ row. row < length t.labels) rows
   pub columns_below : All (λ place. place < length t.columns) columns
@@ -53,7 +74,7 @@ pub record FitsColumn (t : NumberedTable) (place : ℕ) (label : Label) (block :
 abbrev pub IsChangeOf : NumberedTable → Change → Type 0
 IsChangeOf t (change.Cells rows columns values) = FitsCells t rows columns values
 IsChangeOf t (change.Column place label block) = FitsColumn t place label block
-IsChangeOf t (change.Table made) = Unit {0}
+IsChangeOf t (change.Table made) = length t.labels < length made.labels
 
 -- the column of a live Series, which is the object that ends, fits the table
 pub record FitsMove (live : Tables) (ends : Option ObjId) (t : NumberedTable) (place : ℕ) (label : Label) (series : ObjId) : Type 0 where

@@ -4,3 +4,4 @@ pub mod Fits
 pub mod Changes
 pub mod Grown
 pub mod Aligned
+pub mod Sole

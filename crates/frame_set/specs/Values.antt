@@ -1,5 +1,5 @@
 -- Values of settings and what they reach, as they are meant.
-use Rattle.std.specs.Prelude.{◌≡◌, ◌≢◌, ℕ, ◌<◌, ◌+◌, ◌*◌, ◌∷◌, [], nat_lt, slice_index, Bool, true, false, not, List, length, Option, Some, None, option_map, Result, Ok, Err, All, IfSome, IsOk, ⊤, if◌then◌else◌}
+use Rattle.std.specs.Prelude.{◌≡◌, ◌≢◌, ℕ, ◌<◌, ◌+◌, ◌*◌, ◌∷◌, [], nat_lt, slice_get, slice_index, Bool, true, false, not, List, length, Option, Some, None, option_map, Result, Ok, Err, All, IfSome, IsOk, ⊤, if◌then◌else◌}
 use Rattle.cell_core.specs.declared.cell.Kind.{Kind}
 use Rattle.cell_core.specs.declared.cell.Kind.TheVariants.{Int64}
 use Rattle.cell_core.specs.declared.code.Code.{Code}
@@ -101,6 +101,11 @@ kind_there t place added = if nat_lt place (length t.columns) then (column_at t.
 -- the columns at these places have the kinds of those there, and the one more has another
 abbrev pub HasKinds : Table → NumberedTable → Kind → List ℕ → Type 0
 HasKinds grown t added places = (k : ℕ) → k < length places → (column_at grown.columns (slice_index places k)).kind ≡ kind_there t (slice_index places k) added
+
+-- these are the kinds of the columns at these places
+pub record AreKindsOf (grown : Table) (places : List ℕ) (kinds : List Kind) : Type 0 where
+  pub count : length kinds ≡ length places
+  pub each : (k : ℕ) (kind : Kind) → slice_get kinds k ≡ Some kind → (column_at grown.columns (slice_index places k)).kind ≡ kind
 
 -- how many rows and columns there are with what is added
 abbrev pub count_with : ℕ → Option Label → ℕ

@@ -1,21 +1,24 @@
 // Settings of objects: read into one change, and then carried out.
-ghost use Rattle.std.specs.Prelude.{◌≡◌, [], List, length, IfOk, IfSome};
+ghost use Rattle.std.specs.Prelude.{◌≡◌, ◌≤◌, [], List, length, None, IfOk, IfSome, OnOk};
 ghost use Rattle.cell_core.specs.declared.grid.Shape.TheVariants.{Frame};
 ghost use Rattle.column_core.specs.cells.Text.{Text as OneText};
 ghost use Rattle.frame_store.specs.tables.Settled.{IsSettled};
 ghost use Rattle.frame_store.specs.tables.Table.{table_value};
+ghost use Rattle.frame_select.specs.charge.Charge.{different_count, setting_charge, touched_in, touched_item};
+ghost use Rattle.frame_select.specs.select.Select.{through};
 ghost use Rattle.frame_select.specs.select.Set as meant;
 ghost use Rattle.frame_parts.specs.Makes.{MakesBy};
 ghost use Rattle.frame_store.specs.Objects.{tables};
-ghost use Rattle.frame_store.specs.World.{world, entry_in, subscript_in, IsKnownValue, IsKnownSubscript, IsKnownTable, IsSettledWorld, Sets};
+ghost use Rattle.frame_store.specs.World.{world, entry_in, subscript_in, IsKnownValue, IsKnownSubscript, IsKnownTable, IsSettledWorld, SetsFor};
 ghost use Rattle.frame_select.specs.Reaches.{accessor_of, CanSelect};
 ghost use Rattle.frame_select.specs.Selected.{IsKnownSecond, second_in, as_it_is, way_of};
 ghost use Rattle.frame_set.specs.Assigned.{new_value_in, moved_object, IsKnownNew, IsOther, without};
 ghost use Rattle.frame_set.specs.Values.{value_in, target_value, kind_added, IsLiveSetValue, IsTargetOf};
-ghost use Rattle.frame_set.specs.Changes.{ChangesBy, SetsBy, IsChangeOf, IsSettingOf};
+ghost use Rattle.frame_set.specs.Changes.{columns_changed, columns_after, ChangesBy, SetsBy, IsChangeOf, IsSettingOf};
+ghost use Rattle.frame_set.specs.Sole.{columns_picked, KeepsSoleBlocks, SetsColumns, SetsPicked};
 
 use crate::changes::{Change, Setting, carry_out};
-use crate::filling::{expect_fit, expect_room, kind_for, values_for};
+use crate::filling::{expect_fit, expect_room, kind_for, kinds_of, values_for};
 use crate::growing::filled;
 use crate::putting::{column_change, series_setting};
 use crate::targets::{Target, label_to_add, target_of};
@@ -64,6 +67,9 @@ fn cells_change(
         (meant.target_set (accessor_of by) (table_value dict.now on.now)
         (value_in (tables store.now) dict.now value) (target_value dict.now target)) }
     ensures fits { IfOk result (IsChangeOf on.now) }
+    ensures touched { IfOk result (λ change. columns_changed change
+        ≤ different_count target.columns.places) }
+    ensures picked { IfOk result (SetsColumns on.now target.columns.places) }
 {
     if lacks_columns(on, &target) {
         return Err(OpFault::Refused(Code::BadValue(Reason::NoColumns)));
@@ -72,7 +78,8 @@ fn cells_change(
     let kind = added_kind(store, &target, &value);
     let values = values_for(alloc, store, dict, on, by, &target, value)?;
     let kind = kind?;
-    expect_fit(on, &target.columns.places, kind, &values)?;
+    let kinds = kinds_of(alloc, on, &target.columns.places, kind)?;
+    expect_fit(&kinds, values.as_slice())?;
     expect_room(on, &target)?;
     Ok(filled(alloc, dict, on, target, kind, values)?)
 }
@@ -99,6 +106,13 @@ fn access_change(
         (second_in (world store.now dict.now) second.entry)
         (new_value_in (world store.now dict.now) value.entry)) }
     ensures fits { IfOk result (IsChangeOf on.now) }
+    ensures touched { IfOk result (λ change. columns_changed change ≤ touched_in on.now.shape
+        (through (accessor_of by)) (table_value dict.now on.now)
+        (subscript_in (world store.now dict.now) first.now)
+        (second_in (world store.now dict.now) second.entry)) }
+    ensures picked { IfOk result (SetsColumns on.now (columns_picked on.now.shape
+        (accessor_of by) (table_value dict.now on.now)
+        (second_in (world store.now dict.now) second.entry))) }
 {
     let value = set_value(alloc, store, value)?;
     let target = target_of(alloc, store, dict, on, by, first, second)?;
@@ -125,6 +139,8 @@ fn frame_setting(
         (new_value_in (world store.now dict.now) value.entry)) }
     ensures fits { IfOk result
         (IsSettingOf (tables store.now) (moved_object value.entry) on.now) }
+    ensures touched { IfOk result (λ setting. columns_after setting ≤ touched_item
+        (subscript_in (world store.now dict.now) key.now) None) }
 {
     let Some(label) = label_to_add(Selector::Loc, key) else {
         return Err(wrong_kind());
@@ -162,6 +178,13 @@ fn setting_for(
         (new_value_in (world store.now dict.now) value.entry)) }
     ensures fits { IfOk result
         (IsSettingOf (tables store.now) (moved_object value.entry) on.now) }
+    ensures touched { IfOk result (λ setting. columns_after setting ≤ touched_in on.now.shape
+        (way_of by) (table_value dict.now on.now)
+        (subscript_in (world store.now dict.now) first.now)
+        (second_in (world store.now dict.now) second.entry)) }
+    ensures picked { IfOk result (SetsPicked (way_of by) on.now (columns_picked on.now.shape
+        (accessor_of by) (table_value dict.now on.now)
+        (second_in (world store.now dict.now) second.entry))) }
 {
     match (by, on.shape(), second) {
         (Selector::Plain, Shape::Frame, None) => {
@@ -178,7 +201,8 @@ fn setting_for(
 /// A setting: `v[..] = value`, `v.loc[..] = value` and so on, as in the pandas user guide,
 /// "Indexing and selecting data" ("Setting with enlargement" among it). Only the table of `on`
 /// changes, and no other object with it (PDEP-7: each object behaves as a copy). A value that is
-/// [`Moved`](NewValue::Moved) ends with the setting.
+/// [`Moved`](NewValue::Moved) ends with the setting. A setting by `loc`, `iloc`, `at` or `iat` that
+/// adds no row or column writes in place where the picked columns share no block.
 ///
 /// Brackets on a frame make or replace a whole column: a scalar in each row, a list by rows, a
 /// Series aligned to the rows. A frame without rows gets those of the Series, or the labels 0, 1
@@ -222,12 +246,17 @@ pub fn assign(
     requires second { IsKnownSecond (world store.old dict.old) second }
     requires value { IsKnownNew (world store.old dict.old) value }
     requires other { IfSome (moved_object value) (IsOther on) }
-    ensures { Sets result on (meant.assign_result (entry_in (world store.old dict.old) on)
+    ensures answer { SetsFor (setting_charge (entry_in (world store.old dict.old) on) (way_of by)
+        (subscript_in (world store.old dict.old) first.now)
+        (second_in (world store.old dict.old) second.entry)) result on
+        (meant.assign_result (entry_in (world store.old dict.old) on)
         (way_of by) (subscript_in (world store.old dict.old) first.now)
         (second_in (world store.old dict.old) second.entry)
         (new_value_in (world store.old dict.old) value.entry))
         (without result (moved_object value.entry) (world store.old dict.old))
         (world store.new dict.new) }
+    ensures sole { OnOk result (KeepsSoleBlocks store.old store.new dict.old on (way_of by)
+        (second_in (world store.old dict.old) second.entry)) }
 {
     let Value::Object(id) = on else {
         return Err(wrong_kind());

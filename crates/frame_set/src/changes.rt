@@ -1,7 +1,10 @@
 // Changes of one object, which are tested whole before they are carried out.
-ghost use Rattle.std.specs.Prelude.{Some, IsSome, IfSome, OnOk, OnErr};
-ghost use Rattle.frame_store.specs.Objects.{tables, table_at, with_object, Stays, Alters, Turns};
-ghost use Rattle.frame_set.specs.Changes.{changed, table_after, ended, IsChangeOf, IsSettingOf, MayEnd};
+ghost use Rattle.std.specs.Prelude.{Some, None, IsSome, IfSome, OnOk, OnErr};
+ghost use Rattle.frame_store.specs.tables.Valid.{IsWhole};
+ghost use Rattle.frame_store.specs.Objects.{tables, table_at, with_object, changing, Stays, Alters, Turns, KeepBlocks, Raises};
+ghost use Rattle.frame_store.specs.Stores.{charged};
+ghost use Rattle.frame_set.specs.Changes.{changed, cells_changed, table_after, cells_after, ended, IsChangeOf, IsSettingOf, MayEnd};
+ghost use Rattle.frame_set.specs.Sole.{LeavesBlocks, LeavesBlocksAfter};
 
 use cell_core::{Cells, Label, NoMemory, Places};
 use column_core::Block;
@@ -42,9 +45,14 @@ pub(crate) enum Setting {
 // Carries a change out. `NoMemory` leaves all objects as they were.
 fn carry_change(store: &mut Store, on: ObjId, change: Change) -> Result<(), NoMemory>
     requires live { IsSome (tables store.old on.0) }
+    requires whole { IsWhole (table_at (tables store.old) on.0) }
     requires change { IsChangeOf (table_at (tables store.old) on.0) change }
     ensures ok { OnOk result (Alters store.old store.new on (λ t. changed t change)) }
     ensures err { OnErr result (Stays store.old store.new) }
+    ensures held { Raises (charged (cells_changed (table_at (tables store.old) on.0) change) result)
+        store.old store.new }
+    ensures blocks { KeepBlocks (changing on.0 result) store.old store.new }
+    ensures sole { OnOk result (LeavesBlocks store.old store.new on change) }
 {
     match change {
         Change::Cells {
@@ -68,7 +76,9 @@ fn carry_change(store: &mut Store, on: ObjId, change: Change) -> Result<(), NoMe
 // Ends an object, if there is one to end.
 fn end(store: &mut Store, ends: Option<ObjId>)
     requires { IfSome ends (λ id. IsSome (tables store.old id.0)) }
-    ensures { Turns store.old store.new (ended ends) }
+    ensures ok { Turns store.old store.new (ended ends) }
+    ensures held { Raises 0 store.old store.new }
+    ensures blocks { KeepBlocks None store.old store.new }
 {
     if let Some(id) = ends {
         store.drop_object(id);
@@ -84,12 +94,17 @@ pub(crate) fn carry_out(
     ends: Option<ObjId>,
 ) -> Result<(), NoMemory>
     requires live { IsSome (tables store.old on.0) }
+    requires whole { IsWhole (table_at (tables store.old) on.0) }
     requires setting { IsSettingOf (tables store.old) ends
         (table_at (tables store.old) on.0) setting }
     requires ends { IfSome ends (MayEnd (tables store.old) on) }
     ensures ok { OnOk result (Turns store.old store.new (λ live. with_object (ended ends live) on.0
         (Some (table_after live (table_at live on.0) setting)))) }
     ensures err { OnErr result (Stays store.old store.new) }
+    ensures held { Raises (charged (cells_after (table_at (tables store.old) on.0) setting) result)
+        store.old store.new }
+    ensures blocks { KeepBlocks (changing on.0 result) store.old store.new }
+    ensures sole { OnOk result (LeavesBlocksAfter store.old store.new on setting) }
 {
     match setting {
         Setting::Change(change) => {

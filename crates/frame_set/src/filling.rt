@@ -1,5 +1,5 @@
 // The values for the cells that a setting reaches, and what is tested of them.
-ghost use Rattle.std.specs.Prelude.{◌≡◌, ◌<◌, ◌-◌, ◌*◌, ◌^◌, ◌⊎◌, min, List, length, replicate, IfOk};
+ghost use Rattle.std.specs.Prelude.{◌≡◌, ℕ, ◌<◌, ◌-◌, ◌*◌, ◌^◌, ◌⊎◌, min, List, length, replicate, IfOk};
 ghost use Rattle.cell_core.specs.declared.code.Code.TheVariants as code;
 ghost use Rattle.cell_core.specs.declared.code.Reason.TheVariants as reason;
 ghost use Rattle.cell_core.specs.declared.grid.Shape.TheVariants.{Series};
@@ -18,7 +18,7 @@ ghost use Rattle.frame_store.specs.World.{world, IsKnownTable, IsSettledWorld};
 ghost use Rattle.frame_select.specs.Reaches.{accessor_of, CanSelect};
 ghost use Rattle.frame_select.specs.Selected.{as_it_is};
 ghost use Rattle.frame_set.specs.Grown.{reached_tuples};
-ghost use Rattle.frame_set.specs.Values.{value_in, reached_value, target_value, AddsOnOne, IsLiveSetValue, IsReachedOf, IsTargetOf, Tests, TestsThat, cells_reached, kind_there, HasKinds, count_with, rows_after, columns_after};
+ghost use Rattle.frame_set.specs.Values.{value_in, reached_value, target_value, AddsOnOne, IsLiveSetValue, IsReachedOf, IsTargetOf, Tests, TestsThat, cells_reached, kind_there, AreKindsOf, HasKinds, count_with, rows_after, columns_after};
 
 use crate::aligning::aligned_cells;
 use crate::targets::{Reached, Target};
@@ -234,23 +234,40 @@ fn kind_at(on: &ObjRef<'_>, place: usize, added: Kind) -> Kind
     }
 }
 
-// Refuses values of which one doesn't fit the kind of its column.
-pub(crate) fn expect_fit(
+// The kinds of the columns at these places, where one more has another.
+pub(crate) fn kinds_of(
+    alloc: Global,
     on: &ObjRef<'_>,
     columns: &Places,
     added: Kind,
-    values: &Cells,
-) -> Result<(), OpFault>
-    requires { length values.now ≡ 0 ⊎ 0 < length columns.now }
-    ensures { (texts : List OneText) (grown : OneTable) → HasKinds grown on.now added columns.now
-        → TestsThat result (meant.fit_from 0 grown columns.now (cells_value texts values.now))
+) -> Result<Vec<Kind>, NoMemory>
+    ensures kinds { IfOk result (λ kinds. (grown : OneTable)
+        → HasKinds grown on.now added columns.now → AreKindsOf grown columns.now kinds.items) }
+    ensures count { IfOk result (λ kinds. length kinds.items ≡ length columns.now) }
+{
+    let mut kinds = Vec::new(alloc);
+    for place in columns.as_slice() {
+        kinds.push(kind_at(on, *place, added))?;
+    }
+    Ok(kinds)
+}
+
+// Refuses values, row by row, of which one doesn't fit the kind of its column.
+pub(crate) fn expect_fit(kinds: &[Kind], values: &[Cell]) -> Result<(), OpFault>
+    requires { length values.now ≡ 0 ⊎ 0 < length kinds.now }
+    ensures { (texts : List OneText) (grown : OneTable) (columns : List ℕ)
+        → AreKindsOf grown columns kinds.now
+        → TestsThat result (meant.fit_from 0 grown columns (cells_value texts values.now))
         code.WrongKind }
 {
-    let width = columns.len();
-    for k in 0..values.len() {
-        let kind = kind_at(on, *columns.at(k % width), added);
-        if !kind.holds(*values.at(k)) {
+    let mut column = 0;
+    for value in values {
+        if !kinds[column].holds(*value) {
             return Err(wrong_kind());
+        }
+        column += 1;
+        if column == kinds.len() {
+            column = 0;
         }
     }
     Ok(())

@@ -1,11 +1,13 @@
 // Tables that get a row or a column.
-ghost use Rattle.std.specs.Prelude.{◌≡◌, ◌<◌, ◌*◌, length, map, All, IfOk};
+ghost use Rattle.std.specs.Prelude.{◌≡◌, ◌<◌, ◌≤◌, ◌*◌, length, map, All, IfOk};
 ghost use Rattle.frame_store.specs.tables.Change.{with_values};
 ghost use Rattle.frame_store.specs.Parts.{labelled, IsSingle, IsHeld, block_column, AreHeld};
 ghost use Rattle.frame_select.specs.Reaches.{CanSelect};
+ghost use Rattle.frame_select.specs.charge.Charge.{different_count};
 ghost use Rattle.frame_store.specs.tables.Valid.{IsWhole};
 ghost use Rattle.frame_set.specs.Values.{cells_reached, IsTargetOf, IsFreshIn};
-ghost use Rattle.frame_set.specs.Changes.{changed, IsChangeOf};
+ghost use Rattle.frame_set.specs.Changes.{changed, columns_changed, IsChangeOf};
+ghost use Rattle.frame_set.specs.Sole.{SetsColumns};
 ghost use Rattle.frame_set.specs.Grown.{axis_with, columns_with_gap, with_row, new_column, column_added, grown_table};
 
 use crate::changes::Change;
@@ -134,6 +136,9 @@ pub(crate) fn filled(
         ≡ with_values (grown_table on.now target kind)
         target.rows.places target.columns.places values) }
     ensures fits { IfOk result (IsChangeOf on.now) }
+    ensures touched { IfOk result (λ change. columns_changed change
+        ≤ different_count target.columns.places) }
+    ensures picked { IfOk result (SetsColumns on.now target.columns.places) }
 {
     let Target { rows, columns } = target;
     let Reached {

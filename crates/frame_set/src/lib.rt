@@ -7,7 +7,8 @@
 //! the keys reach (`targets`), and the cells for them (`filling`) or a whole column (`putting`), of
 //! which those of a Series are aligned to the rows (`aligning`).
 //! A table that grows is made anew and takes the old one's place at the end, so that a refusal
-//! leaves all as it was and ends no object. [`values_fit_columns`] says which values fit.
+//! leaves all as it was and ends no object. [`values_fit_columns`] says which values fit, and
+//! [`touched`] how many columns a setting touches.
 //!
 //! ```text
 //! // `f["price"] = 7`: `price` is a key, the text
@@ -28,9 +29,11 @@ mod laws;
 mod putting;
 mod removing;
 mod targets;
+mod touching;
 mod values;
 
 pub use assigning::assign;
 pub use laws::values_fit_columns;
 pub use removing::remove;
+pub use touching::touched;
 pub use values::NewValue;

@@ -1,5 +1,5 @@
 // Whole columns that are put into a frame.
-ghost use Rattle.std.specs.Prelude.{◌≡◌, ◌≤◌, ◌∷◌, [], length, Some, IfOk};
+ghost use Rattle.std.specs.Prelude.{◌≡◌, ◌<◌, ◌≤◌, ◌∷◌, [], length, Some, IfOk};
 ghost use Rattle.cell_core.specs.declared.grid.Shape.TheVariants.{Frame, Series};
 ghost use Rattle.column_core.specs.cells.Cell.{AreGiven, label_datum};
 ghost use Rattle.frame_store.specs.tables.Settled.{IsSettled};
@@ -17,7 +17,7 @@ ghost use Rattle.frame_store.specs.tables.Change.{with_column};
 ghost use Rattle.frame_set.specs.Aligned.{aligned_set};
 ghost use Rattle.frame_set.specs.Assigned.{table_column, count_after, put_place as place_for, with_axis};
 ghost use Rattle.frame_set.specs.Values.{value_in, IsLiveSetValue};
-ghost use Rattle.frame_set.specs.Changes.{changed, ChangesBy, SetsBy, IsChangeOf, IsSettingOf, MayHead};
+ghost use Rattle.frame_set.specs.Changes.{changed, columns_changed, columns_after, ChangesBy, SetsBy, IsChangeOf, IsSettingOf, MayHead};
 
 use crate::aligning::aligned_column;
 use crate::changes::{Change, Setting};
@@ -84,6 +84,7 @@ pub(crate) fn put_change(
         (meant.put_result (table_value dict.now on.now) (label_datum dict.now label)
         (column_seen dict.now column)) }
     ensures fits { IfOk result (IsChangeOf on.now) }
+    ensures one { IfOk result (λ change. columns_changed change ≤ 1) }
 {
     let place = put_place(dict, on, label, on.rows())?;
     Ok(Change::Column {
@@ -107,11 +108,13 @@ pub(crate) fn rows_change(
     requires whole { IsWhole on.now }
     requires shape { on.now.shape ≡ Frame }
     requires rows { length column.cells ≡ length axis.tuples }
+    requires more { length on.now.labels < length axis.tuples }
     requires place { place ≤ length on.now.columns }
     requires headings { MayHead on.now label place }
     ensures made { IfOk result (λ change. changed on.now change
         ≡ with_column (with_axis on.now axis) place (Some label) (table_column column)) }
     ensures fits { IfOk result (IsChangeOf on.now) }
+    ensures one { IfOk result (λ change. columns_changed change ≤ 1) }
 {
     let blocks = missing_columns(alloc, on, axis.len())?;
     let headings = headings_of(alloc, on)?;
@@ -137,6 +140,7 @@ fn list_change(
         (meant.list_set (table_value dict.now on.now) (label_datum dict.now label)
         (column_seen dict.now column)) }
     ensures fits { IfOk result (IsChangeOf on.now) }
+    ensures one { IfOk result (λ change. columns_changed change ≤ 1) }
 {
     let count = column.as_ref().len();
     if on.rows() == 0 && count > 0 {
@@ -167,6 +171,7 @@ fn aligned_change(
         (aligned_set (table_value dict.now on.now) (label_datum dict.now label)
         (table_value dict.now series.now)) }
     ensures fits { IfOk result (IsChangeOf on.now) }
+    ensures one { IfOk result (λ change. columns_changed change ≤ 1) }
 {
     let column = aligned_column(alloc, dict, on.axis(), series)?;
     put_change(dict, on, label, column)
@@ -189,6 +194,7 @@ fn series_change(
         (meant.series_set (table_value dict.now on.now) (label_datum dict.now label)
         (table_value dict.now series.now)) }
     ensures fits { IfOk result (IsChangeOf on.now) }
+    ensures one { IfOk result (λ change. columns_changed change ≤ 1) }
 {
     if on.rows() == 0 && series.rows() > 0 {
         let place = put_place(dict, on, label, series.rows())?;
@@ -218,6 +224,7 @@ pub(crate) fn column_change(
         (meant.column_set (table_value dict.now on.now) (label_datum dict.now label)
         (value_in (tables store.now) dict.now value)) }
     ensures fits { IfOk result (IsChangeOf on.now) }
+    ensures one { IfOk result (λ change. columns_changed change ≤ 1) }
 {
     match value {
         SetValue::Same(cell) => {
@@ -251,6 +258,7 @@ pub(crate) fn series_setting(
         (meant.series_set (table_value dict.now on.now) (label_datum dict.now label)
         (object_value (tables store.now) dict.now series)) }
     ensures fits { IfOk result (IsSettingOf (tables store.now) (Some series) on.now) }
+    ensures one { IfOk result (λ setting. columns_after setting ≤ 1) }
 {
     let source = store.read(series);
     if !same_rows(dict, on.axis(), source.axis()) {

@@ -1,6 +1,7 @@
 // Columns that are removed.
 ghost use Rattle.frame_select.specs.select.Set as meant;
-ghost use Rattle.frame_store.specs.World.{world, entry_in, IsKnownValue, IsSettledWorld, Sets};
+ghost use Rattle.frame_store.specs.tables.Cost.{free};
+ghost use Rattle.frame_store.specs.World.{world, entry_in, IsKnownValue, IsSettledWorld, SetsFor};
 
 use cell_core::{Grid, Label, Shape, TextDict};
 use frame_parts::wrong_kind;
@@ -27,7 +28,7 @@ pub fn remove(
     requires on { IsKnownValue (world store.old dict.now) on }
     requires label { IsKnownValue (world store.old dict.now) label }
     requires settled { IsSettledWorld (world store.old dict.now) }
-    ensures { Sets result on (meant.removal_result (entry_in (world store.old dict.now) on)
+    ensures { SetsFor free result on (meant.removal_result (entry_in (world store.old dict.now) on)
         (entry_in (world store.old dict.now) label))
         (world store.old dict.now) (world store.new dict.now) }
 {

@@ -166,7 +166,7 @@ fn rows_of_pair(
 }
 
 // The columns that a key reaches.
-fn columns_reached(
+pub(crate) fn columns_reached(
     alloc: Global,
     dict: &TextDict,
     on: &ObjRef<'_>,

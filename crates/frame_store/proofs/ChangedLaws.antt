@@ -1,5 +1,5 @@
 -- What the calls of a store make of it: an object is added, changed or ended, or one takes the place of another.
-use Rattle.{meaning_tables.{proofs.cells.Common.{◌≡◌, ◌≢◌, ◌∙◌, refl, sym, ap, subst, arith, ℕ, ◌+◌, ◌*◌, ◌≤◌, List, [], ◌++◌, length, map, Cell, Option, Some, None, IsSome, option_map, cases_eq, inl, inr, nat_eq, nat_tests, if◌then◌else◌, is_some, cond, ◌==◌, same_Some, set-get_or, slice_set}, specs.{Table.{NumberedTable}, Change.{with_values}, Valid.{IsWhole}}}, block_pool.{specs.{Pools.{PoolValue, block_at, live_count}, Placed.{slot, Puts}}, proofs.Slots.{puts_set}}, std.proofs.lemmas.List.Sums.{sum_by-append}, multi_index.specs.Axes.{AxisValue}, block_manager.specs.Managed.{AreLive, AreSole, Keeps, StayOnBlocks, times}, frame_store.{specs.{Parts.{AreRowsOf, AreColumnsOf, HaveRows}, Setting.{AreSet}, Stores.{ObjectValue, IsKeptOn, IsStore, Trades, blocks_over, table_over, tables_over, views_of, stands_in}, Objects.{Tables, with_object, table_or, manager_or}}, proofs.{SettingLaws.{are_set}, StoreLaws.{store_put, tables_put, store_both, tables_both, object_stays, table_stays, two_within}, KeptLaws.{blocks_stay}}}}
+use Rattle.{meaning_tables.{proofs.cells.Common.{◌≡◌, ◌≢◌, ◌∙◌, refl, sym, ap, subst, arith, ℕ, ◌+◌, ◌*◌, ◌≤◌, List, [], ◌++◌, length, map, Cell, Option, Some, None, IsSome, Result, Ok, Err, option_map, cases_eq, inl, inr, nat_eq, nat_tests, if◌then◌else◌, is_some, cond, ◌==◌, same_Some, set-get_or, slice_set}, specs.{Table.{NumberedTable}, Change.{with_values}, Valid.{IsWhole}}}, block_pool.{specs.{Pools.{PoolValue, ViewValue, block_at, live_count}, Placed.{slot, Puts}}, proofs.Slots.{puts_set}}, std.{proofs.lemmas.{List.Sums.{sum_by-append}, Bool.{false≢true}}, specs.{Prelude.{OnErr}, FinMap.{FinMap}, Ordering.{nat_cmp}}}, multi_index.specs.Axes.{AxisValue}, block_manager.specs.Managed.{AreLive, AreSole, Keeps, Stays, StayOnBlocks, times}, frame_store.{specs.{Parts.{AreRowsOf, AreColumnsOf, HaveRows}, Setting.{AreSet}, Stores.{ObjectValue, IsKeptOn, IsStore, Trades, blocks_over, table_over, tables_over, views_of, stands_in}, Objects.{Tables, with_object, table_or, manager_or, changing, LieStill}}, proofs.{SettingLaws.{are_set}, StoreLaws.{store_put, tables_put, store_both, tables_both, object_stays, table_stays, two_within}, KeptLaws.{blocks_stay}, BlockLaws.{blocks_stay_all, blocks_put, blocks_both}}}}
 
 -- what the store knows of a live object
 module _ (pool : PoolValue) (xs : List (Option ObjectValue)) (store : IsStore xs pool) (id : ℕ) (o : ObjectValue) (is : slot xs id ≡ Some o) where
@@ -20,6 +20,19 @@ slot_of_live pool xs id live = at (slot xs id) refl
     at None is = (let none : is_some (option_map (table_over pool) (slot xs id)) ≡ is_some (option_map (table_over pool) None) = ap (λ (w : Option ObjectValue). is_some (option_map (table_over pool) w)) is in cc)
     at (Some o) is = subst IsSome (sym is) refl
 
+-- the objects lie still, between slots and pools
+abbrev pub LieStillOver : Option ℕ → PoolValue → PoolValue → List (Option ObjectValue) → List (Option ObjectValue) → Type 0
+LieStillOver but old new xs ys = LieStill but (tables_over old xs) (tables_over new ys) (blocks_over old xs) (blocks_over new ys)
+
+-- a live object is none that isn't there
+other_than : (tables : Tables) (q key : ℕ) → IsSome (tables q) → tables key ≡ None → q ≢ key
+other_than tables q key live none e = false≢true (sym (ap (λ (t : Option NumberedTable). is_some t) (ap tables e ∙ none)) ∙ live)
+
+-- only views that no object has gave way to others
+pub lie_stay : (old new : PoolValue) (xs ys : List (Option ObjectValue)) (but : Option ℕ) → IsStore xs old → ys ≡ xs → Trades old new [] [] → LieStillOver but old new xs ys
+lie_stay old new xs ys but store same trades q live there apart =
+    ap (λ (l : List (Option ObjectValue)). blocks_over new l q) same ∙ blocks_stay_all old new xs store trades q
+
 -- an object is added in a slot that was free
 module _ (old new : PoolValue) (xs mid ys : List (Option ObjectValue)) (key : ℕ) (o : ObjectValue) (store : IsStore xs old) (same : mid ≡ xs) (vacant : slot mid key ≡ None) (changed : slot ys key ≡ Some o) (others : (q : ℕ) → q ≢ key → slot ys q ≡ slot mid q) (trades : Trades old new [] o.manager.views) where
   free_slot : slot xs key ≡ None
@@ -39,6 +52,13 @@ module _ (old new : PoolValue) (xs mid ys : List (Option ObjectValue)) (key : �
 
   pub tables_added : (t : NumberedTable) → table_over new o ≡ t → tables_over new ys ≡ with_object (tables_over old xs) key (Some t)
   tables_added t is = tables_put old new xs ys key (Some o) store puts trades_there ∙ ap (λ (u : NumberedTable). with_object (tables_over old xs) key (Some u)) is
+
+  pub lie_added : LieStillOver None old new xs ys
+  lie_added q live there apart = blocks_put old new xs ys key (Some o) store puts trades_there q (other_than (tables_over old xs) q key live added_free)
+
+-- an item that is as it was
+pub left_as_it_was : {X : Type 0} (xs : List (Option X)) (k : ℕ) (was now : X) → slot xs k ≡ Some was → now ≡ was → slice_set xs k (Some now) ≡ xs
+left_as_it_was xs k was now is so = ap (slice_set xs k) (ap Some so ∙ sym is) ∙ set-get_or xs k None
 
 -- an object is changed in its slot
 module _ (old new : PoolValue) (xs : List (Option ObjectValue)) (key : ℕ) (was now : ObjectValue) (store : IsStore xs old) (is : slot xs key ≡ Some was) (trades : Trades old new was.manager.views now.manager.views) where
@@ -68,6 +88,12 @@ module _ (old new : PoolValue) (xs : List (Option ObjectValue)) (key : ℕ) (was
         | inr ne ↦ grind (arith, nat_tests)
       ]
 
+  pub lie_changed : {A E : Type 0} (r : Result A E) → OnErr r ((now ≡ was) × Stays old new) → LieStillOver (changing key r) old new xs (slice_set xs key (Some now))
+  lie_changed (Ok done) err q live there apart = blocks_put old new xs (slice_set xs key (Some now)) key (Some now) store puts_here trades_here q (λ e. apart (ap Some (sym e)))
+  lie_changed (Err fault) err q live there apart =
+      ap (λ (l : List (Option ObjectValue)). blocks_over new l q) (left_as_it_was xs key was now is err.0)
+      ∙ ap (λ (views : FinMap nat_cmp ViewValue). blocks_over (record old { views = views }) xs q) err.1.views
+
 -- an object ended
 module _ (old new : PoolValue) (xs ys : List (Option ObjectValue)) (key : ℕ) (was : ObjectValue) (store : IsStore xs old) (is : slot xs key ≡ Some was) (removed : ys ≡ slice_set xs key None) (trades : Trades old new was.manager.views []) where
   trades_away : Trades old new (views_of (slot xs key)) []
@@ -82,9 +108,9 @@ module _ (old new : PoolValue) (xs ys : List (Option ObjectValue)) (key : ℕ) (
   pub tables_ended : tables_over new ys ≡ with_object (tables_over old xs) key None
   tables_ended = tables_put old new xs ys key None store puts_away trades_away
 
--- an item that is as it was
-pub left_as_it_was : {X : Type 0} (xs : List (Option X)) (k : ℕ) (was now : X) → slot xs k ≡ Some was → now ≡ was → slice_set xs k (Some now) ≡ xs
-left_as_it_was xs k was now is so = ap (slice_set xs k) (ap Some so ∙ sym is) ∙ set-get_or xs k None
+  pub lie_ended : LieStillOver None old new xs ys
+  lie_ended q live there apart =
+      blocks_put old new xs ys key None store puts_away trades_away q (other_than (tables_over new ys) q key there (ap (option_map (table_over new)) puts_away.changed))
 
 -- an object that was taken out came back
 module _ (pool : PoolValue) (xs ys : List (Option ObjectValue)) (key : ℕ) (b : ObjectValue) (store : IsStore xs pool) (is : slot xs key ≡ Some b) (changed : slot ys key ≡ Some b) (others : (q : ℕ) → q ≢ key → slot ys q ≡ slot xs q) where
@@ -102,6 +128,12 @@ module _ (pool : PoolValue) (xs ys : List (Option ObjectValue)) (key : ℕ) (b :
         | inl e ↦ ap (option_map (table_over pool)) (ap (slot ys) e ∙ changed ∙ sym is ∙ ap (slot xs) (sym e))
         | inr ne ↦ ap (option_map (table_over pool)) (others q ne)
       ]
+
+  pub slot_again : (q : ℕ) → slot ys q ≡ slot xs q
+  slot_again q = elim (cases_eq q key) [
+    | inl e ↦ ap (slot ys) e ∙ changed ∙ sym is ∙ ap (slot xs) (sym e)
+    | inr ne ↦ others q ne
+  ]
 
 times-append : (view : ℕ) (xs ys : List ℕ) → times view (xs ++ ys) ≡ times view xs + times view ys
 times-append view xs ys = sum_by-append (λ (x : ℕ). cond (x == view) 1 0) xs ys
@@ -143,6 +175,14 @@ module _ (old new : PoolValue) (xs ys : List (Option ObjectValue)) (on from : �
     pub tables_joined : tables_over new (slice_set ys on (Some o)) ≡ with_object (with_object (tables_over old xs) from None) on (Some (table_over new o))
     tables_joined = tables_both old new xs ys (slice_set ys on (Some o)) from on o own different store from_gone puts_on few_there trades_both kept here
 
+    gone_still : slot (slice_set ys on (Some o)) from ≡ None
+    gone_still = puts_on.others from (λ e. different (sym e)) ∙ from_gone.changed
+
+    pub lie_joined : LieStillOver (Some on) old new xs (slice_set ys on (Some o))
+    lie_joined q live there apart =
+        blocks_both old new xs ys (slice_set ys on (Some o)) from on o own different store from_gone puts_on few_there trades_both kept here q
+        (other_than (tables_over new (slice_set ys on (Some o))) q from there (ap (option_map (table_over new)) gone_still)) (λ e. apart (ap Some (sym e)))
+
     -- the column of the one went into the other
     pub tables_moved : (change : NumberedTable → NumberedTable → NumberedTable) → table_over new o ≡ change (table_over old a) (table_over old b)
         → tables_over new (slice_set ys on (Some o)) ≡ with_object (with_object (tables_over old xs) from None) on (Some (change (table_or (tables_over old xs on)) (table_or (tables_over old xs from))))
@@ -166,6 +206,9 @@ module _ (old new : PoolValue) (xs ys : List (Option ObjectValue)) (on from : �
         → tables_over new (slice_set ys on (Some o)) ≡ with_object (with_object (tables_over old xs) from None) on (Some (change (table_or (tables_over old xs on)) (table_or (tables_over old xs from))))
     tables_taken here change so = tables_moved o (a.manager.views ++ b.manager.views) few_in_both taken trades.kept here change so
 
+    pub lie_taken : IsKeptOn new o → LieStillOver (Some on) old new xs (slice_set ys on (Some o))
+    lie_taken here = lie_joined o (a.manager.views ++ b.manager.views) few_in_both taken trades.kept here
+
   -- or it refused, and the other came back
   module _ (u b' : ObjectValue) (zs : List (Option ObjectValue)) (key : ℕ) (same : u ≡ a) (here : key ≡ from) (back : b' ≡ b) (put : slot zs key ≡ Some b') (others : (q : ℕ) → q ≢ key → slot zs q ≡ slot (slice_set ys on (Some u)) q) where
     back_there : slot zs from ≡ Some b
@@ -183,6 +226,11 @@ module _ (old new : PoolValue) (xs ys : List (Option ObjectValue)) (on from : �
     pub tables_back : tables_over old zs ≡ tables_over old xs
     tables_back = tables_again old xs zs from b store at_from back_there others_back
 
+    pub lie_back : new ≡ old → LieStillOver None old new xs zs
+    lie_back pools q live there apart =
+        ap (λ (p : PoolValue). blocks_over p zs q) pools
+        ∙ ap (λ (w : Option ObjectValue). map (block_at old) (views_of w)) (slot_again old xs zs from b store at_from back_there others_back q)
+
   -- the other ended, and the one took its place
   module _ (trades : Trades old new a.manager.views []) where
     b_apart : (view : ℕ) → times view b.manager.views + times view a.manager.views ≤ live_count old view
@@ -199,6 +247,9 @@ module _ (old new : PoolValue) (xs ys : List (Option ObjectValue)) (on from : �
 
     pub store_replaced : IsStore (slice_set ys on (Some b)) new
     store_replaced = store_joined b a.manager.views few_in_a b_trades trades.kept b_here
+
+    pub lie_replaced : LieStillOver (Some on) old new xs (slice_set ys on (Some b))
+    lie_replaced = lie_joined b a.manager.views few_in_a b_trades trades.kept b_here
 
     pub tables_replaced : tables_over new (slice_set ys on (Some b)) ≡ with_object (with_object (tables_over old xs) on (tables_over old xs from)) from None
     tables_replaced = tables_joined b a.manager.views few_in_a b_trades trades.kept b_here ∙ (λ j q. at q j)
@@ -236,3 +287,17 @@ relabelled pool xs key was now axis store is so rows =
     subst (λ (o : ObjectValue). IsStore (slice_set xs key (Some o)) pool) (sym so)
     (store_changed pool pool xs key was (record was { axis = axis }) store is (record { views = λ view. refl; kept = λ view none live. refl })
     (record { stands = kept.stands; whole = record { headed = kept.whole.headed; filled = fits; headings = kept.whole.headings } }))
+
+pub lie_relabelled : (pool : PoolValue) (xs : List (Option ObjectValue)) (key : ℕ) (was now : ObjectValue) (axis : AxisValue) (but : Option ℕ) → slot xs key ≡ Some was → now ≡ record was { axis = axis } → LieStillOver but pool pool xs (slice_set xs key (Some now))
+lie_relabelled pool xs key was now axis but is so q live there apart = ap (map (block_at pool)) same
+  where
+    puts : Puts xs (slice_set xs key (Some now)) key (Some now)
+    puts = puts_set xs key (Some now) (subst IsSome (sym is) refl)
+
+    same : views_of (slot (slice_set xs key (Some now)) q) ≡ views_of (slot xs q)
+    same = elim (cases_eq q key) [
+      | inl e ↦
+          ap (λ (k : ℕ). views_of (slot (slice_set xs key (Some now)) k)) e ∙ ap views_of puts.changed
+          ∙ ap (λ (o : ObjectValue). o.manager.views) so ∙ sym (ap views_of is) ∙ ap (λ (k : ℕ). views_of (slot xs k)) (sym e)
+      | inr ne ↦ ap views_of (puts.others q ne)
+    ]

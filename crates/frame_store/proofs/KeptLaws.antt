@@ -1,5 +1,5 @@
 -- The parts of an object that changes, and what columns of another one share.
-use Rattle.{meaning_tables.{proofs.cells.Common.{◌≡◌, ◌∙◌, refl, sym, ap, subst, arith, ℕ, ◌*◌, ◌<◌, List, [], ◌∷◌, length, map, sum, All, All-map, All-tail, length-map, sum_by-cons, map-map, slice_index_or, remove, Option, Result, Ok, Err, IfOk, OnOk, on_ok_weaker, Label, Rows, Shape, Series, Cell, Na, AreRowsBelow}, specs.{Table.{NumberedTable, ColumnOf, column_at, no_column}, Change.{put_at, with_values, with_values_from, strided_column, cut_columns}, Valid.{AreHeadings, IsWhole}}}, std.{proofs.lemmas.Result.{on_err_weaker}, specs.{Prelude.{OnErr}, FinMap.{FinMap, get}, Ordering.{nat_cmp}}}, std.proofs.Common.{ap₂}, multi_index.specs.Axes.{AxisValue}, column_core.specs.Blocks.{CellBlock}, block_pool.specs.Pools.{PoolValue, ViewValue, cells_of, block_at, live_count, total_of}, block_manager.{proofs.OtherLaws.{other_columns, other_stands}, specs.Managed.{ManagerValue, StandsOn, AreSole, Exchanges, Keeps, Stays, StayOnBlocks, columns_on, placed_column, times}}, frame_store.{specs.{Parts.{HeadingList, table_with, block_column, table_of, AreBelow, AreRowsOf, AreColumnsOf, AreRowsIn, HaveRows, IsSingle}, Stores.{ObjectValue, IsKeptOn, Trades, manager_views, table_over, table_cells}}, proofs.{SettingLaws.{count_from, kinds_from, lengths_from}, ValueLaws.{AreAlike, rows_kept}, StoreLaws.{counts_once, same_items}, ColumnLaws.{put_is_whole, remove_is_whole}}}}
+use Rattle.{meaning_tables.{proofs.cells.Common.{◌≡◌, ◌∙◌, refl, sym, ap, subst, arith, ℕ, ◌*◌, ◌<◌, List, [], ◌∷◌, length, map, sum, All, All-map, All-tail, length-map, sum_by-cons, map-map, slice_index_or, remove, Option, Result, Ok, Err, IfOk, OnOk, on_ok_weaker, Label, Rows, Shape, Series, Cell, Na, AreRowsBelow}, specs.{Table.{NumberedTable, ColumnOf, column_at, no_column, cell_count}, Change.{put_at, with_values, with_values_from, strided_column, cut_columns}, Valid.{AreHeadings, IsWhole}}}, std.{proofs.lemmas.Result.{on_err_weaker}, specs.{Prelude.{OnErr}, FinMap.{FinMap, get}, Ordering.{nat_cmp}}}, std.proofs.Common.{ap₂}, multi_index.specs.Axes.{AxisValue}, column_core.specs.Blocks.{CellBlock}, block_pool.specs.Pools.{PoolValue, ViewValue, cells_of, block_at, live_count, total_of}, block_manager.{proofs.OtherLaws.{other_columns, other_stands}, specs.Managed.{ManagerValue, StandsOn, AreSole, Exchanges, Keeps, Stays, StayOnBlocks, columns_on, placed_column, times}}, frame_store.{specs.{Parts.{HeadingList, table_with, block_column, table_of, AreBelow, AreRowsOf, AreColumnsOf, AreRowsIn, HaveRows, IsSingle}, Stores.{ObjectValue, IsKeptOn, Trades, manager_views, table_over}}, proofs.{SettingLaws.{count_from, kinds_from, lengths_from}, ValueLaws.{AreAlike, rows_kept}, StoreLaws.{counts_once, same_items}, ColumnLaws.{put_is_whole, remove_is_whole}}}}
 
 -- a table with other values is whole
 pub values_whole : (t : NumberedTable) (rows places : List ℕ) (values : List Cell) → IsWhole t → IsWhole (with_values t rows places values)
@@ -42,7 +42,7 @@ cells_of_blocks (b ∷ bs) n single rows =
     let rest = cells_of_blocks bs n (All-tail IsSingle b bs single) (All-tail (λ c. length c.cells ≡ n) (block_column b) (map block_column bs) rows) in
     omega (arith, sum_by-cons (λ (y : ℕ). y) (cells_of b) (map cells_of bs), one, rest)
 
-pub cells_of_table : (shape : Shape) (axis : AxisValue) (headings : HeadingList) (blocks : List CellBlock) → All IsSingle blocks → IsWhole (table_of shape axis headings blocks) → sum (map cells_of blocks) ≡ table_cells (table_of shape axis headings blocks)
+pub cells_of_table : (shape : Shape) (axis : AxisValue) (headings : HeadingList) (blocks : List CellBlock) → All IsSingle blocks → IsWhole (table_of shape axis headings blocks) → sum (map cells_of blocks) ≡ cell_count (table_of shape axis headings blocks)
 cells_of_table shape axis headings blocks single whole =
     cells_of_blocks blocks (length axis.tuples) single whole.filled ∙ ap (λ (n : ℕ). length axis.tuples * n) (sym (length-map blocks block_column))
 

@@ -1,7 +1,7 @@
 -- The object that is made of a table.
 use Rattle.{
-  meaning_tables.{proofs.cells.Common.{◌≡◌, ◌∙◌, refl, ap, subst, List, arith, Some, None, Result, Ok, Err, nat_tests, IsLonger, Text, FaultValue}, specs.{Settled.{IsSettled}, Table.{NumberedTable}, Value.{Entry}}},
-  frame_store.{specs.{declared.{arguments.Value.{Value, TheVariants.{Object}}, object.ObjId.{ObjId}, fault.OpFault.{OpFault, TheVariants.{NoMemory}}}, Objects.{Tables, with_object}, Shown.{shown, Makes, FormAnswers}, Derivations.{table_by}}, proofs.Settling.{settled_later, seen_later, shown_with, settled_with}},
+  meaning_tables.{proofs.cells.Common.{◌≡◌, ◌∙◌, refl, ap, subst, List, arith, ℕ, Some, None, Result, Ok, Err, nat_tests, IsLonger, Text, FaultValue}, specs.{Settled.{IsSettled}, Table.{NumberedTable, cell_count}, Cost.{answer_charge, cost_of}, Value.{Entry}}},
+  frame_store.{specs.{declared.{arguments.Value.{Value, TheVariants.{Object}}, object.ObjId.{ObjId}, fault.OpFault.{OpFault, TheVariants.{NoMemory}}}, Objects.{Tables, with_object}, Shown.{shown, Makes, FormAnswers}, Derivations.{table_by}}, proofs.{Settling.{settled_later, seen_later, shown_with, settled_with}, FormLaws.{answer_cost}}},
 }
 
 -- objects that stay are seen as before, and stay settled
@@ -34,3 +34,13 @@ carried table earlier texts tables tables' made plan id t meant was is fresh put
       longer,
       settled_with texts tables tables' id.0 t (settled_later shown earlier texts tables longer settled) there.1 put,
     )
+
+-- what the new object costs: the cells of its table, or as much as each answer
+pub made_cost : (texts : List Text) (made : Result NumberedTable OpFault) (t : NumberedTable) (meant : Result Entry FaultValue) → made ≡ Ok t → Makes texts made meant → cost_of answer_charge meant ≡ cell_count t
+made_cost texts made t meant was makes = answer_cost texts t meant (subst (λ r. Makes texts r meant) was makes).0
+
+pub carried_cost : {X : Type 0} (table : X → NumberedTable) (texts : List Text) (made : Result X OpFault) (plan : X) (meant : Result Entry FaultValue) (cells : ℕ) → made ≡ Ok plan → Makes texts (table_by table made) meant
+    → cost_of (λ (answer : Entry). cells) meant ≡ cells
+carried_cost table texts made plan meant cells was makes =
+    let there : Makes texts (Ok (table plan)) meant = subst (λ r. Makes texts r meant) (ap (table_by table) was) makes in
+    ap (cost_of (λ (answer : Entry). cells)) there.0

@@ -1,10 +1,11 @@
 -- What forms make of all rows of a table.
-use Rattle.std.specs.Prelude.{◌≡◌, List, map, length, Result, Ok, Err, IfOk, All}
+use Rattle.std.specs.Prelude.{◌≡◌, ◌≤◌, ℕ, List, map, length, sum, Result, Ok, Err, IfOk, All}
 use Rattle.meaning_tables.specs.cells.Text.{Text}
 use Rattle.meaning_tables.specs.cells.Fault.{FaultValue}
 use Rattle.meaning_tables.specs.Table.{NumberedTable, column_at}
 use Rattle.meaning_tables.specs.Valid.{AreHeadings, IsWhole}
 use Rattle.meaning_tables.specs.Value.{Entry}
+use Rattle.block_pool.specs.Pools.{cells_of}
 use Rattle.frame_store.specs.Parts.{table_with, table_behind, AreColumnsOf, IsSingle}
 use Rattle.frame_store.specs.Shown.{Makes}
 use Rattle.frame_store.specs.declared.derivations.Derivation.{Derivation}
@@ -28,6 +29,10 @@ pub record CanDerive (t : NumberedTable) (d : Derivation) : Type 0 where
 pub record CanExtend (t : NumberedTable) (e : Extension) : Type 0 where
   pub single : All IsSingle e.first
   pub whole : IsWhole (extended_table t e)
+
+-- its new columns have at most so many cells
+abbrev pub IsWithin : ℕ → Extension → Type 0
+IsWithin cells e = sum (map cells_of e.first) ≤ cells
 
 -- the table that something stands for, or the refusal
 abbrev pub table_by : {X : Type 0} → (X → NumberedTable) → Result X OpFault → Result NumberedTable OpFault

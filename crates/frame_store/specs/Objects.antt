@@ -1,7 +1,7 @@
 -- Objects and their tables.
-use Rattle.std.specs.Prelude.{◌≡◌, ℕ, nat_eq, List, Option, Some, None, IsSome, if◌then◌else◌}
+use Rattle.std.specs.Prelude.{◌≡◌, ◌≢◌, ℕ, nat_eq, List, Option, Some, None, IsSome, Result, Ok, Err, if◌then◌else◌}
 use Rattle.cell_core.specs.declared.cell.Label.{Label}
-use Rattle.block_pool.specs.Pools.{held_of as pool_held}
+use Rattle.block_pool.specs.Pools.{total_of, held_of as pool_held}
 use Rattle.block_pool.specs.Placed.{slot}
 use Rattle.meaning_tables.specs.Table.{NumberedTable, no_table, column_at}
 use Rattle.meaning_tables.specs.Change.{with_column}
@@ -64,13 +64,39 @@ with_moved tables on column heading series =
 abbrev pub with_replaced : Tables → ℕ → ℕ → Tables
 with_replaced tables on by = with_object (with_object tables on (tables by)) by None
 
+-- the blocks on which the columns of a live object lie
+abbrev pub blocks_on : Store → ℕ → List ℕ
+blocks_on s = blocks_over s.pool s.objects.slots
+
 -- How many cells the live objects hold together, up to 2^64 - 1. A block on which several of them have columns counts once.
 abbrev pub held_of : Store → ℕ
 held_of s = pool_held s.pool
 
+-- What live objects hold of the pool: how many cells its blocks have together, and the blocks on which the columns of each
+-- object lie.
+pub record Holding : Type 0 where
+  pub cells : ℕ
+  pub blocks : ℕ → List ℕ
+
+abbrev pub holding_of : Store → Holding
+holding_of s = record { cells = total_of s.pool; blocks = blocks_on s }
+
 -- at most so many cells more are held
 abbrev pub Raises : ℕ → Store → Store → Type 0
 Raises n old new = RaisesBy n old.pool new.pool
+
+-- the object that a call changes, where it is done
+abbrev pub changing : {A E : Type 0} → ℕ → Result A E → Option ℕ
+changing id (Ok x) = Some id
+changing id (Err e) = None
+
+-- Each object that was live and still is, but this one, lies on the blocks on which it lay: by the tables and the blocks
+-- before and after, and by the stores.
+abbrev pub LieStill : Option ℕ → Tables → Tables → (ℕ → List ℕ) → (ℕ → List ℕ) → Type 0
+LieStill but old new before after = (id : ℕ) → IsSome (old id) → IsSome (new id) → but ≢ Some id → after id ≡ before id
+
+abbrev pub KeepBlocks : Option ℕ → Store → Store → Type 0
+KeepBlocks but old new = LieStill but (tables old) (tables new) (blocks_on old) (blocks_on new)
 
 -- the manager of a live object
 abbrev pub manager_or : Option ObjectValue → ManagerValue
@@ -80,7 +106,3 @@ manager_or (Some o) = o.manager
 -- the columns at these places are alone on their blocks
 abbrev pub AreSoleIn : Store → ObjId → List ℕ → Type 0
 AreSoleIn s id columns = AreSole s.pool (manager_or (slot s.objects.slots id.0)) columns
-
--- the blocks on which the columns of a live object lie
-abbrev pub blocks_on : Store → ℕ → List ℕ
-blocks_on s id = blocks_over s.pool s.objects.slots id

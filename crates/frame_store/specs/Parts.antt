@@ -10,7 +10,8 @@ use Rattle.multi_index.specs.Axes.{AxisValue}
 use Rattle.meaning_tables.specs.Change.{put_at, cut_columns, without_column}
 use Rattle.meaning_tables.specs.Table.{ColumnOf, NumberedTable}
 use Rattle.meaning_tables.specs.Valid.{AreHeadings}
--- words of the manager, passed on to the crates above
+-- words of the pool and of the manager, passed on to the crates above
+pub use Rattle.block_pool.specs.Pools.{cells_of}
 pub use Rattle.block_manager.specs.Parts.{AreBelow, AreHeld, AreRowsIn, HaveRows, IsHeld, IsSingle, block_column, single_block, table_column}
 
 -- the headings of the columns, and the name that the columns have together

@@ -1,5 +1,5 @@
 -- Live objects, and the columns that they have on the views of one pool.
-use Rattle.std.specs.Prelude.{◌≡◌, ℕ, ◌*◌, List, [], length, map, sum_by, Option, Some, None, Result, Ok, Err}
+use Rattle.std.specs.Prelude.{◌≡◌, ℕ, List, [], map, sum_by, Option, Some, None, Result, Ok, Err}
 use Rattle.std.specs.Option.{option_map}
 use Rattle.cell_core.specs.declared.grid.Shape.{Shape}
 use Rattle.multi_index.specs.Axes.{AxisValue}
@@ -64,7 +64,3 @@ object_views (Err e) = []
 abbrev pub charged : {A E : Type 0} → ℕ → Result A E → ℕ
 charged n (Ok x) = n
 charged n (Err e) = 0
-
--- how many cells a table has
-abbrev pub table_cells : NumberedTable → ℕ
-table_cells t = length t.labels * length t.columns

@@ -1,5 +1,5 @@
 -- Objects and texts together, and what forms know of what they are given and say of what they give.
-use Rattle.std.specs.Prelude.{◌≡◌, ℕ, List, IsSome, ⊤, Result}
+use Rattle.std.specs.Prelude.{◌≡◌, ℕ, ◌+◌, ◌≤◌, List, Option, None, IsSome, ⊤, Result}
 use Rattle.cell_core.specs.declared.cell.Label.{Label}
 use Rattle.meaning_tables.specs.cells.Text.{Text}
 use Rattle.meaning_tables.specs.cells.Cell.{IsLonger}
@@ -7,8 +7,10 @@ use Rattle.meaning_tables.specs.cells.Fault.{FaultValue}
 use Rattle.meaning_tables.specs.Settled.{IsSettled}
 use Rattle.meaning_tables.specs.Table.{NumberedTable, Table, table_value}
 use Rattle.meaning_tables.specs.Valid.{IsWhole}
+use Rattle.meaning_tables.specs.Cost.{answer_charge, cost_of}
 use Rattle.meaning_tables.specs.Value.{Entry, Given, NamedGiven, GivenSub}
-use Rattle.frame_store.specs.Objects.{Tables, tables}
+use Rattle.frame_store.specs.Objects.{Tables, Holding, tables, holding_of, changing, LieStill}
+use Rattle.frame_store.specs.Stores.{charged}
 use Rattle.frame_store.specs.Arguments.{entry_of, item_of, items_of, argument_of, entries_of, arguments_of, subscript_of, IsLive, IsLiveItem, AreLiveItems, IsLiveArgument, AreLivePairs, AreLive, IsLiveSubscript}
 use Rattle.frame_store.specs.Shown.{Shown, shown, FormAnswers, Changes}
 use Rattle.frame_store.specs.declared.arguments.Argument.{Argument}
@@ -16,16 +18,23 @@ use Rattle.frame_store.specs.declared.arguments.Item.{Item}
 use Rattle.frame_store.specs.declared.arguments.Named.{Named}
 use Rattle.frame_store.specs.declared.arguments.Subscript.{Subscript}
 use Rattle.frame_store.specs.declared.arguments.Value.{Value}
+use Rattle.frame_store.specs.declared.arguments.Value.TheVariants.{Object, Scalar}
 use Rattle.frame_store.specs.declared.fault.OpFault.{OpFault}
 use Rattle.frame_store.specs.declared.store.Store.{Store}
 
--- the table of each live object, and the texts by number
+-- the table of each live object, the texts by number, and what the objects hold of the pool
 pub record World : Type 0 where
   pub tables : Tables
   pub texts : List Text
+  pub holding : Holding
 
 abbrev pub world : Store → List Text → World
-world store texts = record { tables = tables store; texts = texts }
+world store texts = record { tables = tables store; texts = texts; holding = holding_of store }
+
+-- the object of a value that a form changes, where it is done
+abbrev pub changed_value : {A E : Type 0} → Value → Result A E → Option ℕ
+changed_value (Object id) r = changing id.0 r
+changed_value (Scalar c) r = None
 
 -- the tables with texts
 abbrev pub objects_of : World → Shown
@@ -84,14 +93,27 @@ pub record IsKnownTable (texts : List Text) (t : NumberedTable) : Type 0 where
   pub whole : IsWhole t
   pub given : IsSettled table_value texts t
 
--- what a form answers in a world, which may get more texts and stays settled
-abbrev pub Forms : Result Value OpFault → Result Entry FaultValue → World → World → Type 0
-Forms r meant old new =
+-- At most so many cells more are held, and each object that was there, but this one, lies on the blocks on which it lay.
+pub record Holds (more : ℕ) (but : Option ℕ) (old new : World) : Type 0 where
+  pub cells : new.holding.cells ≤ old.holding.cells + more
+  pub blocks : LieStill but old.tables new.tables old.holding.blocks new.holding.blocks
+
+-- What a form answers in a world, which may get more texts and stays settled. It holds at most what its answer costs more,
+-- and nothing more where it is refused; each object that was there lies on its blocks.
+abbrev pub FormsFor : (Entry → ℕ) → Result Value OpFault → Result Entry FaultValue → World → World → Type 0
+FormsFor charge r meant old new =
     FormAnswers new.texts r meant (objects_of old) (objects_of new)
     × IsLonger old.texts new.texts × IsSettledWorld new
+    × Holds (charged (cost_of charge meant) r) None old new
 
--- what a form changes in a world, which may get more texts and stays settled
-abbrev pub Sets : Result ⊤ OpFault → Value → Result Table FaultValue → World → World → Type 0
-Sets r on meant old new =
+-- a form whose answer costs its cells
+abbrev pub Forms : Result Value OpFault → Result Entry FaultValue → World → World → Type 0
+Forms r meant old new = FormsFor answer_charge r meant old new
+
+-- What a form changes in a world, which may get more texts and stays settled. It holds at most what the changed table costs
+-- more, and nothing more where it is refused; each other object that was there lies on its blocks, and after a refusal each.
+abbrev pub SetsFor : (Table → ℕ) → Result ⊤ OpFault → Value → Result Table FaultValue → World → World → Type 0
+SetsFor charge r on meant old new =
     Changes new.texts r on meant (objects_of old) (objects_of new)
     × IsLonger old.texts new.texts × IsSettledWorld new
+    × Holds (charged (cost_of charge meant) r) (changed_value on r) old new

@@ -1,13 +1,14 @@
 // What forms make of all rows of an object, as plans that the store carries out.
-ghost use Rattle.std.specs.Prelude.{List, Result, IfOk};
+ghost use Rattle.std.specs.Prelude.{ℕ, List, Result, IfOk, OnErr};
 ghost use Rattle.cell_core.specs.Texts.{IsLonger};
 ghost use Rattle.meaning_tables.specs.cells.Text.{Text};
 ghost use Rattle.meaning_tables.specs.cells.Fault.{FaultValue};
+ghost use Rattle.meaning_tables.specs.Cost.{free};
 ghost use Rattle.meaning_tables.specs.Value.{Entry};
-ghost use Rattle.frame_store.specs.Derivations.{derived_table, extended_table, table_by, CanDerive, CanExtend};
-ghost use Rattle.frame_store.specs.Objects.{table_on, IsLiveIn};
+ghost use Rattle.frame_store.specs.Derivations.{derived_table, extended_table, table_by, CanDerive, CanExtend, IsWithin};
+ghost use Rattle.frame_store.specs.Objects.{table_on, IsLiveIn, Stays};
 ghost use Rattle.frame_store.specs.Shown.{Makes};
-ghost use Rattle.frame_store.specs.World.{world, IsSettledWorld, Forms};
+ghost use Rattle.frame_store.specs.World.{world, IsSettledWorld, FormsFor};
 
 use crate::arguments::Value;
 use crate::blocks::Blocks;
@@ -44,7 +45,7 @@ pub struct Extension {
     pub first: Blocks,
 }
 
-/// A new object with the columns of another one that a form names, or the form's refusal. The
+/// A new object with the columns of another one that a form names, whose cells it shares, or the form's refusal. The
 /// objects are seen through the texts that the dictionary had before the form, which may have added
 /// some.
 ///
@@ -57,10 +58,11 @@ pub fn derived(
 ) -> Result<Value, OpFault>
     requires live { IsLiveIn store.old on }
     requires fits { IfOk made (CanDerive (table_on store.old on)) }
-    ensures { (earlier : List Text) (meant : Result Entry FaultValue)
+    ensures answers { (earlier : List Text) (meant : Result Entry FaultValue)
         → IsLonger earlier dict.now → IsSettledWorld (world store.old earlier)
         → Makes dict.now (table_by (derived_table (table_on store.old on)) made) meant
-        → Forms result meant (world store.old earlier) (world store.new dict.now) }
+        → FormsFor free result meant (world store.old earlier) (world store.new dict.now) }
+    ensures err { OnErr result (Stays store.old store.new) }
 {
     let Derivation {
         shape,
@@ -77,8 +79,8 @@ pub fn derived(
     Ok(Value::Object(id))
 }
 
-/// A new object with the columns that a form made before those of another one, or the form's refusal.
-/// Otherwise as [`derived`].
+/// A new object with the columns that a form made before those of another one, whose cells it shares, or the form's
+/// refusal. Otherwise as [`derived`].
 pub fn derived_behind(
     store: &mut Store,
     dict: &TextDict,
@@ -87,10 +89,12 @@ pub fn derived_behind(
 ) -> Result<Value, OpFault>
     requires live { IsLiveIn store.old on }
     requires fits { IfOk made (CanExtend (table_on store.old on)) }
-    ensures { (earlier : List Text) (meant : Result Entry FaultValue)
+    ensures answers { (earlier : List Text) (meant : Result Entry FaultValue)
         → IsLonger earlier dict.now → IsSettledWorld (world store.old earlier)
         → Makes dict.now (table_by (extended_table (table_on store.old on)) made) meant
-        → Forms result meant (world store.old earlier) (world store.new dict.now) }
+        → (cells : ℕ) → IfOk made (IsWithin cells)
+        → FormsFor (λ _. cells) result meant (world store.old earlier) (world store.new dict.now) }
+    ensures err { OnErr result (Stays store.old store.new) }
 {
     let Extension {
         shape,

@@ -1,8 +1,8 @@
 // The live objects and their tables.
-ghost use Rattle.std.specs.Prelude.{◌≡◌, ◌≢◌, ◌↔◌, ◌*◌, ◌<◌, ◌≤◌, ℕ, length, sum, map, All, Some, None, IsTrue, IfOk, OnOk, OnErr};
+ghost use Rattle.std.specs.Prelude.{◌≡◌, ◌≢◌, ◌↔◌, ◌*◌, ◌<◌, ◌≤◌, ℕ, length, sum, map, All, Some, None, IsTrue, IfOk, IfSome, OnOk, OnErr};
 ghost use Rattle.cell_core.specs.declared.grid.Shape.TheVariants.{Series};
 ghost use Rattle.cell_core.specs.Grids.{AreRowsBelow};
-ghost use Rattle.meaning_tables.specs.Table.{column_at};
+ghost use Rattle.meaning_tables.specs.Table.{cell_count, column_at};
 ghost use Rattle.meaning_tables.specs.Change.{with_column, without_column, with_labels, with_values};
 ghost use Rattle.meaning_tables.specs.Valid.{AreHeadings, IsWhole};
 ghost use Rattle.multi_index.specs.Axes.{HaveLevels};
@@ -10,7 +10,7 @@ ghost use Rattle.block_pool.specs.Pools.{cells_of};
 ghost use Rattle.block_manager.specs.Managed.{cells_named};
 ghost use Rattle.frame_store.specs.Setting.{AreSet};
 ghost use Rattle.frame_store.specs.Parts.{block_column, table_column, table_of, cut_table, labelled, axis_of, AreRowsOf, AreColumnsOf, FitsRows, IsSingle, HaveRows, AreHeld, TakesHeading, SparesHeading, table_behind};
-ghost use Rattle.frame_store.specs.Stores.{IsStore, charged, table_cells};
+ghost use Rattle.frame_store.specs.Stores.{IsStore, charged};
 
 use crate::blocks::Blocks;
 use crate::headings::Headings;
@@ -42,11 +42,12 @@ pub struct Store {
 }
 
 impl Store {
-    ghost use Rattle.frame_store.specs.Objects.{tables, with_object, with_moved, with_replaced, table_on, held_of, AreSoleIn, Raises, blocks_on, IsLiveIn, IsFree, Stays, Becomes, Alters, Turns};
+    ghost use Rattle.frame_store.specs.Objects.{tables, with_object, with_moved, with_replaced, table_on, held_of, holding_of, changing, AreSoleIn, KeepBlocks, Raises, blocks_on, IsLiveIn, IsFree, Stays, Becomes, Alters, Turns};
 
     /// A store without objects. Takes no memory.
     pub fn new(alloc: Global) -> Store
-        ensures { tables result ≡ (λ _. None) }
+        ensures tables { tables result ≡ (λ _. None) }
+        ensures holding { (holding_of result).cells ≡ 0 }
     {
         Store {
             alloc,
@@ -72,6 +73,7 @@ impl Store {
             Becomes self.old self.new id (table_of shape axis headings blocks)) }
         ensures err { OnErr result (Stays self.old self.new) }
         ensures held { Raises (charged (sum (map cells_of blocks)) result) self.old self.new }
+        ensures blocks { KeepBlocks None self.old self.new }
     {
         self.insert(Table::new(shape, axis, headings, blocks))
     }
@@ -82,7 +84,8 @@ impl Store {
         ensures fresh { IfOk result (IsFree self.old) }
         ensures ok { IfOk result (λ id. Becomes self.old self.new id table) }
         ensures err { OnErr result (Stays self.old self.new) }
-        ensures held { Raises (charged (table_cells table) result) self.old self.new }
+        ensures held { Raises (charged (cell_count table) result) self.old self.new }
+        ensures blocks { KeepBlocks None self.old self.new }
     {
         self.objects.reserve(1)?;
         let object = table.into_object(self.alloc, &mut self.pool)?;
@@ -112,6 +115,7 @@ impl Store {
             (cut_table shape axis headings (table_on self.old on) rows columns.now)) }
         ensures err { OnErr result (Stays self.old self.new) }
         ensures held { Raises 0 self.old self.new }
+        ensures blocks { KeepBlocks None self.old self.new }
     {
         self.objects.reserve(1)?;
         let manager = self.objects[on.0 as usize].cut(&mut self.pool, rows, columns)?;
@@ -140,6 +144,7 @@ impl Store {
             (table_behind shape axis headings first (table_on self.old on))) }
         ensures err { OnErr result (Stays self.old self.new) }
         ensures held { Raises (charged (sum (map cells_of first)) result) self.old self.new }
+        ensures blocks { KeepBlocks None self.old self.new }
     {
         self.objects.reserve(1)?;
         let manager = self.objects[on.0 as usize].behind(&mut self.pool, first)?;
@@ -170,6 +175,7 @@ impl Store {
             (table_on self.old on).columns (table_on self.new on).columns) }
         ensures held { Raises (charged (cells_named (table_on self.old on).columns columns.now)
             result) self.old self.new }
+        ensures blocks { KeepBlocks (changing on.0 result) self.old self.new }
         ensures sole { OnOk result (AreSoleIn self.old on columns.now →
             blocks_on self.new on.0 ≡ blocks_on self.old on.0) }
     {
@@ -194,6 +200,7 @@ impl Store {
             (λ t. with_column t column heading (block_column block))) }
         ensures err { OnErr result (Stays self.old self.new) }
         ensures held { Raises (charged (cells_of block) result) self.old self.new }
+        ensures blocks { KeepBlocks (changing on.0 result) self.old self.new }
     {
         self.objects[on.0 as usize].put_column(&mut self.pool, column, heading, block)
     }
@@ -219,6 +226,7 @@ impl Store {
             (λ live. with_moved live on.0 column heading series.0)) }
         ensures err { OnErr result (Stays self.old self.new) }
         ensures held { Raises 0 self.old self.new }
+        ensures blocks { KeepBlocks (changing on.0 result) self.old self.new }
     {
         let source = self.objects.remove(series.0 as usize);
         let object = &mut self.objects[on.0 as usize];
@@ -239,6 +247,7 @@ impl Store {
         ensures ok { OnOk result (Alters self.old self.new on (λ t. without_column t column)) }
         ensures err { OnErr result (Stays self.old self.new) }
         ensures held { Raises 0 self.old self.new }
+        ensures blocks { KeepBlocks (changing on.0 result) self.old self.new }
     {
         self.objects[on.0 as usize].remove_column(&mut self.pool, column)
     }
@@ -250,6 +259,7 @@ impl Store {
         requires different { on.0 ≢ by.0 }
         ensures ok { Turns self.old self.new (λ live. with_replaced live on.0 by.0) }
         ensures held { Raises 0 self.old self.new }
+        ensures blocks { KeepBlocks (Some on.0) self.old self.new }
     {
         let object = self.objects.remove(by.0 as usize);
         let ended = mem::replace(&mut self.objects[on.0 as usize], object);
@@ -262,6 +272,7 @@ impl Store {
         requires rows { HaveRows (length axis.tuples) (table_on self.old on).columns }
         ensures ok { Alters self.old self.new on (λ t. with_labels t axis.tuples axis.names) }
         ensures held { Raises 0 self.old self.new }
+        ensures blocks { KeepBlocks None self.old self.new }
     {
         self.objects[on.0 as usize].replace_axis(axis);
     }
@@ -278,6 +289,7 @@ impl Store {
         requires { IsLiveIn self.old on }
         ensures ok { Turns self.old self.new (λ live. with_object live on.0 None) }
         ensures held { Raises 0 self.old self.new }
+        ensures blocks { KeepBlocks None self.old self.new }
     {
         let object = self.objects.remove(on.0 as usize);
         object.release(&mut self.pool);
@@ -312,10 +324,13 @@ impl Store {
     }
 
     /// How many cells the blocks have on which the columns of live objects lie, each block counted once, or
-    /// 2^64 - 1 where there are more: 0 where no object is live. Takes no memory.
+    /// 2^64 - 1 where there are more: 0 where no object is live, and at least the rows of each table with a column. Takes no
+    /// memory.
     pub fn held(&self) -> u64
         ensures count { result ≡ held_of self.now }
         ensures none { ((id : ℕ) → tables self.now id ≡ None) → result ≡ 0 }
+        ensures least { (id : ℕ) → IfSome (tables self.now id) (λ t.
+            0 < length t.columns → length t.labels ≤ (holding_of self.now).cells) }
     {
         self.pool.held()
     }

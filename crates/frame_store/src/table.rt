@@ -5,7 +5,8 @@ ghost use Rattle.meaning_tables.specs.Valid.{IsWhole};
 ghost use Rattle.block_manager.specs.Managed.{RaisesBy};
 ghost use Rattle.frame_store.specs.Setting.{AreSet};
 ghost use Rattle.frame_store.specs.Parts.{block_column, table_of, AreRowsOf, AreColumnsOf, FitsRows, IsSingle, AreHeld, TakesHeading};
-ghost use Rattle.frame_store.specs.Stores.{IsKeptOn, Trades, charged, object_views, table_cells, table_over};
+ghost use Rattle.meaning_tables.specs.Table.{cell_count};
+ghost use Rattle.frame_store.specs.Stores.{IsKeptOn, Trades, charged, object_views, table_over};
 
 use crate::blocks::Blocks;
 use crate::columns::put_at;
@@ -80,7 +81,7 @@ impl Table {
         ensures table { IfOk result (λ object. table_over pool.new object ≡ self) }
         ensures kept { IfOk result (λ object. IsKeptOn pool.new object) }
         ensures trades { Trades pool.old pool.new [] (object_views result) }
-        ensures held { RaisesBy (charged (table_cells self) result) pool.old pool.new }
+        ensures held { RaisesBy (charged (cell_count self) result) pool.old pool.new }
     {
         let manager = behind(&Manager::new(alloc), pool, self.blocks, self.axis.len())?;
         let headings = Headings {

@@ -23,5 +23,10 @@ pub mod SetFaults
 pub mod MethodFaults
 pub mod CallFaults
 pub mod SpentLaws
+pub mod LiteralLaws
+pub mod PartLaws
+pub mod PaidForms
+pub mod PaidCalls
+pub mod PaidLaws
 -- laws of crates below, passed on to the crates above
 pub use Rattle.meaning_script.proofs.cells as cells

@@ -233,8 +233,11 @@ item_reach_is Series t first second s is = search reach_by_is
 item_reach_is Frame t first None s is = grind (arith, column_reach_is, frame_reach_of, mask_pick_is, below_all, columns_reach_is)
 item_reach_is Frame t first (Some second) s is = tt
 
+pub way_reach_is : (way : Way) (t : Table) (first : GivenSub) (second : Option GivenSub) → IsShaped t → IfOk (way_reach way t first second) (IsReach t)
+way_reach_is = grind (arith, item_reach_is, reach_by_is)
+
 -- what is selected from a value
 pub select_result_keeps : (v : Entry) (way : Way) (first : GivenSub) (second : Option GivenSub) → IsValidObject v → IfOk (select_result v way first second) IsValidEntry
 select_result_keeps (cell c) way first second v = tt
 select_result_keeps (table t) way first second v =
-    then_keeps (IsReach t) _ (way_reach way t first second) _ (grind (arith, item_reach_is, reach_by_is)) (λ reach r. picked_keeps t reach (shaped t v) r)
+    then_keeps (IsReach t) _ (way_reach way t first second) _ (way_reach_is way t first second (shaped t v)) (λ reach r. picked_keeps t reach (shaped t v) r)

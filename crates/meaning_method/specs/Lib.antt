@@ -10,6 +10,7 @@ pub mod Merge
 pub mod Concat
 pub mod Reshape
 pub mod Calls
+pub mod Charges
 pub mod Readers
 pub mod Functions
 -- definitions of crates below, passed on to the crates above

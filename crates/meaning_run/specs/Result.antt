@@ -1,16 +1,16 @@
 -- What a run of the words of a command line prints, and how it ends.
-use Rattle.std.specs.Prelude.{◌≡◌, ℕ, List, [], ◌∷◌, map}
+use Rattle.std.specs.Prelude.{◌≡◌, ℕ, Bool, List, [], ◌∷◌, map}
 use Rattle.std.specs.FinMap.{get, empty, insert}
 use Rattle.meaning_script.specs.cells.Text.{Text, Contents}
 use Rattle.meaning_script.specs.Spent.{nothing_spent}
 use Rattle.meaning_script.specs.Reading.{Files}
-use Rattle.meaning_script.specs.Run.{RunStep, RunResult, finished, usage, usage_line, with_line, after_step, fetched, IsScriptResult, IsFileResult}
+use Rattle.meaning_script.specs.Run.{RunStep, RunResult, finished, usage, usage_line, with_line, with_stats, IsPeak, after_step, fetched, IsScriptResult, IsFileResult}
 use Rattle.meaning_words.specs.Demonstration.{orders_name, orders_file, demo_script}
-use Rattle.meaning_run.specs.Asked.{RunWords, Fixed, usage_help, wrong_words, demonstration, Asked, fixed, script, asked}
+use Rattle.meaning_run.specs.Asked.{Fixed, usage_help, wrong_words, demonstration, Asked, fixed, script, asked}
 
 -- the usage line on the output
 abbrev pub help_result : RunResult
-help_result = record { steps = record { output = usage_line; errors = []; spent = nothing_spent } ∷ []; ending = finished }
+help_result = record { steps = record { output = usage_line; errors = []; spent = nothing_spent; rows = 0 } ∷ []; ending = finished }
 
 -- a run whose files are its own, so that it fetches none from outside
 abbrev pub unfetched : RunStep → RunStep
@@ -29,19 +29,36 @@ demo_files orders = record { paths = (orders_name, orders_name) ∷ []; held = d
 abbrev pub IsDemoResult : ℕ → RunResult → Type 0
 IsDemoResult orders result = (rest : RunResult) × IsScriptResult (demo_files orders) demo_script rest × (result ≡ without_fetches rest)
 
-abbrev pub IsFixedResult : Fixed → RunResult → Type 0
-IsFixedResult usage_help result = result ≡ help_result
-IsFixedResult wrong_words result = result ≡ with_line usage_line usage
-IsFixedResult (demonstration orders) result = IsDemoResult orders result
+-- With `--stats` a last line gives the charge and the peak, the one number that the meaning leaves open within its bounds.
+abbrev pub IsStated : Bool → ℕ → (RunResult → Type 0) → RunResult → Type 0
+IsStated stats peak means result = (rest : RunResult) × means rest × IsPeak rest.steps peak × (result ≡ with_stats stats peak rest)
+
+abbrev pub Stated : Bool → (RunResult → Type 0) → RunResult → Type 0
+Stated stats means result = (peak : ℕ) × IsStated stats peak means result
+
+abbrev pub IsFixedWith : Fixed → ℕ → RunResult → Type 0
+IsFixedWith usage_help peak result = result ≡ help_result
+IsFixedWith wrong_words peak result = result ≡ with_line usage_line usage
+IsFixedWith (demonstration stats orders) peak result = IsStated stats peak (IsDemoResult orders) result
 
 -- the run of the script that its path holds, which is fetched first
-abbrev pub IsPathResult : RunWords → Contents → RunResult → Type 0
-IsPathResult run held result = (rest : RunResult) × IsFileResult (record { paths = run.paths; held = held }) run.script (get held run.script) rest × (result ≡ after_step fetched rest)
+abbrev pub IsPathResult : Text → List (Text × Text) → Contents → RunResult → Type 0
+IsPathResult path paths held result = (rest : RunResult) × IsFileResult (record { paths = paths; held = held }) path (get held path) rest × (result ≡ after_step fetched rest)
+
+abbrev pub IsAskedWith : Asked → Contents → ℕ → RunResult → Type 0
+IsAskedWith (fixed asks) held peak result = IsFixedWith asks peak result
+IsAskedWith (script run) held peak result = IsStated run.stats peak (IsPathResult run.script run.paths held) result
+
+-- the run of these words where these files are held, with this peak
+abbrev pub IsRunWith : List Text → Contents → ℕ → RunResult → Type 0
+IsRunWith words held peak result = IsAskedWith (asked words) held peak result
+
+-- with any peak
+abbrev pub IsFixedResult : Fixed → RunResult → Type 0
+IsFixedResult asks result = (peak : ℕ) × IsFixedWith asks peak result
 
 abbrev pub IsAskedResult : Asked → Contents → RunResult → Type 0
-IsAskedResult (fixed asks) held result = IsFixedResult asks result
-IsAskedResult (script run) held result = IsPathResult run held result
+IsAskedResult asks held result = (peak : ℕ) × IsAskedWith asks held peak result
 
--- the run of these words where these files are held
 abbrev pub IsRunResult : List Text → Contents → RunResult → Type 0
 IsRunResult words held result = IsAskedResult (asked words) held result

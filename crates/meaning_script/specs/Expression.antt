@@ -16,8 +16,10 @@ use Rattle.meaning_method.specs.Calls as calls
 use Rattle.meaning_method.specs.Calls.{has_method, call_result}
 use Rattle.meaning_method.specs.Functions.{function_result}
 use Rattle.meaning_method.specs.Readers.{reads_file, file_name_of, read_result}
+use Rattle.meaning_charge.specs.Charge.{answer_charge, select_charge}
+use Rattle.meaning_method.specs.Charges.{call_charge}
 use Rattle.meaning_script.specs.State.{State}
-use Rattle.meaning_script.specs.Reading.{Files, Reads, at_once, gives, then_read, of_file}
+use Rattle.meaning_script.specs.Reading.{Files, Reads, at_once, gives, costing, then_read, of_file}
 
 abbrev pub cell_of : tree.Literal → CellValue
 cell_of (tree.int z) = int_cell z
@@ -39,6 +41,13 @@ abbrev pub is_minus : tree.Unary → Bool
 is_minus tree.minus = true
 is_minus tree.invert = false
 
+-- what a selection and a call give, and cost
+abbrev pub selected : Entry → Way → GivenSub → Option GivenSub → Reads Entry
+selected v way first second = costing (select_charge v way first) (select_result v way first second)
+
+abbrev pub called : Entry → calls.ChainValue → List NamedGiven → Reads Entry
+called v chain gs = costing (call_charge v chain gs) (call_result v chain gs)
+
 -- what follows where the name exists
 abbrev pub where_named : Bool → Text → Reads Entry → Reads Entry
 where_named true n rest = rest
@@ -48,15 +57,15 @@ where_named false n rest = at_once (Err (no_attribute n))
 abbrev pub made : Files → Text → List NamedGiven → Reads Entry
 made files f gs =
     if reads_file (function_named f)
-    then then_read (at_once (file_name_of ReadCsv gs)) (λ name. of_file files name (λ bytes. read_result bytes gs))
-    else at_once (function_result None f gs)
+    then then_read (at_once (file_name_of ReadCsv gs)) (λ name. of_file files name (λ bytes. costing answer_charge (read_result bytes gs)))
+    else costing answer_charge (function_result None f gs)
 
 abbrev mutual
   pub value_of : Files → State → Expr → Reads Entry
   value_of files s (tree.name n) = at_once (value_of_name n (s.value n))
   value_of files s (tree.literal v) = gives (cell (cell_of v))
-  value_of files s (tree.unary o x) = then_read (value_of files s x) (λ v. at_once (sign_result (is_minus o) v))
-  value_of files s (tree.binary o x y) = then_read (value_of files s x) (λ v. then_read (value_of files s y) (λ w. at_once (infix_result o v w)))
+  value_of files s (tree.unary o x) = then_read (value_of files s x) (λ v. costing answer_charge (sign_result (is_minus o) v))
+  value_of files s (tree.binary o x y) = then_read (value_of files s x) (λ v. then_read (value_of files s y) (λ w. costing answer_charge (infix_result o v w)))
   value_of files s (tree.after x step) = then_read (value_of files s x) (λ v. stepped files s v step)
   value_of files s (tree.len x) = then_read (value_of files s x) (λ v. at_once (length_result v))
   value_of files s (tree.make f args) = where_named (is_some (function_named f)) f (then_read (named_of files s args) (made files f))
@@ -64,18 +73,18 @@ abbrev mutual
 
   -- a step after an object that was evaluated: the name is tested first, then arguments and subscripts are evaluated
   pub stepped : Files → State → Entry → Step → Reads Entry
-  stepped files s v (tree.item a) = then_read (given_of files s a) (λ g. at_once (select_result v plain (key_given g) None))
-  stepped files s v (tree.access by first second) = then_read (sub_of files s first) (λ g. then_read (second_of files s second) (λ h. at_once (select_result v (through by) g h)))
-  stepped files s v (tree.method n args) = where_named (has_method v n) n (then_read (named_of files s args) (λ gs. at_once (call_result v (calls.plain n) gs)))
+  stepped files s v (tree.item a) = then_read (given_of files s a) (λ g. selected v plain (key_given g) None)
+  stepped files s v (tree.access by first second) = then_read (sub_of files s first) (λ g. then_read (second_of files s second) (λ h. selected v (through by) g h))
+  stepped files s v (tree.method n args) = where_named (has_method v n) n (then_read (named_of files s args) (called v (calls.plain n)))
   stepped files s v (tree.group args by n more) =
       where_named (has_method v (codes "groupby")) (codes "groupby")
-      (then_read (named_of files s args) (λ g. then_read (brackets_of files s by) (λ h. then_read (named_of files s more) (λ gs. at_once (call_result v (calls.grouped g h n) gs)))))
+      (then_read (named_of files s args) (λ g. then_read (brackets_of files s by) (λ h. then_read (named_of files s more) (called v (calls.grouped g h n)))))
   stepped files s v (tree.rolling args n more) =
       where_named (has_method v (codes "rolling")) (codes "rolling")
-      (then_read (named_of files s args) (λ g. then_read (named_of files s more) (λ gs. at_once (call_result v (calls.rolling g n) gs))))
+      (then_read (named_of files s args) (λ g. then_read (named_of files s more) (called v (calls.rolling g n))))
   stepped files s v (tree.expanding args n more) =
       where_named (has_method v (codes "expanding")) (codes "expanding")
-      (then_read (named_of files s args) (λ g. then_read (named_of files s more) (λ gs. at_once (call_result v (calls.expanding g n) gs))))
+      (then_read (named_of files s args) (λ g. then_read (named_of files s more) (called v (calls.expanding g n))))
 
   pub sub_of : Files → State → Sub → Reads GivenSub
   sub_of files s (tree.key a) = then_read (given_of files s a) (λ g. gives (key_given g))

@@ -8,6 +8,7 @@ pub mod Run
 pub use Rattle.meaning_method.specs.align as align
 pub use Rattle.meaning_method.specs.call as call
 pub use Rattle.meaning_method.specs.cells as cells
+pub use Rattle.meaning_charge.specs as charge
 pub use Rattle.meaning_method.specs.csv as csv
 pub use Rattle.meaning_method.specs.form as form
 pub use Rattle.meaning_method.specs.format as format

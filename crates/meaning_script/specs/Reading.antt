@@ -3,7 +3,7 @@ use Rattle.std.specs.Prelude.{ℕ, List, [], ◌∷◌, Option, Some, None, Resu
 use Rattle.std.specs.FinMap.{get}
 use Rattle.meaning_method.specs.cells.Text.{Text, same_text, Contents}
 use Rattle.meaning_method.specs.cells.Fault.{FaultValue, no_file}
-use Rattle.meaning_script.specs.Spent.{Spent, nothing_spent, one_fetch, spent_sum}
+use Rattle.meaning_script.specs.Spent.{Spent, nothing_spent, one_fetch, spent_for, spent_sum}
 
 -- the names of the command line, each with the path that it stands for, and the bytes that paths hold
 pub record Files : Type 0 where
@@ -27,6 +27,10 @@ at_once x = record { spent = nothing_spent; answer = x }
 abbrev pub gives : {A : Type 0} → A → Reads A
 gives a = at_once (Ok a)
 
+-- an answer that costs so much where it is a value
+abbrev pub costing : {A : Type 0} → (A → ℕ) → Result A FaultValue → Reads A
+costing charge r = record { spent = spent_for charge r; answer = r }
+
 -- what is read after this was spent
 abbrev pub after : {X : Type 0} → Spent → Reading X → Reading X
 after spent r = record { spent = spent_sum spent r.spent; answer = r.answer }
@@ -48,15 +52,15 @@ abbrev pub path_of_name : List (Text × Text) → Text → Option Text
 path_of_name [] name = None
 path_of_name (p ∷ ps) name = if same_text p.0 name then Some p.1 else path_of_name ps name
 
-abbrev pub of_bytes : {A : Type 0} → Text → Option (List ℕ) → (List ℕ → Result A FaultValue) → Result A FaultValue
-of_bytes name None go = Err (no_file name)
+abbrev pub of_bytes : {A : Type 0} → Text → Option (List ℕ) → (List ℕ → Reads A) → Reads A
+of_bytes name None go = at_once (Err (no_file name))
 of_bytes name (Some bytes) go = go bytes
 
 -- what is made of the bytes of a path, which is fetched once; without a path nothing is fetched
-abbrev pub of_path : {A : Type 0} → Contents → Text → Option Text → (List ℕ → Result A FaultValue) → Reads A
+abbrev pub of_path : {A : Type 0} → Contents → Text → Option Text → (List ℕ → Reads A) → Reads A
 of_path held name None go = at_once (Err (no_file name))
-of_path held name (Some path) go = after one_fetch (at_once (of_bytes name (get held path) go))
+of_path held name (Some path) go = after one_fetch (of_bytes name (get held path) go)
 
 -- what is made of the file of a name
-abbrev pub of_file : {A : Type 0} → Files → Text → (List ℕ → Result A FaultValue) → Reads A
+abbrev pub of_file : {A : Type 0} → Files → Text → (List ℕ → Reads A) → Reads A
 of_file files name go = of_path files.held name (path_of_name files.paths name) go

@@ -1,11 +1,11 @@
 -- What a run prints, and how it ends.
-use Rattle.std.specs.Prelude.{◌≡◌, ◌⊎◌, ℕ, ◌-◌, ◌<◌, ◌≤◌, nat_lt, Bool, true, false, List, [], ◌∷◌, ◌++◌, length, Option, Some, None, codes, decimal, if◌then◌else◌}
+use Rattle.std.specs.Prelude.{◌≡◌, ◌⊎◌, ℕ, ◌-◌, ◌<◌, ◌≤◌, nat_lt, min, max, Bool, true, false, List, [], ◌∷◌, ◌++◌, length, Option, Some, None, codes, decimal, if◌then◌else◌}
 use Rattle.std.specs.List.{flat_map}
 use Rattle.meaning_method.specs.cells.Text.{Text}
 use Rattle.meaning_language.specs.Tree.{Statement}
 use Rattle.meaning_script.specs.Spent.{Spent, nothing_spent, one_fetch, spent_sum}
 use Rattle.meaning_script.specs.Reading.{Files, Reading}
-use Rattle.meaning_script.specs.State.{State, no_names}
+use Rattle.meaning_script.specs.State.{State, no_names, most_rows}
 use Rattle.meaning_script.specs.Statement.{Answer, done, refused, statement_result}
 use Rattle.meaning_language.specs.Script.{IsScript, IsSyntaxLine, most_bytes}
 use Rattle.meaning_method.specs.cells.FaultText.{fault_text}
@@ -17,11 +17,13 @@ pub data Ending : Type 0 where
   usage : Ending
   syntax : Ending
 
--- what a step of a run prints on the output and on the errors, and what it spends
+-- What a step of a run prints on the output and on the errors, what it spends, and the most rows of a table with a column
+-- that a name stands for after it. A step that leaves no names, as that of a statement that is refused, has none.
 pub record RunStep : Type 0 where
   pub output : Text
   pub errors : Text
   pub spent : Spent
+  pub rows : ℕ
 
 -- the steps in order, and how the run ends
 pub record RunResult : Type 0 where
@@ -60,7 +62,7 @@ warning_line line false = []
 
 -- a run of one step that writes a line of errors
 abbrev pub with_line : Text → Ending → RunResult
-with_line line ending = record { steps = record { output = []; errors = line; spent = nothing_spent } ∷ []; ending = ending }
+with_line line ending = record { steps = record { output = []; errors = line; spent = nothing_spent; rows = 0 } ∷ []; ending = ending }
 
 -- a step, and then the rest
 abbrev pub after_step : RunStep → RunResult → RunResult
@@ -68,9 +70,9 @@ after_step step rest = record { steps = step ∷ rest.steps; ending = rest.endin
 
 -- the step of a statement with this answer, and then what follows it
 abbrev pub after_answer : Spent → Answer → ℕ → (State → RunResult) → RunResult
-after_answer spent (done s printed mark) line go = after_step (record { output = printed; errors = warning_line line mark; spent = spent }) (go s)
+after_answer spent (done s printed mark) line go = after_step (record { output = printed; errors = warning_line line mark; spent = spent; rows = most_rows s }) (go s)
 after_answer spent (refused f mark) line go =
-    record { steps = record { output = []; errors = warning_line line mark ++ line_about line (fault_text f); spent = spent } ∷ []; ending = fault }
+    record { steps = record { output = []; errors = warning_line line mark ++ line_about line (fault_text f); spent = spent; rows = 0 } ∷ []; ending = fault }
 
 abbrev pub after_reading : Reading Answer → ℕ → (State → RunResult) → RunResult
 after_reading r line go = after_answer r.spent r.answer line go
@@ -79,6 +81,36 @@ after_reading r line go = after_answer r.spent r.answer line go
 abbrev pub statements_result : Files → State → List Statement → RunResult
 statements_result files s [] = record { steps = []; ending = finished }
 statements_result files s (st ∷ rest) = after_reading (statement_result files s st.action) st.line (λ s'. statements_result files s' rest)
+
+-- the charge as it is told: it stops at the last number of 64 bits
+abbrev pub told_charge : ℕ → ℕ
+told_charge total = min total 18446744073709551615
+
+-- The peak, how many cells were held at most after a statement, is the one number that the meaning leaves open. It is at most
+-- the charge, and no less than the rows of any table with a column that a name stood for after a statement.
+abbrev pub least_peak : List RunStep → ℕ
+least_peak [] = 0
+least_peak (step ∷ steps) = max step.rows (least_peak steps)
+
+pub record IsPeak (steps : List RunStep) (peak : ℕ) : Type 0 where
+  pub least : least_peak steps ≤ peak
+  pub most : peak ≤ told_charge (spent_of steps).charge
+
+-- the line of `--stats`
+abbrev pub stats_line : ℕ → ℕ → Text
+stats_line peak charge = codes "peak " ++ decimal peak ++ codes " charge " ++ decimal charge ++ codes "\n"
+
+-- a run that ends after its last statement, and with `--stats` by this line
+abbrev pub stats_step : ℕ → List RunStep → RunStep
+stats_step peak steps = record { output = []; errors = stats_line peak (told_charge (spent_of steps).charge); spent = nothing_spent; rows = 0 }
+
+abbrev pub with_line_of : Ending → ℕ → List RunStep → List RunStep
+with_line_of finished peak steps = steps ++ stats_step peak steps ∷ []
+with_line_of ending peak steps = steps
+
+abbrev pub with_stats : Bool → ℕ → RunResult → RunResult
+with_stats false peak result = result
+with_stats true peak result = record { steps = with_line_of result.ending peak result.steps; ending = result.ending }
 
 abbrev pub usage_line : Text
 usage_line = codes "usage: pdscript [--stats] [--demo N | SCRIPT] [NAME=PATH ..]\n"
@@ -106,4 +138,4 @@ IsFileResult files path (Some bytes) result = IsScriptResult files bytes result
 
 -- The first step fetches the script.
 abbrev pub fetched : RunStep
-fetched = record { output = []; errors = []; spent = one_fetch }
+fetched = record { output = []; errors = []; spent = one_fetch; rows = 0 }

@@ -1,8 +1,8 @@
 -- What names stand for.
-use Rattle.std.specs.Prelude.{Bool, true, false, ◌&&◌, ◌||◌, not, List, [], ◌∷◌, Option, Some, None, if◌then◌else◌, filter}
+use Rattle.std.specs.Prelude.{ℕ, max, Bool, true, false, ◌&&◌, ◌||◌, not, List, [], ◌∷◌, length, Option, Some, None, if◌then◌else◌, filter}
 use Rattle.meaning_method.specs.cells.Text.{Text, same_text}
 use Rattle.meaning_method.specs.tables.Table.{Table}
-use Rattle.meaning_method.specs.tables.Value.{Entry, table, is_table}
+use Rattle.meaning_method.specs.tables.Value.{Entry, cell, table, is_table}
 
 -- The names in the order in which they were first bound, the value of each, and which names stand for one object. A name that isn't bound, or bound to a scalar, stands for no object.
 pub record State : Type 0 where
@@ -48,3 +48,28 @@ without_name s x =
       value = λ m. if same_text x m then None else s.value m;
       paired = λ a b. if same_text x a then false else if same_text x b then false else s.paired a b;
     }
+
+-- The rows in which a value holds cells: those of a table with a column. A table without one holds no cell, and a scalar has
+-- no row.
+abbrev pub rows_under : {C : Type 0} → List C → ℕ → ℕ
+rows_under [] rows = 0
+rows_under (c ∷ cs) rows = rows
+
+abbrev pub held_rows : Table → ℕ
+held_rows t = rows_under t.columns (length t.labels)
+
+abbrev pub entry_rows : Entry → ℕ
+entry_rows (cell c) = 0
+entry_rows (table t) = held_rows t
+
+abbrev pub value_rows : Option Entry → ℕ
+value_rows None = 0
+value_rows (Some v) = entry_rows v
+
+-- the most of them that the value of a name has
+abbrev pub most_rows_of : (Text → Option Entry) → List Text → ℕ
+most_rows_of value [] = 0
+most_rows_of value (n ∷ ns) = max (value_rows (value n)) (most_rows_of value ns)
+
+abbrev pub most_rows : State → ℕ
+most_rows s = most_rows_of s.value s.names

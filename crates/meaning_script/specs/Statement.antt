@@ -8,6 +8,8 @@ use Rattle.meaning_method.specs.tables.Value.{Entry, Given, cell, table}
 use Rattle.meaning_method.specs.select.Set.{assign_result, removal_result}
 use Rattle.meaning_method.specs.format.Print.{table_text_of}
 pub use Rattle.meaning_method.specs.Texts.{cell_text}
+use Rattle.meaning_charge.specs.Charge.{setting_charge}
+use Rattle.meaning_script.specs.Spent.{spent_for}
 use Rattle.meaning_script.specs.Reading.{Files, Reading, Reads, at_once, then_or}
 use Rattle.meaning_script.specs.State.{State, with_new, with_object, with_table, without_name}
 use Rattle.meaning_script.specs.Expression.{Target, named_by, value_of_name, value_of, given_of, target_of}
@@ -47,12 +49,17 @@ entry_text (table t) = table_text_of t
 abbrev pub assigned : Entry → Target → Given → Result Table FaultValue
 assigned v target g = assign_result v target.way target.first target.second g
 
+-- what a setting does to the state, and costs
+abbrev pub set_reading : State → Option Text → Entry → Target → Given → Reading Answer
+set_reading s on v target g =
+    record { spent = spent_for (setting_charge v target.way target.first target.second) (assigned v target g); answer = set_answer s on (assigned v target g) }
+
 abbrev pub statement_result : Files → State → tree.Action → Reading Answer
 statement_result files s tree.import_pandas = at_once (done s [] false)
 statement_result files s (tree.bind x e) = then_answer (value_of files s e) (λ v. at_once (done (with_value s x (named_by e) v) [] false))
 statement_result files s (tree.put x step a) =
     then_answer (given_of files s a) (λ g. then_answer (value_of files s x) (λ v. then_answer (target_of files s step) (λ target.
-    at_once (set_answer s (named_by x) (assigned v target g)))))
+    set_reading s (named_by x) v target g)))
 statement_result files s (tree.drop_name n) = then_answer (at_once (value_of_name n (s.value n))) (λ v. at_once (done (without_name s n) [] false))
 statement_result files s (tree.drop_column n x) =
     then_answer (at_once (value_of_name n (s.value n))) (λ v. then_answer (value_of files s x) (λ k. at_once (set_answer s (Some n) (removal_result v k))))

@@ -1,5 +1,5 @@
 -- Whole tables.
-use Rattle.std.specs.Prelude.{ℕ, Bool, true, false, List, [], length, map, slice_index_or, Option, None}
+use Rattle.std.specs.Prelude.{ℕ, ◌*◌, Bool, true, false, List, [], length, map, slice_index_or, Option, None}
 use Rattle.std.specs.Option.{option_map}
 use Rattle.meaning_cells.specs.cell_core.declared.cell.Kind.{Kind}
 use Rattle.meaning_cells.specs.cell_core.declared.cell.Kind.TheVariants.{Int64, Boolean, Text as string}
@@ -52,6 +52,10 @@ no_table = record { shape = Series; columns_name = None; level_names = []; label
 -- the column at a place
 abbrev pub column_at : {C : Type 0} → List (ColumnOf C) → ℕ → ColumnOf C
 column_at columns place = slice_index_or columns place no_column
+
+-- rows times columns
+abbrev pub cell_count : {L C : Type 0} → TableOf L C → ℕ
+cell_count t = length t.labels * length t.columns
 
 -- a whole row: its labels, one for each level, and its cells, one for each column
 pub record RowOf (L C : Type 0) : Type 0 where

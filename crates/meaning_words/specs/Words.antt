@@ -11,10 +11,11 @@ begins front word = same_text front (take (length front) word)
 abbrev pub is_option : Text → Bool
 is_option word = begins (codes "-") word && nat_lt 1 (length word)
 
--- What a word is by its text: one that asks for help; `--demo`, whose value is the next word; `--demo=` and its value;
+-- What a word is by its text: one that asks for help; `--stats`, a flag; `--demo`, whose value is the next word; `--demo=` and its value;
 -- `--`, after which no word is an option; any other option; a word that stands for itself.
 pub data WordSort : Type 0 where
   asking : WordSort
+  stats : WordSort
   demo : WordSort
   demo_with : Text → WordSort
   dashes : WordSort
@@ -25,19 +26,21 @@ abbrev pub sort_of : Text → WordSort
 sort_of word =
     if same_text word (codes "--help") then asking
     else if begins (codes "-h") word then asking
+    else if same_text word (codes "--stats") then stats
     else if same_text word (codes "--demo") then demo
     else if begins (codes "--demo=") word then demo_with (drop 7 word)
     else if same_text word (codes "--") then dashes
     else if is_option word then unknown
     else plain
 
--- what was read: the value of `--demo`, where it was given, and the plain words in order
+-- what was read: whether `--stats` was, the value of `--demo`, where it was given, and the plain words in order
 pub record Words : Type 0 where
+  pub stats : Bool
   pub demo : Option Text
   pub plain : List Text
 
 abbrev pub no_words : Words
-no_words = record { demo = None; plain = [] }
+no_words = record { stats = false; demo = None; plain = [] }
 
 -- what reading comes to: the first help or fault decides
 pub data WordsRead : Type 0 where
@@ -49,6 +52,7 @@ pub data WordsRead : Type 0 where
 -- whether their first one is the value of `--demo`
 abbrev pub read_as : WordSort → Words → Text → List Text → (Words → Bool → WordsRead) → WordsRead
 read_as asking before word more go = help
+read_as stats before word more go = if before.stats then fault else go (record before { stats = true }) false
 read_as demo before word more go = if is_some before.demo then fault else go before true
 read_as (demo_with value) before word more go = if is_some before.demo then fault else go (record before { demo = Some value }) false
 read_as dashes before word more go = read (record before { plain = before.plain ++ more })

@@ -1,7 +1,7 @@
 // The lines of errors.
 ghost use Rattle.std.specs.Prelude.{◌≡◌, ◌++◌, IfOk, decimal, map, string_bytes, true};
 ghost use Rattle.cell_core.specs.Values.{label_datum};
-ghost use Rattle.meaning_script.specs.Run.{line_about, not_found_line, syntax_line, warning_line};
+ghost use Rattle.meaning_script.specs.Run.{line_about, not_found_line, stats_line, syntax_line, warning_line};
 ghost use Rattle.meaning_script.specs.cells.Fault.{bad_merge, bad_value, length_of, long_row, out_of_range};
 ghost use Rattle.meaning_script.specs.cells.FaultOf.{fault_of, reason_of, side_of};
 ghost use Rattle.meaning_script.specs.cells.FaultText.{fault_text, key_text, reason_text, side_text};
@@ -42,6 +42,13 @@ pub fn line_of_warning(alloc: Global, line: u64) -> Result<String, AllocError>
     ensures { IfOk result (λ text. string_bytes text ≡ warning_line line true) }
 {
     format!(in alloc; "line {line}: warning: ChainedAssignmentError\n")
+}
+
+/// The last line of a run with `--stats`: the peak and the charge. Want of memory is the only refusal.
+pub fn line_of_stats(alloc: Global, peak: u64, charge: u64) -> Result<String, AllocError>
+    ensures { IfOk result (λ text. string_bytes text ≡ stats_line peak charge) }
+{
+    format!(in alloc; "peak {peak} charge {charge}\n")
 }
 
 // Appends a cause: its class word, and what the line says of it. Where memory is refused, a part of it may stand there.

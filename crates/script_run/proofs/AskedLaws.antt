@@ -1,8 +1,9 @@
 -- What follows for a run from what its words ask for.
 use Rattle.{
-  script_session.proofs.cells.Common.{◌≡◌, Option, IfSome, Contents, refl, subst},
-  meaning_run.specs.{Asked.{RunWords, Fixed, Asked, fixed, script, IfFixed, IfScript}, Result.{IsFixedResult, IsPathResult, IsAskedResult}},
-  script_run.{specs.{Ends.{Outside, Ends}, declared.status.Status.{Status, TheVariants.{Memory}}}, proofs.{Options.{some-always}, FileLaws.{ends_unbegun}, OneResult.{fixed_one}}},
+  script_session.proofs.cells.Common.{◌≡◌, ℕ, Option, IfSome, Contents, refl, subst},
+  script_session.specs.script.Run.{RunResult},
+  meaning_run.specs.{Asked.{RunWords, Fixed, Asked, fixed, script, IfFixed, IfScript}, Result.{IsFixedResult, IsPathResult, IsAskedResult, Stated}},
+  script_run.{specs.{Ends.{Outside, Ends, Is}, declared.status.Status.{Status, TheVariants.{Memory}}}, proofs.{Options.{some-always}, RunLaws.{ends_other}, FileLaws.{ends_unbegun}, OneResult.{some_fixed}}},
 }
 
 module _ (asks : Asked) where
@@ -26,7 +27,7 @@ module _ (asks : Asked) where
     pub script_here : (P : RunWords → Type 0) → P run → IfScript asks P
     script_here P p = subst (λ a. IfScript a P) is p
 
-    pub script_told : (contents : Option Contents) (result : Status) (old new : Outside) → IfSome contents (λ held. Ends (IsPathResult run held) result old new)
+    pub script_told : (contents : Option Contents) (result : Status) (old new : Outside) → IfSome contents (λ held. Ends (Stated run.stats (IsPathResult run.script run.paths held)) result old new)
         → IfSome contents (λ held. Ends (IsAskedResult asks held) result old new)
     script_told contents result old new told = subst (λ a. IfSome contents (λ held. Ends (IsAskedResult a held) result old new)) is told
 
@@ -41,4 +42,8 @@ script_always (script run) _ always = always run
 
 -- nothing was written yet
 pub fixed_unbegun : (asks : Asked) (old : Outside) → IfFixed asks (λ one. Ends (IsFixedResult one) Memory old old)
-fixed_unbegun asks old = fixed_always asks _ (λ one. ends_unbegun (IsFixedResult one) old old (fixed_one one) refl refl)
+fixed_unbegun asks old = fixed_always asks _ (λ one. ends_unbegun (IsFixedResult one) old old (some_fixed one) refl refl)
+
+-- what has one result has it with any peak
+pub ends_any : (one : RunResult) (status : Status) (old new : Outside) → Ends (Is one) status old new → Ends (λ result. (peak : ℕ) × (result ≡ one)) status old new
+ends_any one status old new ends = ends_other _ _ status old new (λ r is. (0, is)) ends

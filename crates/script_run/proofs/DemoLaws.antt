@@ -1,9 +1,9 @@
 -- What a run without fetches makes of one with them.
 use Rattle.{
-  script_session.{proofs.cells.Common.{◌≡◌, ◌≢◌, ℕ, List, [], ◌∷◌, ◌++◌, map, refl, ap, subst, arith, ◌<◌, ◌-◌, length, Text, Contents}, specs.script.Run.{RunStep, RunResult, IsScriptResult, output_of, errors_of, spent_of, before_byte}},
-  meaning_run.specs.{Result.{unfetched, without_fetches, demo_contents, demo_files}, words.Demonstration.{orders_name, demo_script}},
+  script_session.{proofs.cells.Common.{◌≡◌, ◌≢◌, ℕ, Bool, List, [], ◌∷◌, ◌++◌, map, refl, ap, subst, arith, ◌<◌, ◌-◌, length, Text, Contents}, specs.script.Run.{RunStep, RunResult, IsScriptResult, output_of, errors_of, spent_of, before_byte}},
+  meaning_run.specs.{Result.{unfetched, without_fetches, demo_contents, demo_files, Stated}, words.Demonstration.{orders_name, demo_script}},
   outside_io.specs.{Count.{HasRisen, last_count}, Files.{FilesValue}, Sink.{SinkValue}},
-  script_run.specs.{Ends.{Outside, outside, Ends, EndsAs, EndsEarly, EndsUnwritten}, declared.status.Status.{Status, TheVariants.{Input, Output, Memory}}},
+  script_run.specs.{Ends.{Outside, outside, Ends, EndsAs, EndsEarly, EndsUnwritten}, declared.status.Status.{Status, TheVariants.{Input}}},
 }
 
 abbrev pub Unfetched : (RunResult → Type 0) → RunResult → Type 0
@@ -56,12 +56,12 @@ module _ (means : RunResult → Type 0) (files inner inner' : FilesValue) (out o
   ends_unfetched _ = grind (arith, as_unfetched, early_unfetched, unwritten_unfetched)
 
 -- the names, the contents and the bytes are those of the demonstration
-pub ends_demo : (orders : ℕ) (paths : List (Text × Text)) (held : Contents) (bytes : List ℕ) (status : Status) (old new : Outside) → paths ≡ (orders_name, orders_name) ∷ [] → held ≡ demo_contents orders → bytes ≡ demo_script
-    → Ends (IsScriptResult (record { paths = paths; held = held }) bytes) status old new → Ends (IsScriptResult (demo_files orders) demo_script) status old new
-ends_demo orders paths held bytes status old new names contents text ends =
-    subst (λ p. Ends (IsScriptResult (record { paths = p; held = demo_contents orders }) demo_script) status old new) names
-    (subst (λ h. Ends (IsScriptResult (record { paths = paths; held = h }) demo_script) status old new) contents
-    (subst (λ b. Ends (IsScriptResult (record { paths = paths; held = held }) b) status old new) text ends))
+pub ends_demo : (stats : Bool) (orders : ℕ) (paths : List (Text × Text)) (held : Contents) (bytes : List ℕ) (status : Status) (old new : Outside) → paths ≡ (orders_name, orders_name) ∷ [] → held ≡ demo_contents orders → bytes ≡ demo_script
+    → Ends (Stated stats (IsScriptResult (record { paths = paths; held = held }) bytes)) status old new → Ends (Stated stats (IsScriptResult (demo_files orders) demo_script)) status old new
+ends_demo stats orders paths held bytes status old new names contents text ends =
+    subst (λ p. Ends (Stated stats (IsScriptResult (record { paths = p; held = demo_contents orders }) demo_script)) status old new) names
+    (subst (λ h. Ends (Stated stats (IsScriptResult (record { paths = paths; held = h }) demo_script)) status old new) contents
+    (subst (λ b. Ends (Stated stats (IsScriptResult (record { paths = paths; held = held }) b)) status old new) text ends))
 
 -- a count below its last value that stays hasn't risen
 pub never_risen : (count : ℕ) → count < last_count → HasRisen count count → ⊥

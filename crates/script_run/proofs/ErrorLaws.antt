@@ -1,8 +1,8 @@
 -- What a run leaves on the errors.
 use Rattle.{
-  script_session.{proofs.cells.Common.{rules, ◌≡◌, ◌≢◌, ◌≤◌, ℕ, Bool, true, false, List, [], ◌∷◌, ◌++◌, refl, sym, ap, ◌∙◌, arith, codes, inl, inr, append-nil, flat_map-append, Code, Text, FaultValue, fault_of, fault_text}, specs.{script.Run.{warning_line, line_about}, script_state.Reads.{IsCaused, absent_name}}},
+  script_session.{proofs.cells.Common.{rules, ◌≡◌, ◌≢◌, ◌≤◌, ℕ, Bool, true, false, List, [], ◌∷◌, ◌++◌, refl, sym, ap, ◌∙◌, arith, codes, inl, inr, append-nil, flat_map-append, Code, Text, FaultValue, fault_of, fault_text}, specs.{script.Run.{warning_line, line_about, stats_line}, script_state.Reads.{IsCaused, absent_name}}},
   outside_io.{specs.{Count.{HasRisen}, Files.{FilesValue}, Sink.{appended, AppendsFront}}, proofs.Appended.{appended-appended, appended-nil}},
-  script_run.{proofs.StepLaws.{Written}, specs.{Errors.{warning_lines, Warns, IsOfGivenFiles, Fails, SaysUnread, StatementsLeave, RunLeaves}, Ends.{EndsWithLine}, declared.status.Status.{Status, TheVariants.{Fault, Usage, Syntax, Input, Output, Memory}}}},
+  script_run.{proofs.StepLaws.{Written}, specs.{Errors.{warning_lines, Warns, IsOfGivenFiles, Fails, SaysUnread, StatementsLeave, RunLeaves}, Ends.{EndsWithLine}, declared.status.Status.{Status, TheVariants.{Done, Fault, Usage, Syntax, Input, Output, Memory}}}},
 }
 
 pub warns_same : (old new : Written) → new ≡ old → Warns old new
@@ -77,18 +77,28 @@ module _ (paths : List (Text × Text)) (absences absences' : ℕ) where
   pub never_usage : (status : Status) (old new : Written) → StatementsLeave paths absences absences' status old new → status ≢ Usage
   never_usage = grind arith
 
-  -- the statements are all that writes on the errors
-  pub run_leaves : (status : Status) (old new : Written) → StatementsLeave paths absences absences' status old new → RunLeaves paths absences absences' status old new
+  -- statements that weren't all done are all that writes on the errors
+  pub run_leaves : (stats : Bool) (status : Status) (old new : Written) → status ≢ Done → StatementsLeave paths absences absences' status old new → RunLeaves stats paths absences absences' status old new
   run_leaves = grind arith
 
   -- absences that may have risen before
-  pub run_leaves_later : (before : ℕ) (status : Status) (old new : Written) → before ≤ absences → RunLeaves paths absences absences' status old new → RunLeaves paths before absences' status old new
+  pub run_leaves_later : (stats : Bool) (before : ℕ) (status : Status) (old new : Written) → before ≤ absences → RunLeaves stats paths absences absences' status old new → RunLeaves stats paths before absences' status old new
   run_leaves_later = grind (arith, fails_later, warns_none)
 
   -- the line of a script that isn't there, or of bytes that are no script
-  pub run_leaves_line : (line : Text) (status result : Status) (old new : Written) → (new ≡ appended old line → RunLeaves paths absences absences' status old new) → EndsWithLine line status result old new
-      → RunLeaves paths absences absences' result old new
+  pub run_leaves_line : (stats : Bool) (line : Text) (status result : Status) (old new : Written) → (new ≡ appended old line → RunLeaves stats paths absences absences' status old new) → EndsWithLine line status result old new
+      → RunLeaves stats paths absences absences' result old new
   run_leaves_line = grind (arith, warns_same)
+
+  -- the line of `--stats` behind warnings
+  pub leaves_stats : (peak charge : ℕ) (result : Status) (old mid new : Written) → Warns old mid → EndsWithLine (stats_line peak charge) Done result mid new → RunLeaves true paths absences absences' result old new
+  leaves_stats peak charge _ _ _ _ warned (inl p) = rw p.0 (peak, charge, warned.warned, grind (arith, appended-appended))
+  leaves_stats peak charge _ _ _ _ warned (inr (inl p)) = rw p.0 tt
+  leaves_stats peak charge _ _ _ _ warned (inr (inr p)) = rw p.0 (warns_both warned (warns_same _ _ p.1))
+
+-- a statement that ends a run doesn't end it well
+pub line_not_done : (line : Text) (result : Status) (old new : Written) → EndsWithLine line Fault result old new → result ≢ Done
+line_not_done = grind arith
 
 -- what the errors are where a run ends with the line that the script isn't there
 pub absent_said : (line : Text) (result : Status) (old new : Written) → EndsWithLine line Usage result old new → result ≡ Usage → new ≡ appended old line

@@ -4,6 +4,7 @@ pub mod RunLaws
 pub mod ErrorLaws
 pub mod Hints
 pub mod DemoLaws
+pub mod StatsLaws
 pub mod OneResult
 pub mod FileLaws
 pub mod AskedLaws

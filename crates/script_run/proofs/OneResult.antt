@@ -1,10 +1,14 @@
--- A run has exactly one result.
+-- A run has exactly one result for each peak.
 use Rattle.{
-  script_session.{proofs.cells.Common.{◌≡◌, ◌≤◌, ◌<◌, ◌⊎◌, ℕ, zero, suc, List, length, Option, Some, None, refl, ap, ◌∙◌, arith, inl, inr, get, Text, Contents}, specs.{language.Script.{most_bytes}, script.{Reading.{Files}, State.{no_names}, Run.{RunResult, IsScriptResult, IsFileResult, statements_result, after_step, fetched, with_line, syntax_line, too_large_line, syntax}}}},
-  meaning_run.specs.{Asked.{RunWords, Fixed, usage_help, wrong_words, demonstration, Asked, fixed, script}, Result.{help_result, without_fetches, demo_files, IsPathResult, IsFixedResult, IsAskedResult}, words.Demonstration.{demo_script}},
+  script_session.{proofs.{script_state.laws.PaidLaws.{script_has_peak, file_has_peak, fetched_peak}, cells.Common.{◌≡◌, ◌≤◌, ◌<◌, ◌⊎◌, ℕ, zero, suc, Bool, List, length, Option, Some, None, refl, sym, ap, ◌∙◌, arith, inl, inr, get, Text, Contents}}, specs.{language.Script.{most_bytes}, script.{Reading.{Files}, State.{no_names}, Run.{RunResult, IsScriptResult, IsFileResult, statements_result, spent_of, told_charge, after_step, fetched, with_line, with_stats, syntax_line, too_large_line, usage_line, syntax, usage}}}},
+  meaning_run.specs.{Asked.{Fixed, usage_help, wrong_words, demonstration, Asked, fixed, script, asked}, Result.{help_result, without_fetches, demo_files, IsDemoResult, IsStated, IsPathResult, IsFixedWith, IsFixedResult, IsAskedWith, IsAskedResult}, words.Demonstration.{demo_script}},
   script_syntax.{specs.OneReading.{HasOneReading}, proofs.OneReading.{one_reading}},
-  script_run.{specs.OneResult.{IsOne, HasOneResult}, proofs.DemoLaws.{Unfetched}},
+  script_run.{specs.OneResult.{HasOneResult}, proofs.{DemoLaws.{Unfetched}, StatsLaws.{SomePeaked, stated_some, peak_unfetched}}},
 }
+
+-- one value is so, and no other
+abbrev pub IsOne : {A : Type 0} → (A → Type 0) → Type 0
+IsOne {A} P = (a : A) × P a × ((other : A) → P other → other ≡ a)
 
 few_or_more : (n m : ℕ) → (n < m) ⊎ (m ≤ n)
 few_or_more n zero = inr (omega arith)
@@ -42,9 +46,9 @@ pub file_one : (files : Files) (path : Text) (bytes : Option (List ℕ)) → IsO
 file_one _ _ None = grind arith
 file_one _ _ (Some bytes) = script_one _ _
 
-pub path_one : (run : RunWords) (held : Contents) → IsOne (IsPathResult run held)
-path_one run held =
-    let one = file_one (record { paths = run.paths; held = held }) run.script (get held run.script) in
+pub path_one : (path : Text) (paths : List (Text × Text)) (held : Contents) → IsOne (IsPathResult path paths held)
+path_one path paths held =
+    let one = file_one (record { paths = paths; held = held }) path (get held path) in
     (after_step fetched one.0, search, grind arith)
 
 -- what has one result has one without fetches
@@ -52,15 +56,51 @@ unfetched_one : (means : RunResult → Type 0) → IsOne means → IsOne (Unfetc
 unfetched_one means (one, is, other) =
     (without_fetches one, (one, is, refl), λ _ (rest, means, same). same ∙ ap without_fetches (other rest means))
 
-pub fixed_one : (asks : Fixed) → IsOne (IsFixedResult asks)
-fixed_one usage_help = (help_result, refl, λ _ is. is)
-fixed_one wrong_words = grind arith
-fixed_one (demonstration orders) = unfetched_one _ (script_one (demo_files orders) demo_script)
+-- with its line or without, for each peak
+stated_same : (stats : Bool) (peak : ℕ) (means : RunResult → Type 0) → IsOne means → (result other : RunResult) → IsStated stats peak means result → IsStated stats peak means other → result ≡ other
+stated_same stats peak means (one, is, others) _ _ (plain, meant, bounds, same) (plain', meant', bounds', same') =
+    same ∙ ap (with_stats stats peak) (others plain meant ∙ sym (others plain' meant')) ∙ sym same'
 
-pub asked_one : (asks : Asked) (held : Contents) → IsOne (IsAskedResult asks held)
-asked_one (fixed asks) _ = fixed_one asks
-asked_one (script run) _ = path_one run _
+fixed_same : (asks : Fixed) (peak : ℕ) (result other : RunResult) → IsFixedWith asks peak result → IsFixedWith asks peak other → result ≡ other
+fixed_same usage_help peak result other is is' = is ∙ sym is'
+fixed_same wrong_words peak result other is is' = is ∙ sym is'
+fixed_same (demonstration stats orders) peak result other is is' = stated_same stats peak _ (unfetched_one _ (script_one (demo_files orders) demo_script)) result other is is'
 
--- all words have one result in all contents
+asked_same : (asks : Asked) (held : Contents) (peak : ℕ) (result other : RunResult) → IsAskedWith asks held peak result → IsAskedWith asks held peak other → result ≡ other
+asked_same (fixed asks) held peak result other is is' = fixed_same asks peak result other is is'
+asked_same (script run) held peak result other is is' = stated_same run.stats peak _ (path_one run.script run.paths held) result other is is'
+
+-- what has one result has one with a peak
+pub script_peaked : (files : Files) (bytes : List ℕ) → SomePeaked (IsScriptResult files bytes)
+script_peaked files bytes =
+    let one = script_one files bytes in
+    (one.0, one.1, (told_charge (spent_of one.0.steps).charge, script_has_peak files bytes one.0 one.1))
+
+pub file_peaked : (files : Files) (path : Text) (bytes : Option (List ℕ)) → SomePeaked (IsFileResult files path bytes)
+file_peaked files path bytes =
+    let one = file_one files path bytes in
+    (one.0, one.1, (told_charge (spent_of one.0.steps).charge, file_has_peak files path bytes one.0 one.1))
+
+pub path_peaked : (path : Text) (paths : List (Text × Text)) (held : Contents) → SomePeaked (IsPathResult path paths held)
+path_peaked path paths held =
+    let (one, is, (peak, bounds)) = file_peaked (record { paths = paths; held = held }) path (get held path) in
+    (after_step fetched one, (one, is, refl), (peak, fetched_peak one.steps peak bounds))
+
+demo_peaked : (orders : ℕ) → SomePeaked (IsDemoResult orders)
+demo_peaked orders =
+    let (one, is, (peak, bounds)) = script_peaked (demo_files orders) demo_script in
+    (without_fetches one, (one, is, refl), (peak, peak_unfetched one.steps peak bounds))
+
+-- so there is a result
+pub some_fixed : (asks : Fixed) → (r : RunResult) × IsFixedResult asks r
+some_fixed usage_help = (help_result, (0, refl))
+some_fixed wrong_words = (with_line usage_line usage, (0, refl))
+some_fixed (demonstration stats orders) = stated_some stats _ (demo_peaked orders)
+
+pub some_asked : (asks : Asked) (held : Contents) → (r : RunResult) × IsAskedResult asks held r
+some_asked (fixed asks) held = some_fixed asks
+some_asked (script run) held = stated_some run.stats _ (path_peaked run.script run.paths held)
+
+-- all words have one result in all contents, for each peak that it may have
 pub run_one : (words : List Text) (held : Contents) → HasOneResult words held
-run_one _ _ = asked_one _ _
+run_one words held = record { some = some_asked (asked words) held; one = asked_same (asked words) held }

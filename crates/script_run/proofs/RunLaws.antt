@@ -1,9 +1,9 @@
 -- What one statement of a run, its lines and its failures make of the run.
 use Rattle.{
-  script_session.{proofs.cells.Common.{err_from_is_err_and, lt-ltb, le-ltb, append-nil, nil_from_length, flat_map-append, rules, ◌≡◌, ◌≢◌, ℕ, zero, suc, ◌+◌, ◌<◌, ◌≤◌, length, List, [], ◌∷◌, ◌++◌, drop, Option, Some, refl, sym, ◌∙◌, ap, subst, append_assoc, length-append, add-zero, arith, inl, inr, ◌⊎◌, codes, slice_get, Bool, IfSome, IfErr, IsErrAnd, Result, ⊤, Text, Contents, FaultValue, fault_text}, specs.{language.Tree.{Statement}, script.{Spent.{Spent, nothing_spent}, Reading.{Files, Reading, at_once}, State.{State}, Statement.{Answer, done, refused, statement_result}, Run.{RunStep, RunResult, Ending, fault, errors_of, spent_of, before_fetch, after_step, after_answer, after_reading, statements_result, warning_line, line_about, with_line}}, script_state.Reads.{Goes, Stuck, count_after}}},
+  script_session.{proofs.{script_state.laws.{SpentLaws.{sum-nothing}, PaidLaws.{least-append}}, cells.Common.{err_from_is_err_and, lt-ltb, le-ltb, append-nil, nil_from_length, flat_map-append, rules, ◌≡◌, ◌≢◌, ℕ, zero, suc, ◌+◌, ◌<◌, ◌≤◌, length, List, [], ◌∷◌, ◌++◌, drop, Option, Some, refl, sym, ◌∙◌, ap, subst, append_assoc, length-append, add-zero, arith, max, inl, inr, ◌⊎◌, codes, slice_get, Bool, IfSome, IfErr, IsErrAnd, Result, ⊤, Text, Contents, FaultValue, fault_text}}, specs.{language.Tree.{Statement}, script.{Spent.{Spent, nothing_spent, spent_sum}, Reading.{Files, Reading, at_once}, State.{State, most_rows}, Statement.{Answer, done, refused, statement_result}, Run.{RunStep, RunResult, Ending, fault, finished, errors_of, spent_of, before_fetch, after_step, after_answer, after_reading, statements_result, warning_line, line_about, with_line}}, script_state.Reads.{Goes, Holds, Meter, Pays, Stuck, count_after}}},
   std.proofs.Math.ListN.{drop_of_length-le},
   outside_io.{specs.{Count.{HasRisen}, Files.{FilesValue}, Sink.{appended, AppendsFront, AppendsPart}}, proofs.Appended.{appended-appended, appended-nil}},
-  script_run.{specs.{Ends.{Outside, Ends, EndsAs, EndsEarly, EndsUnwritten, EndsUnread, EndsWithLine, Is, status_of}, Steps.{Does, ComesTo, GoesOn, Stops, after_steps}, declared.status.Status.{Status, TheVariants.{Done, Fault, Input, Output, Memory}}}, proofs.{Options.{some-told}, StepLaws.{Written, spent_of-append, before_fetch-append, before_byte-append, count_after-add, does_one, does_more, text_more}}},
+  script_run.{specs.{Ends.{Outside, Ends, EndsAs, EndsEarly, EndsUnwritten, EndsUnread, EndsWithLine, Is, status_of}, Steps.{Does, Tally, ComesTo, GoesOn, Stops, after_steps}, declared.status.Status.{Status, TheVariants.{Done, Fault, Input, Output, Memory}}}, proofs.{Options.{some-told}, StepLaws.{Written, spent_of-append, before_fetch-append, before_byte-append, count_after-add, does_one, does_more, text_more}}},
 }
 
 -- nothing was written yet
@@ -66,7 +66,7 @@ module _ (old new : Outside) where
 
   -- a run of one step whose errors end with a line, where what stands before the line was written
   pub ends_with_lines : (ending : Ending) (spent : Spent) (before line : Text) (result : Status) (mid : Written) → new.out ≡ old.out → mid ≡ appended old.err before → new.files.fetches ≡ count_after old.files.fetches spent.fetches
-      → EndsWithLine line (status_of ending) result mid new.err → Ends (Is (first_then (record { output = []; errors = before ++ line; spent = spent }) [] ending)) result old new
+      → EndsWithLine line (status_of ending) result mid new.err → Ends (Is (first_then (record { output = []; errors = before ++ line; spent = spent; rows = 0 }) [] ending)) result old new
   ends_with_lines _ _ _ _ _ _ out wrote count (inl last) = rw last.0 (ends_as _ _ (grind (arith, appended-nil, append-nil, appended-appended)))
   ends_with_lines _ _ _ _ _ _ out wrote count (inr (inl last)) =
       let f = front_after _ _ _ _ _ _ refl wrote last.1 in
@@ -79,7 +79,7 @@ module _ (old new : Outside) where
 
   -- a run that ends with one line on the output
   pub ends_with_output : (ending : Ending) (line : Text) (result : Status) → new.err ≡ old.err → new.files.fetches ≡ old.files.fetches → EndsWithLine line (status_of ending) result old.out new.out
-      → Ends (Is (first_then (record { output = line; errors = []; spent = nothing_spent }) [] ending)) result old new
+      → Ends (Is (first_then (record { output = line; errors = []; spent = nothing_spent; rows = 0 }) [] ending)) result old new
   ends_with_output ending _ _ err count (inl last) = rw last.0 (ends_as ending _ (_, refl, refl, rw append-nil last.1, err ∙ sym (appended-nil _), count))
   ends_with_output _ _ _ err count (inr (inl last)) = rw last.0 (_, refl, front_of _ _ _ [] last.1, ([], [], refl, err ∙ sym (appended-nil _), λ _ some. absurd (some refl)))
   ends_with_output _ _ _ err count (inr (inr last)) = rw last.0 (early_none _ _ refl last.1 err)
@@ -165,27 +165,39 @@ pub ends_other : (means other : RunResult → Type 0) (status : Status) (old new
 ends_other = grind arith
 
 -- a run that has come to the rest, and ends as the rest does
-pub ends_come : (whole rest : RunResult) (status : Status) (old mid new : Outside) → ComesTo whole rest old mid → Ends (Is rest) status mid new → Ends (Is whole) status old new
-ends_come _ _ status _ _ _ come t =
-    ends_other _ _ _ _ _ (λ r (x, is, same). same ∙ ap (after_steps come.0) is ∙ sym come.1)
-    (ends_after _ _ _ _ _ come.2 status t)
+pub ends_come : (whole rest : RunResult) (status : Status) (old mid new : Outside) (steps : List RunStep) → whole ≡ after_steps steps rest → Does steps old mid → Ends (Is rest) status mid new → Ends (Is whole) status old new
+ends_come _ _ status _ _ _ steps whole does t =
+    ends_other _ _ _ _ _ (λ r (x, is, same). same ∙ ap (after_steps steps) is ∙ sym whole)
+    (ends_after _ _ _ _ _ does status t)
 
--- a run that did all its statements
-pub ends_done : (whole : RunResult) (files : Files) (ss : List Statement) (i : ℕ) (s : State) (old new : Outside) → length ss ≤ i
-    → ComesTo whole (statements_result files s (drop i ss)) old new → Ends (Is whole) Done old new
-ends_done = search (rules, ends_come, drop_of_length-le, appended-nil)
+-- nothing follows the last statement
+pub none_left : (files : Files) (ss : List Statement) (i : ℕ) (s : State) → length ss ≤ i → statements_result files s (drop i ss) ≡ record { steps = []; ending = finished }
+none_left files ss i s within = ap (statements_result files s) (drop_of_length-le ss within)
+
+-- a run with no steps
+pub ends_nothing : (new : Outside) → Ends (Is (record { steps = []; ending = finished })) Done new new
+ends_nothing = search (rules, appended-nil)
 
 -- nothing was done yet
-pub comes_none : (whole rest : RunResult) (old : Outside) → whole ≡ rest → ComesTo whole rest old old
-comes_none _ _ _ is = ([], is, grind (arith, appended-nil))
+pub comes_none : (whole rest : RunResult) (tally : Tally) (old : Outside) → whole ≡ rest → tally.charge ≡ 0 → ComesTo whole rest tally old old
+comes_none _ _ _ _ is none = record { steps = []; is = is; does = grind (arith, appended-nil); charge = none; least = omega arith }
 
--- one step more was done
-pub comes_more : (whole rest next : RunResult) (step : RunStep) (old mid new : Outside) → ComesTo whole rest old mid → rest ≡ after_step step next → Does (step ∷ []) mid new → ComesTo whole next old new
-comes_more _ _ _ step _ _ _ come is does = (
-  come.0 ++ step ∷ [],
-  grind (arith, append_assoc),
-  search does_more,
-)
+-- one statement more was done
+pub comes_more : (whole rest : RunResult) (answer : Reading Answer) (line : ℕ) (state : State) (go : State → RunResult) (before after : Tally) (old mid new : Outside) → ComesTo whole rest before old mid → rest ≡ after_reading answer line go → GoesOn answer line state before after mid new
+    → ComesTo whole (go state) after old new
+comes_more _ _ _ _ state go before after _ _ _ come is on =
+    let cost = on.step.spent.charge in
+    record {
+      steps = come.steps ++ on.step ∷ [];
+      is = come.is ∙ ap (after_steps come.steps) (is ∙ on.goes go) ∙ one_more come.steps on.step (go state);
+      does = does_more _ _ _ _ _ come.does on.does;
+      charge = on.charge ∙ ap (λ n. count_after n cost) come.charge ∙ count_after-add 0 (spent_of come.steps).charge cost
+          ∙ ap (count_after 0) (ap (λ n. (spent_of come.steps).charge + n) (sym (add-zero cost)) ∙ sym (ap (λ (s : Spent). s.charge) (spent_of-append come.steps (on.step ∷ []))));
+      least = omega (arith, least-append come.steps (on.step ∷ []), come.least, on.rows, on.peak);
+    }
+  where
+    one_more : (steps : List RunStep) (step : RunStep) (next : RunResult) → after_steps steps (after_step step next) ≡ after_steps (steps ++ step ∷ []) next
+    one_more steps step next = λ i. record { steps = sym (append_assoc steps (step ∷ []) next.steps) i; ending = next.ending }
 
 -- the next statement, and then the others
 pub next-result : (files : Files) (ss : List Statement) (i : ℕ) (st : Statement) (s : State) → slice_get ss i ≡ Some st
@@ -226,12 +238,6 @@ module _ {files files' : FilesValue} {answer : Contents → Reading Answer} wher
 
   module _ {state : State} {printed : Text} {mark : Bool} (goes : (held : Contents) → Goes held files files' (answer held) (at_once (done state printed mark)))
       (line : ℕ) (old new : Outside) (err : new.err ≡ appended old.err (warning_line line mark)) where
-    -- the statement was done, and its warning and its text were written
-    pub goes_on : old.files.fetches ≡ files.fetches → new.files.fetches ≡ files'.fetches → new.out ≡ appended old.out printed → old.out_faults ≤ new.out_faults → old.err_faults ≤ new.err_faults
-        → IfSome files.contents (λ held. GoesOn (answer held) line state old new)
-    goes_on before after out out_faults err_faults =
-        told goes (λ r. GoesOn r line state old new) (λ n count. (record { output = printed; errors = warning_line line mark; spent = n }, does_one _ _ _ out err (cc count) out_faults err_faults, λ go. refl))
-
     -- the text of the statement could not be written
     pub stops_showing : (status : Status) → status ≡ Output → AppendsFront old.out new.out printed → HasRisen old.out_faults new.out_faults → IfSome files.contents (λ held. Stops (answer held) line status old new)
     stops_showing status is front risen = told goes (λ r. Stops r line status old new) (λ n count go. rw is (unwritten_output old new _ _ _ front err risen))
@@ -251,3 +257,23 @@ module _ {files files' : FilesValue} {answer : Contents → Reading Answer} wher
       let s = stuck held in
       let f = first_step (answer held).spent (answer held).answer line go in
       unread_first old new _ _ refl f.0 f.1 (ap (λ r. r.steps) f.3) s.spent.fetches (grind arith) s.some (cc s.counted) out front whole)
+
+-- the statement was done, and its warning and its text were written
+pub goes_on : {before after : Meter} {answer : Contents → Reading Answer} {state : State} {printed : Text} {mark : Bool} → ((held : Contents) → Pays held before after (answer held) (at_once (done state printed mark)))
+    → (line peak peak' most : ℕ) → peak' ≡ max peak most → most_rows state ≤ most → (old new : Outside) → new.err ≡ appended old.err (warning_line line mark) → old.files.fetches ≡ before.files.fetches → new.files.fetches ≡ after.files.fetches → new.out ≡ appended old.out printed
+    → old.out_faults ≤ new.out_faults → old.err_faults ≤ new.err_faults
+    → IfSome before.files.contents (λ held. GoesOn (answer held) line state (record { charge = before.tab.charge; peak = peak }) (record { charge = after.tab.charge; peak = peak' }) old new)
+goes_on {before} {after} {answer} {state} {printed} {mark} pays line peak peak' _ top rows old new err first last out out_faults err_faults =
+    some-told before.files.contents (λ held. GoesOn (answer held) line state (record { charge = before.tab.charge; peak = peak }) (record { charge = after.tab.charge; peak = peak' }) old new) (λ held told.
+    let p = pays held in
+    let n = spent_sum p.goes.spent nothing_spent in
+    let same : p.goes.spent ≡ n = sym (sum-nothing p.goes.spent) in
+    let is : answer held ≡ record { spent = n; answer = done state printed mark } = p.goes.meant (subst (λ o. Holds o p.goes.spent (answer held).spent held) (sym told) refl) in
+    record {
+      step = record { output = printed; errors = warning_line line mark; spent = n; rows = most_rows state };
+      does = does_one _ old new out err (last ∙ p.goes.counted ∙ ap (λ (s : Spent). count_after before.files.fetches s.fetches) same ∙ ap (λ c. count_after c n.fetches) (sym first)) out_faults err_faults;
+      goes = λ go. ap (λ r. after_reading r line go) is;
+      charge = p.costs.charge ∙ ap (λ (s : Spent). count_after before.tab.charge s.charge) same;
+      rows = omega (arith, top, rows);
+      peak = omega (arith, top);
+    })

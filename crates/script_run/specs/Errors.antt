@@ -1,5 +1,5 @@
 -- What a run leaves on the errors, by its status, in any files.
-use Rattle.std.specs.Prelude.{◌≡◌, ◌⊎◌, ℕ, List, ◌++◌, Option, None, true, codes}
+use Rattle.std.specs.Prelude.{◌≡◌, ◌⊎◌, ℕ, Bool, List, ◌++◌, Option, None, true, false, codes}
 use Rattle.std.specs.List.{flat_map}
 use Rattle.outside_io.specs.Count.{HasRisen}
 use Rattle.outside_io.specs.Sink.{appended, AppendsFront}
@@ -7,7 +7,7 @@ use Rattle.script_session.specs.cells.Text.{Text}
 use Rattle.script_session.specs.cells.Fault.{FaultValue, no_file}
 use Rattle.script_session.specs.cells.FaultText.{fault_text}
 use Rattle.script_session.specs.script.Reading.{path_of_name}
-use Rattle.script_session.specs.script.Run.{warning_line, line_about, syntax_line, too_large_line}
+use Rattle.script_session.specs.script.Run.{warning_line, line_about, stats_line, syntax_line, too_large_line}
 use Rattle.script_run.specs.declared.status.Status.{Status}
 use Rattle.script_run.specs.declared.status.Status.TheVariants.{Done, Fault, Usage, Syntax, Input, Output, Memory}
 
@@ -52,8 +52,14 @@ StatementsLeave paths absences absences' Memory old new = Warns old new
 abbrev pub SaysUnparsed : Option (List ℕ) → Option (List ℕ) → Type 0
 SaysUnparsed old new = (new ≡ appended old too_large_line) ⊎ ((line : ℕ) × (new ≡ appended old (syntax_line line)))
 
+-- warnings were written, and with `--stats` its line
+abbrev pub WarnsAndTells : Bool → Option (List ℕ) → Option (List ℕ) → Type 0
+WarnsAndTells false old new = Warns old new
+WarnsAndTells true old new = (peak : ℕ) × (charge : ℕ) × (warned : List ℕ) × (new ≡ appended old (warning_lines warned ++ stats_line peak charge))
+
 -- The same of a whole run. Of a script that isn't there, and of a write that failed, this says nothing.
-abbrev pub RunLeaves : List (Text × Text) → ℕ → ℕ → Status → Option (List ℕ) → Option (List ℕ) → Type 0
-RunLeaves paths absences absences' Usage old new = Unit {0}
-RunLeaves paths absences absences' Syntax old new = SaysUnparsed old new
-RunLeaves paths absences absences' status old new = StatementsLeave paths absences absences' status old new
+abbrev pub RunLeaves : Bool → List (Text × Text) → ℕ → ℕ → Status → Option (List ℕ) → Option (List ℕ) → Type 0
+RunLeaves stats paths absences absences' Done old new = WarnsAndTells stats old new
+RunLeaves stats paths absences absences' Usage old new = Unit {0}
+RunLeaves stats paths absences absences' Syntax old new = SaysUnparsed old new
+RunLeaves stats paths absences absences' status old new = StatementsLeave paths absences absences' status old new

@@ -1,12 +1,10 @@
 -- That a run has one result.
-use Rattle.std.specs.Prelude.{◌≡◌, List}
+use Rattle.std.specs.Prelude.{◌≡◌, ℕ, List}
 use Rattle.script_session.specs.cells.Text.{Text, Contents}
-use Rattle.meaning_run.specs.Result.{IsRunResult}
+use Rattle.script_session.specs.script.Run.{RunResult}
+use Rattle.meaning_run.specs.Result.{IsRunWith, IsRunResult}
 
--- one value is so, and no other
-abbrev pub IsOne : {A : Type 0} → (A → Type 0) → Type 0
-IsOne {A} P = (a : A) × P a × ((other : A) → P other → other ≡ a)
-
--- the words have one result where these contents are held
-abbrev pub HasOneResult : List Text → Contents → Type 0
-HasOneResult words held = IsOne (IsRunResult words held)
+-- Where these contents are held the words have a result, with some peak, and for each peak that `--stats` may give no two.
+pub record HasOneResult (words : List Text) (held : Contents) : Type 0 where
+  pub some : (result : RunResult) × IsRunResult words held result
+  pub one : (peak : ℕ) (result other : RunResult) → IsRunWith words held peak result → IsRunWith words held peak other → result ≡ other

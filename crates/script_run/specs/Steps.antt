@@ -4,8 +4,10 @@ use Rattle.outside_io.specs.Sink.{appended}
 use Rattle.script_session.specs.script.Reading.{Reading}
 use Rattle.script_session.specs.script.State.{State}
 use Rattle.script_session.specs.script.Statement.{Answer}
-use Rattle.script_session.specs.script.Run.{RunStep, RunResult, output_of, errors_of, spent_of, after_step, after_reading}
+use Rattle.script_session.specs.script.Run.{RunStep, RunResult, output_of, errors_of, spent_of, least_peak, after_step, after_reading}
 use Rattle.script_session.specs.script_state.Reads.{count_after}
+use Rattle.script_session.specs.Session.{charge_of, peak_of}
+use Rattle.script_session.specs.declared.session.Session.{Session}
 use Rattle.script_run.specs.Ends.{Outside, Ends, Is}
 use Rattle.script_run.specs.declared.status.Status.{Status}
 
@@ -17,17 +19,34 @@ pub record Does (steps : List RunStep) (old new : Outside) : Type 0 where
   pub out_faults : old.out_faults ≤ new.out_faults
   pub err_faults : old.err_faults ≤ new.err_faults
 
+-- the charge and the peak so far
+pub record Tally : Type 0 where
+  pub charge : ℕ
+  pub peak : ℕ
+
+abbrev pub tally_of : Session → Tally
+tally_of s = record { charge = charge_of s; peak = peak_of s }
+
 -- these steps, and then the rest
 abbrev pub after_steps : List RunStep → RunResult → RunResult
 after_steps steps rest = record { steps = steps ++ rest.steps; ending = rest.ending }
 
--- the whole run is some steps, which were done, and then the rest
-abbrev pub ComesTo : RunResult → RunResult → Outside → Outside → Type 0
-ComesTo whole rest old new = (steps : List RunStep) × (whole ≡ after_steps steps rest) × Does steps old new
+-- The whole run is some steps, which were done, and then the rest. The charge is that of the steps, and no table that a name stood for after one of them has more rows than the peak.
+pub record ComesTo (whole rest : RunResult) (tally : Tally) (old new : Outside) : Type 0 where
+  pub steps : List RunStep
+  pub is : whole ≡ after_steps steps rest
+  pub does : Does steps old new
+  pub charge : tally.charge ≡ count_after 0 (spent_of steps).charge
+  pub least : least_peak steps ≤ tally.peak
 
--- the statement was done, and the run goes on from the new state
-abbrev pub GoesOn : Reading Answer → ℕ → State → Outside → Outside → Type 0
-GoesOn answer line state old new = (step : RunStep) × Does (step ∷ []) old new × ((go : State → RunResult) → after_reading answer line go ≡ after_step step (go state))
+-- The statement was done and added to the charge, and the run goes on from the new state. The peak has at least the rows of that state, and isn't lower.
+pub record GoesOn (answer : Reading Answer) (line : ℕ) (state : State) (before after : Tally) (old new : Outside) : Type 0 where
+  pub step : RunStep
+  pub does : Does (step ∷ []) old new
+  pub goes : (go : State → RunResult) → after_reading answer line go ≡ after_step step (go state)
+  pub charge : after.charge ≡ count_after before.charge step.spent.charge
+  pub rows : step.rows ≤ after.peak
+  pub peak : before.peak ≤ after.peak
 
 -- the run ends at the statement, whatever would have followed it
 abbrev pub Stops : Reading Answer → ℕ → Status → Outside → Outside → Type 0

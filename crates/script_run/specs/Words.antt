@@ -7,5 +7,5 @@ use Rattle.script_run.specs.declared.words.Asked.TheVariants.{Help, Wrong, Demo,
 abbrev pub asked_of : Found → Asked
 asked_of Help = fixed usage_help
 asked_of Wrong = fixed wrong_words
-asked_of (Demo orders) = fixed (demonstration orders)
-asked_of (Script path names) = script record { script = path.now; paths = paths_of names }
+asked_of (Demo stats orders) = fixed (demonstration stats orders)
+asked_of (Script stats path names) = script record { stats = stats; script = path.now; paths = paths_of names }

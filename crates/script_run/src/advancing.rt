@@ -9,10 +9,10 @@ ghost use Rattle.script_session.specs.script.Run.{line_about, warning_line};
 ghost use Rattle.script_session.specs.script.Statement.{statement_result};
 ghost use Rattle.script_tree.specs.View.{action_of};
 ghost use Rattle.script_session.specs.script_state.Reads.{files_in, paths_of};
-ghost use Rattle.script_session.specs.Session.{state_of};
+ghost use Rattle.script_session.specs.Session.{state_of, IsWithinCharge};
 ghost use Rattle.script_run.specs.Errors.{StatementsLeave, Warns};
 ghost use Rattle.script_run.specs.Ends.{outside, EndsWith};
-ghost use Rattle.script_run.specs.Steps.{GoesOn, Stops};
+ghost use Rattle.script_run.specs.Steps.{tally_of, GoesOn, Stops};
 
 use crate::ending::{end_with, say_unread};
 use crate::status::Status;
@@ -40,7 +40,7 @@ pub fn advance<F: Files, O: Sink, E: Sink>(
         OnOk result (IfSome (F.seen files.old).contents (λ held. GoesOn
         (statement_result (files_in names.now held) (state_of session.old)
         (action_of statement.now.action))
-        statement.now.line (state_of session.new)
+        statement.now.line (state_of session.new) (tally_of session.old) (tally_of session.new)
         (at files.old out.old err.old) (at files.new out.new err.new))) }
     ensures stops { let at = outside F.seen O.seen E.seen in
         IfErr result (λ status. IfSome (F.seen files.old).contents (λ held. Stops
@@ -49,6 +49,8 @@ pub fn advance<F: Files, O: Sink, E: Sink>(
         statement.now.line status
         (at files.old out.old err.old) (at files.new out.new err.new))) }
 
+    ensures within { OnOk result (IsWithinCharge session.old → IsWithinCharge session.new) }
+    ensures ends { IfErr result (λ status. status ≢ Status.Done) }
     ensures input { IfErr result (λ status. status ≡ Status.Input →
         HasRisen (F.seen files.old).faults (F.seen files.new).faults) }
     ensures output { IfErr result (λ status. status ≡ Status.Output →

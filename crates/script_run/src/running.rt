@@ -4,12 +4,14 @@ ghost use Rattle.outside_io.specs.Count.{HasRisen};
 ghost use Rattle.outside_io.specs.Files.{FilesValue};
 ghost use Rattle.outside_io.specs.Sink.{appended};
 ghost use Rattle.meaning_run.specs.Asked.{asked, IfFixed, IfScript};
-ghost use Rattle.meaning_run.specs.Result.{IsDemoResult, IsFixedResult, IsPathResult, IsRunResult};
+ghost use Rattle.meaning_run.specs.Result.{IsDemoResult, IsFixedResult, IsPathResult, IsRunResult, Stated};
 ghost use Rattle.meaning_run.specs.words.Demonstration.{orders_name};
 ghost use Rattle.script_session.specs.script.State.{no_names};
-ghost use Rattle.script_session.specs.script.Run.{not_found_line, statements_result, syntax_line, too_large_line, usage_line, IsScriptResult};
+ghost use Rattle.script_session.specs.script.Run.{not_found_line, stats_line, statements_result, syntax_line, too_large_line, usage_line, IsScriptResult};
 ghost use Rattle.script_tree.specs.ScriptView.{statements_of};
+ghost use Rattle.script_session.specs.Session.{charge_of, peak_of};
 ghost use Rattle.script_session.specs.script_state.Reads.{files_in, paths_of};
+ghost use Rattle.script_session.specs.script_state.laws.Paid.{HasPeak};
 ghost use Rattle.script_run.specs.Errors.{RunLeaves, StatementsLeave};
 ghost use Rattle.script_run.specs.Ends.{outside, Ends, EndsByMeaning, EndsWith, HasCause, Is};
 
@@ -20,7 +22,7 @@ use crate::words::{Asked, asked_in};
 use cell_core::{NoMemory, Words};
 use outside_io::{Files, ReadFault, Sink, read_whole};
 use script_demo::{DemoFiles, demo_script, orders_name};
-use script_faults::{line_of_absence, line_of_syntax};
+use script_faults::{line_of_absence, line_of_stats, line_of_syntax};
 use script_session::{FileNames, Session};
 use script_syntax::{ParseFault, Script, parse};
 use std::alloc::Global;
@@ -33,6 +35,10 @@ const MOST_BYTES: usize = 1 << 20;
 /// The words are read from left to right, and the first that asks for help or is wrong decides:
 ///
 /// - `--help`, and a word that begins with `-h`, asks for help: the usage line on `out`, with `Done`.
+/// - `--stats` is a flag, which stands once. With it a script and the demonstration end with one line more on `err`, where
+///   the status is `Done`: `peak P charge C`. P is the greatest number of cells that the blocks of all objects had after a
+///   statement, and C what the expressions and settings of the statements cost in cells. P is at most C, and at least the
+///   rows of each table with a column that a name stood for after a statement.
 /// - `--demo N` or `--demo=N` asks for the demonstration with N orders: a script and a file that are the program's own.
 ///   It stands once, has a value, and no plain word stands beside it. N is one to six digits, from 1 to 100,000.
 /// - Behind `--` each word is plain.
@@ -50,7 +56,8 @@ const MOST_BYTES: usize = 1 << 20;
 /// bytes are no script. `Input` comes only where a count of failed reads rose, `Output` only where a count of
 /// failed writes did.
 ///
-/// Where the files tell what they hold, the run has one result ([`one_result`](crate::one_result)). With
+/// Where the files tell what they hold, the run has one result ([`one_result`](crate::one_result)), in which the number P of
+/// `--stats` alone is left open within these bounds. With
 /// `Done`, `Fault`, `Usage` and `Syntax` its status is that of the result and all of it was written; with
 /// the others a front of it was. After a failed read that is all that the statements before it print, and
 /// then the line `input failed`, unless a write failed too. Where only a write on `err` failed, what the
@@ -59,7 +66,8 @@ const MOST_BYTES: usize = 1 << 20;
 ///
 /// Whatever the files tell, `err` gets by the end, where the words ask for a script:
 ///
-/// - `Done` and `Memory`: lines that warn of settings, or none, and nothing else;
+/// - `Done`: lines that warn of settings, or none, and with `--stats` its line; and nothing else;
+/// - `Memory`: lines that warn of settings, or none, and nothing else;
 /// - `Fault`: such lines, and then the line of a fault. Only where a count of absences rose may it be that
 ///   the file of a given name isn't there;
 /// - `Usage`: the line that the script isn't there; and a count of absences rose;
@@ -101,7 +109,7 @@ pub fn run<F: Files, O: Sink, E: Sink>(
 
     // What a script leaves on the errors, whatever the files tell.
     ensures errors { IfScript (asked (map string_bytes words.now.items)) (λ run.
-        RunLeaves run.paths (F.seen files.old).absences (F.seen files.new).absences
+        RunLeaves run.stats run.paths (F.seen files.old).absences (F.seen files.new).absences
         result (E.seen err.old).written (E.seen err.new).written) }
 
     // The causes of the other answers.
@@ -118,8 +126,10 @@ pub fn run<F: Files, O: Sink, E: Sink>(
     match asks {
         Asked::Help => end_usage(out, Status::Done),
         Asked::Wrong => end_usage(err, Status::Usage),
-        Asked::Demo(orders) => run_demo(alloc, orders, out, err),
-        Asked::Script(path, names) => run_file(alloc, path, &names, files, out, err),
+        Asked::Demo(stats, orders) => run_demo(alloc, stats, orders, out, err),
+        Asked::Script(stats, path, names) => {
+            run_file(alloc, stats, path, &names, files, out, err)
+        }
     }
 }
 
@@ -136,9 +146,16 @@ fn end_usage<S: Sink>(sink: &mut S, status: Status) -> Status
 }
 
 // Runs the demonstration with so many orders. Its file is its own, so any other files are left alone.
-fn run_demo<O: Sink, E: Sink>(alloc: Global, orders: u32, out: &mut O, err: &mut E) -> Status
+fn run_demo<O: Sink, E: Sink>(
+    alloc: Global,
+    stats: bool,
+    orders: u32,
+    out: &mut O,
+    err: &mut E,
+) -> Status
     ensures told { (files : FilesValue) → let at = outside (λ (f : FilesValue). f) O.seen E.seen in
-        Ends (IsDemoResult orders) result (at files out.old err.old) (at files out.new err.new) }
+        Ends (Stated stats (IsDemoResult orders)) result
+        (at files out.old err.old) (at files out.new err.new) }
     ensures cause { (files : FilesValue) → let at = outside (λ (f : FilesValue). f) O.seen E.seen in
         HasCause result (at files out.old err.old) (at files out.new err.new) }
 {
@@ -149,7 +166,7 @@ fn run_demo<O: Sink, E: Sink>(alloc: Global, orders: u32, out: &mut O, err: &mut
         return Status::Memory;
     };
     let script = demo_script().as_bytes();
-    run_bytes(alloc, script, &names, &mut files, out, err)
+    run_bytes(alloc, stats, script, &names, &mut files, out, err)
 }
 
 // The name of the demonstration's file, with its path.
@@ -167,6 +184,7 @@ fn demo_names(alloc: Global) -> Result<FileNames, NoMemory>
 #[tactic(auto, using(crate::proofs::Hints::run_file))]
 fn run_file<F: Files, O: Sink, E: Sink>(
     alloc: Global,
+    stats: bool,
     path: &str,
     names: &FileNames,
     files: &mut F,
@@ -175,10 +193,10 @@ fn run_file<F: Files, O: Sink, E: Sink>(
 ) -> Status
     ensures told { let at = outside F.seen O.seen E.seen in
         IfSome (F.seen files.old).contents (λ held.
-        Ends (IsPathResult record { script = path.now; paths = paths_of names.now } held) result
+        Ends (Stated stats (IsPathResult path.now (paths_of names.now) held)) result
         (at files.old out.old err.old) (at files.new out.new err.new)) }
 
-    ensures errors { RunLeaves (paths_of names.now)
+    ensures errors { RunLeaves stats (paths_of names.now)
         (F.seen files.old).absences (F.seen files.new).absences
         result (E.seen err.old).written (E.seen err.new).written }
     ensures usage { result ≡ Status.Usage →
@@ -188,7 +206,7 @@ fn run_file<F: Files, O: Sink, E: Sink>(
         HasCause result (at files.old out.old err.old) (at files.new out.new err.new) }
 {
     match read_whole(alloc, files, path, MOST_BYTES) {
-        Ok(bytes) => run_bytes(alloc, bytes.as_slice(), names, files, out, err),
+        Ok(bytes) => run_bytes(alloc, stats, bytes.as_slice(), names, files, out, err),
         Err(ReadFault::Absent) => end_absent(alloc, path, err),
         Err(ReadFault::TooLong) => end_too_large(err),
         Err(ReadFault::Failed) => {
@@ -231,6 +249,7 @@ fn end_syntax<E: Sink>(alloc: Global, line: u64, err: &mut E) -> Status
 #[tactic(auto, using(crate::proofs::Hints::run_bytes))]
 fn run_bytes<F: Files, O: Sink, E: Sink>(
     alloc: Global,
+    stats: bool,
     bytes: &[u8],
     names: &FileNames,
     files: &mut F,
@@ -239,10 +258,10 @@ fn run_bytes<F: Files, O: Sink, E: Sink>(
 ) -> Status
     ensures told { let at = outside F.seen O.seen E.seen in
         IfSome (F.seen files.old).contents (λ held.
-        Ends (IsScriptResult (files_in names.now held) bytes.now) result
+        Ends (Stated stats (IsScriptResult (files_in names.now held) bytes.now)) result
         (at files.old out.old err.old) (at files.new out.new err.new)) }
 
-    ensures errors { RunLeaves (paths_of names.now)
+    ensures errors { RunLeaves stats (paths_of names.now)
         (F.seen files.old).absences (F.seen files.new).absences
         result (E.seen err.old).written (E.seen err.new).written }
     ensures usage { result ≢ Status.Usage }
@@ -250,7 +269,7 @@ fn run_bytes<F: Files, O: Sink, E: Sink>(
         HasCause result (at files.old out.old err.old) (at files.new out.new err.new) }
 {
     match parse(alloc, bytes) {
-        Ok(script) => run_script(alloc, &script, names, files, out, err),
+        Ok(script) => run_script(alloc, stats, &script, names, files, out, err),
         Err(ParseFault::SyntaxAt(line)) => end_syntax(alloc, line, err),
         Err(ParseFault::TooLarge) => end_too_large(err),
         Err(ParseFault::NoMemory) => Status::Memory,
@@ -261,6 +280,7 @@ fn run_bytes<F: Files, O: Sink, E: Sink>(
 #[tactic(auto, using(crate::proofs::Hints::run_script))]
 fn run_script<F: Files, O: Sink, E: Sink>(
     alloc: Global,
+    stats: bool,
     script: &Script,
     names: &FileNames,
     files: &mut F,
@@ -269,13 +289,15 @@ fn run_script<F: Files, O: Sink, E: Sink>(
 ) -> Status
     ensures told { let at = outside F.seen O.seen E.seen in
         IfSome (F.seen files.old).contents (λ held.
-        Ends (Is (statements_result (files_in names.now held) no_names (statements_of script.now)))
-        result
+        let whole = statements_result (files_in names.now held) no_names
+        (statements_of script.now) in
+        HasPeak whole → Ends (Stated stats (Is whole)) result
         (at files.old out.old err.old) (at files.new out.new err.new)) }
 
-    ensures errors { StatementsLeave (paths_of names.now)
+    ensures errors { RunLeaves stats (paths_of names.now)
         (F.seen files.old).absences (F.seen files.new).absences
         result (E.seen err.old).written (E.seen err.new).written }
+    ensures usage { result ≢ Status.Usage }
     ensures cause { let at = outside F.seen O.seen E.seen in
         HasCause result (at files.old out.old err.old) (at files.new out.new err.new) }
 {
@@ -287,5 +309,19 @@ fn run_script<F: Files, O: Sink, E: Sink>(
             Err(status) => return status,
         }
     }
+    if stats {
+        return end_stats(alloc, &session, err);
+    }
     Status::Done
+}
+
+// Ends a run by the line of `--stats`.
+fn end_stats<E: Sink>(alloc: Global, session: &Session, err: &mut E) -> Status
+    ensures { EndsWith (stats_line (peak_of session.now) (charge_of session.now)) Status.Done result
+        (E.seen err.old) (E.seen err.new) }
+{
+    match line_of_stats(alloc, session.peak(), session.charge()) {
+        Ok(line) => end_with(err, Status::Done, line.as_str()),
+        Err(_) => Status::Memory,
+    }
 }

@@ -17,10 +17,10 @@ pub(crate) enum Asked<'a> {
     Help,
     /// Nothing, since they are wrong.
     Wrong,
-    /// The demonstration with so many orders.
-    Demo(u32),
-    /// The script under a path, for which files have names.
-    Script(&'a str, FileNames),
+    /// The demonstration with so many orders, and whether with `--stats`.
+    Demo(bool, u32),
+    /// The script under a path, for which files have names, and whether with `--stats`.
+    Script(bool, &'a str, FileNames),
 }
 
 /// Why words give no names of files.
@@ -50,37 +50,42 @@ pub(crate) fn asked_in(alloc: Global, words: &[String]) -> Result<Asked<'_>, NoM
     match read_words(alloc, words)? {
         WordsRead::Help => Ok(Asked::Help),
         WordsRead::Wrong => Ok(Asked::Wrong),
-        WordsRead::Words { demo, plain } => asked_by(alloc, demo, &plain),
+        WordsRead::Words { stats, demo, plain } => asked_by(alloc, stats, demo, &plain),
     }
 }
 
 // What the value of `--demo` and the plain words ask for.
-fn asked_by<'a>(alloc: Global, demo: Option<&str>, plain: &[&'a str]) -> Result<Asked<'a>, NoMemory>
+fn asked_by<'a>(
+    alloc: Global,
+    stats: bool,
+    demo: Option<&str>,
+    plain: &[&'a str],
+) -> Result<Asked<'a>, NoMemory>
     ensures { IfOk result (λ asks. asked_of asks ≡
-        of_words (option_map (λ value. value.now) demo.entry) (map (λ word. word.now) plain.now)) }
+        of_words stats (option_map (λ value. value.now) demo.entry) (map (λ word. word.now) plain.now)) }
 {
     match demo {
-        Some(value) => Ok(demo_asked(value, plain)),
-        None => script_asked(alloc, plain),
+        Some(value) => Ok(demo_asked(stats, value, plain)),
+        None => script_asked(alloc, stats, plain),
     }
 }
 
 // The demonstration, beside which no plain word stands.
-fn demo_asked<'a>(value: &str, plain: &[&'a str]) -> Asked<'a>
-    ensures { asked_of result ≡ of_words (Some value.now) (map (λ word. word.now) plain.now) }
+fn demo_asked<'a>(stats: bool, value: &str, plain: &[&'a str]) -> Asked<'a>
+    ensures { asked_of result ≡ of_words stats (Some value.now) (map (λ word. word.now) plain.now) }
 {
     if !plain.is_empty() {
         return Asked::Wrong;
     }
     match demo_size(value) {
-        Some(orders) => Asked::Demo(orders),
+        Some(orders) => Asked::Demo(stats, orders),
         None => Asked::Wrong,
     }
 }
 
 // The script under the first word, with the names in the others.
-fn script_asked<'a>(alloc: Global, plain: &[&'a str]) -> Result<Asked<'a>, NoMemory>
-    ensures { IfOk result (λ asks. asked_of asks ≡ of_plain (map (λ word. word.now) plain.now)) }
+fn script_asked<'a>(alloc: Global, stats: bool, plain: &[&'a str]) -> Result<Asked<'a>, NoMemory>
+    ensures { IfOk result (λ asks. asked_of asks ≡ of_plain stats (map (λ word. word.now) plain.now)) }
 {
     let [path, more @ ..] = plain else {
         return Ok(Asked::Wrong);
@@ -89,7 +94,7 @@ fn script_asked<'a>(alloc: Global, plain: &[&'a str]) -> Result<Asked<'a>, NoMem
         return Ok(Asked::Wrong);
     }
     match names_in(alloc, more) {
-        Ok(names) => Ok(Asked::Script(*path, names)),
+        Ok(names) => Ok(Asked::Script(stats, *path, names)),
         Err(NamesFault::Wrong) => Ok(Asked::Wrong),
         Err(NamesFault::NoMemory) => Err(NoMemory),
     }

@@ -1,6 +1,6 @@
 -- Lists whose parts are evaluated one after the other.
 use Rattle.{
-  script_state.{proofs.{cells.Common.{arith, ◌≡◌, ℕ, zero, suc, ◌+◌, ◌≤◌, List, [], ◌∷◌, Some, drop, length, slice_get, ◌∙◌, refl, sym, Result, Ok, Err, IsErrAnd, Contents, FaultValue}, Rides.{serves_self, serves_both, goes_same, goes_by, goes_to, ahead, joined, loop_next, loop_fault, loop_end}, States.{state_kept}, Worlds.{keeps_both, keeps_same}, laws.SpentLaws.{sum-nothing}}, specs.{script.{Spent.{Spent}, Reading.{Files, Reads, gives}, State.{State}}, Evaluates.{Moment, Evaluates}, Reads.{Goes, files_in}, Work.{names_in, world_of, state_in}, declared.{file_names.FileName.{FileName}, fault.EvalFault.{EvalFault}, work.Work.{Work}}}},
+  script_state.{proofs.{cells.Common.{arith, ◌≡◌, ℕ, zero, suc, ◌+◌, ◌≤◌, List, [], ◌∷◌, Some, drop, length, slice_get, ◌∙◌, refl, sym, ap, Result, Ok, Err, IsErrAnd, Contents, FaultValue}, Rides.{serves_self, serves_both, pays_same, pays_by, pays_to, ahead, joined, loop_next, loop_fault, loop_end}, States.{state_kept}, Worlds.{keeps_both, keeps_same}, laws.SpentLaws.{sum-nothing}}, specs.{script.{Spent.{Spent}, Reading.{Files, Reads, gives}, State.{State}}, Evaluates.{Moment, meter_of, Evaluates}, Reads.{Pays, files_in}, Work.{names_in, world_of, state_in}, declared.{file_names.FileName.{FileName}, fault.EvalFault.{EvalFault}, work.Work.{Work}}}},
   std.proofs.Common.{drop_of_length-le},
   outside_io.specs.Files.{Serves},
   frame_store.specs.World.{World, Keeps},
@@ -16,7 +16,7 @@ pub record Gathers {X L : Type 0} (paths : List FileName) (join : L → L → L)
   pub names : names_in new.work ≡ names_in old.work
   pub kept : Keeps (world_of old.work) (world_of new.work)
   pub serves : Serves old.files new.files
-  pub seen : (held : Contents) → Goes held old.files new.files (read (files_in paths held) (state_in old.work) xs) (joined join so_far (read (files_in paths held) (state_in old.work) (drop i xs)))
+  pub seen : (held : Contents) → Pays held (meter_of old) (meter_of new) (read (files_in paths held) (state_in old.work) xs) (joined join so_far (read (files_in paths held) (state_in old.work) (drop i xs)))
 
 -- a list from a place on is the item there and the rest
 drop_item : {X : Type 0} (xs : List X) (i : ℕ) (x : X) → slice_get xs i ≡ Some x → drop i xs ≡ x ∷ drop (i + 1) xs
@@ -37,21 +37,26 @@ gathers_first {join = join} {so_far} {read} {paths} {xs} {at} law =
       names = refl;
       kept = keeps_same _ _ refl;
       serves = serves_self _;
-      seen = λ held. let whole = read (files_in paths held) (state_in at.work) xs in goes_same (sym (joined_at join so_far law whole.spent whole.answer));
+      seen = λ held. let whole = read (files_in paths held) (state_in at.work) xs in pays_same refl (sym (joined_at join so_far law whole.spent whole.answer));
     }
 
 module _ {X G L : Type 0} {read : Files → State → List X → Reads L} {part : Files → State → X → Reads G} {cons : X → G → L → L} {end : L} (reads : ReadsParts read part cons end) {paths : List FileName} {join : L → L → L} {xs : List X} {i : ℕ} where
   -- all parts are there
   pub gathered : {V : Type 0} {known : Work → V → Type 0} {view : World → V → L} {old new : Moment} {v : V} → Gathers paths join read xs i (view (world_of new.work) v) old new → length xs ≤ i → join (view (world_of new.work) v) end ≡ view (world_of new.work) v → known new.work v
       → Evaluates paths known view (λ files s. read files s xs) old new (Ok v)
-  gathered {known = known} {view} {old} {new} {v} = grind (arith, loop_end, reads.none, drop_of_length-le)
+  gathered {view = view} {old} {new} {v} inv within law is =
+      let rest_is : (files : Files) → read files (state_in old.work) (drop i xs) ≡ gives end = λ files. ap (read files (state_in old.work)) (drop_of_length-le xs within) ∙ reads.none files (state_in old.work) in
+      record { names = inv.names; kept = inv.kept; serves = inv.serves; reads = λ held. loop_end join join (read (files_in paths held) (state_in old.work) (drop i xs)) end (view (world_of new.work) v) (inv.seen held) (rest_is (files_in paths held)) law; found = is }
 
   module _ {so_far : L} {old mid : Moment} (inv : Gathers paths join read xs i so_far old mid) {x : X} (at : slice_get xs i ≡ Some x) where
     before : (files : Files) → part files (state_in old.work) x ≡ part files (state_in mid.work) x
     before = grind (arith, state_kept)
 
-    seen_as : (held : Contents) → let files = files_in paths held in let s = state_in old.work in Goes held old.files mid.files (read files s xs) (joined join so_far (ahead (cons x) (part files s x) (read files s (drop (i + 1) xs))))
-    seen_as = grind (arith, goes_to, joined, reads.more, drop_item)
+    more_is : (files : Files) → read files (state_in old.work) (drop i xs) ≡ ahead (cons x) (part files (state_in old.work) x) (read files (state_in old.work) (drop (i + 1) xs))
+    more_is files = ap (read files (state_in old.work)) (drop_item xs i x at) ∙ reads.more files (state_in old.work) x (drop (i + 1) xs)
+
+    seen_as : (held : Contents) → let files = files_in paths held in let s = state_in old.work in Pays held (meter_of old) (meter_of mid) (read files s xs) (joined join so_far (ahead (cons x) (part files s x) (read files s (drop (i + 1) xs))))
+    seen_as held = pays_to (inv.seen held) (ap (λ r. joined join so_far r) (more_is (files_in paths held)))
 
     module _ {V : Type 0} {known : Work → V → Type 0} {view : World → V → G} {new : Moment} where
       -- one part more
@@ -61,7 +66,7 @@ module _ {X G L : Type 0} {read : Files → State → List X → Reads L} {part 
             names = y.names ∙ inv.names;
             kept = search keeps_both;
             serves = serves_both inv.serves y.serves;
-            seen = λ held. loop_next (cons x) join inv.serves _ _ _ (seen_as held) (view (world_of new.work) v) _ (goes_by (before _) (y.reads held)) law;
+            seen = λ held. loop_next (cons x) join inv.serves _ _ _ (seen_as held) (view (world_of new.work) v) _ (pays_by (before _) (y.reads held)) law;
           }
 
       -- a part halts
@@ -73,6 +78,6 @@ module _ {X G L : Type 0} {read : Files → State → List X → Reads L} {part 
             names = y.names ∙ inv.names;
             kept = search keeps_both;
             serves = serves_both inv.serves y.serves;
-            reads = λ held. rw same (loop_fault _ _ _ (cons x) join inv.serves _ _ so_far (seen_as held) f (rw (before (files_in paths held)) (y.reads held)));
+            reads = λ held. rw same (loop_fault _ _ _ (cons x) join inv.serves _ _ so_far (seen_as held).goes f (rw (before (files_in paths held)) (y.reads held)));
             found = tt;
           }

@@ -12,8 +12,8 @@ use Rattle.outside_io.specs.Files.{FilesValue, Serves}
 use Rattle.script_state.specs.script.Reading.{Files, Reading, at_once}
 use Rattle.script_state.specs.script.State.{State}
 use Rattle.script_state.specs.script.Statement.{Answer, done, refused, statement_result}
-use Rattle.script_state.specs.Evaluates.{Moment}
-use Rattle.script_state.specs.Reads.{Goes, Stuck, Spends, IsCaused, absent_name, files_in}
+use Rattle.script_state.specs.Evaluates.{Moment, meter_of}
+use Rattle.script_state.specs.Reads.{Goes, Meter, Pays, Stuck, Spends, IsCaused, absent_name, files_in}
 use Rattle.script_state.specs.Work.{names_in, world_of, state_in}
 use Rattle.script_state.specs.declared.file_names.FileName.{FileName}
 use Rattle.script_state.specs.declared.fault.EvalFault.{EvalFault}
@@ -40,13 +40,13 @@ IsStepFault texts files old new answer Input = Stuck files.held old new answer
 IsStepFault texts files old new answer NoMemory = Spends files.held old new answer
 
 -- what a statement answers: its outcome, after which the names stand for this state, or why it wasn't done
-abbrev pub Performs : State → List Text → Files → FilesValue → FilesValue → Reading Answer → Result Outcome StepFault → Type 0
-Performs s texts files old new answer (Ok o) = Goes files.held old new answer (at_once (done s o.printed o.warned))
-Performs s texts files old new answer (Err fault) = IsStepFault texts files old new answer fault
+abbrev pub Performs : State → List Text → Files → Meter → Meter → Reading Answer → Result Outcome StepFault → Type 0
+Performs s texts files old new answer (Ok o) = Pays files.held old new answer (at_once (done s o.printed o.warned))
+Performs s texts files old new answer (Err fault) = IsStepFault texts files old.files new.files answer fault
 
 -- What a statement does, with the files that it reads. Where it is refused the names stay, and what was live. Texts keep their numbers in any case.
 pub record Answers (paths : List FileName) (meant : Files → State → Reading Answer) (old new : Moment) (result : Result Outcome StepFault) : Type 0 where
-  pub answers : (held : Contents) → Performs (state_in new.work) (world_of new.work).texts (files_in paths held) old.files new.files (meant (files_in paths held) (state_in old.work)) result
+  pub answers : (held : Contents) → Performs (state_in new.work) (world_of new.work).texts (files_in paths held) (meter_of old) (meter_of new) (meant (files_in paths held) (state_in old.work)) result
   pub serves : Serves old.files new.files
   pub names : OnErr result (names_in new.work ≡ names_in old.work)
   pub kept : OnErr result (Keeps (world_of old.work) (world_of new.work))

@@ -4,10 +4,10 @@ use Rattle.std.specs.Borrow.{Bor}
 use Rattle.script_state.specs.cells.Text.{Text}
 use Rattle.script_state.specs.tables.Value.{Entry, Given, NamedGiven}
 use Rattle.script_state.specs.language.Tree.{parts}
-use Rattle.script_state.specs.method.Calls.{has_method, ChainValue, grouped, rolling, expanding, call_result}
-use Rattle.script_state.specs.script.Reading.{Files, Reads, at_once, then_read}
+use Rattle.script_state.specs.method.Calls.{has_method, ChainValue, grouped, rolling, expanding}
+use Rattle.script_state.specs.script.Reading.{Files, Reads, then_read}
 use Rattle.script_state.specs.script.State.{State}
-use Rattle.script_state.specs.script.Expression.{where_named, named_of, brackets_of}
+use Rattle.script_state.specs.script.Expression.{called, where_named, named_of, brackets_of}
 use Rattle.script_tree.specs.View.{named_parts_of, optional_arg}
 use Rattle.frame_store.specs.declared.arguments.Argument.{Argument}
 use Rattle.frame_store.specs.declared.arguments.Named.{Named}
@@ -36,7 +36,7 @@ chain_meant Expanding args by name = expanding args name
 
 -- what follows the arguments of the link, and what follows the brackets
 abbrev pub after_brackets : Files → State → Entry → Linked → List NamedGiven → Option Given → Reads Entry
-after_brackets files s v call g h = then_read (named_of files s (parts (named_parts_of call.more.now))) (λ gs. at_once (call_result v (chain_meant call.link g h call.name.now) gs))
+after_brackets files s v call g h = then_read (named_of files s (parts (named_parts_of call.more.now))) (called v (chain_meant call.link g h call.name.now))
 
 abbrev pub after_link : Files → State → Entry → Linked → List NamedGiven → Reads Entry
 after_link files s v call g = then_read (brackets_of files s (optional_arg call.by.now)) (after_brackets files s v call g)

@@ -2,7 +2,9 @@ pub mod Bindings
 pub mod Worlds
 pub mod States
 pub mod UseLaws
+pub mod PeakLaws
 pub mod Rides
+pub mod ChargeLaws
 pub mod Fetching
 pub mod Printed
 pub mod Validity

@@ -1,9 +1,9 @@
 -- What changes of names, objects and texts do to the state, and the names of objects.
 use Rattle.{
-  frame_calls.proofs.frame_parts.Common.{arith, ◌≡◌, nat_eq, Option, Some, ◌↔◌, ℕ, zero, suc, Bool, true, false, List, [], ◌∷◌, None, IsSome, refl, sym, ◌∙◌, subst, string_bytes, slice_get, if◌then◌else◌, Result, Ok, IfOk, String, string_eq, IsDistinct, keys_of, Text, FaultValue, Value, Object, Scalar, ObjId, OpFault, World, entry_in, IsSettledWorld, Keeps, IsKnownValue, objects_of, Forms, Tables, Entry},
+  frame_calls.proofs.frame_parts.Common.{arith, ◌≡◌, nat_eq, Option, Some, ◌↔◌, ℕ, zero, suc, Bool, true, false, List, [], ◌∷◌, None, IsSome, refl, sym, ◌∙◌, subst, string_bytes, slice_get, if◌then◌else◌, Result, Ok, IfOk, String, string_eq, IsDistinct, keys_of, Text, FaultValue, Value, Object, Scalar, ObjId, OpFault, World, entry_in, IsSettledWorld, Keeps, IsKnownValue, objects_of, FormsFor, Tables, Entry},
   std.{proofs.lemmas.Map.Entries.{lookup_from_place}, specs.String.{string_eq_equiv}},
-  meaning_laws.specs.script.{State.{State}, Statement.{with_value}},
-  script_state.{specs.{Bindings.{Bindings, bound, value_at, state_over, AreLive, AreGiven, KeepNamed, IsOf, bindings_of, is_named, is_object, AreNamed}, Work.{names_in, world_of, state_in}, declared.work.Work.{Work}}, proofs.{Bindings.{nat_same, nat_eq_self, names-bound, value_at-bound, named_object, some_none, value_at-bindings_of}, Worlds.{object_known, some_shown, none_shown}}},
+  meaning_laws.specs.script.{State.{State, without_name}, Statement.{with_value}},
+  script_state.{specs.{Bindings.{Bindings, bound, unbound, value_at, state_over, AreLive, AreGiven, KeepNamed, IsOf, bindings_of, is_named, is_object, AreNamed}, Work.{names_in, world_of, state_in}, declared.work.Work.{Work}}, proofs.{Bindings.{nat_same, nat_eq_self, names-bound, value_at-bound, names-unbound, value_at-unbound, named_object, some_none, value_at-bindings_of}, Worlds.{object_known, some_shown, none_shown}}},
 }
 
 -- two states that answer alike are one
@@ -26,6 +26,10 @@ state_swept = grind (arith, same_state, named_object)
 -- a name that gets the value of an expression
 pub bind_state : (bs : Bindings) (x : Text) (o : Option Text) (v : Value) (w : World) → IsOf bs o v → state_over (bound bs x v) w ≡ with_value (state_over bs w) x o (entry_in w v)
 bind_state = grind (arith, value_at-bound, nat_eq_self, same_state, names-bound, nat_eq, named_object, nat_same)
+
+-- a name that is taken out
+pub state_unbound : {Y : Type 0} (es : List (String Y × Value)) → IsDistinct string_eq (keys_of es) → (x : Text) (w : World) → state_over (unbound (bindings_of es) x) w ≡ without_name (state_over (bindings_of es) w) x
+state_unbound es distinct x w = grind (arith, same_state, names-unbound es distinct x, value_at-unbound es distinct x)
 
 -- A name stands for each object that is named.
 -- an entry of an object that is named
@@ -59,9 +63,9 @@ module _ {Y : Type 0} (es : List (String Y × Value)) (unique : IsDistinct strin
       go false _ = refl
 
   -- and so for none that a form makes
-  pub form_unnamed : (bs : Bindings) (r : Result Value OpFault) (meant : Result Entry FaultValue) (old new : World) → bs ≡ bindings_of es → AreLive (bindings_of es) old.tables → Forms r meant old new → IfOk r (λ v. IsOf bs None v)
-  form_unnamed _ r meant old new same live answers = subst (λ b. IfOk r (λ v. IsOf b None v)) (sym same) (go r answers)
+  pub form_unnamed : (bs : Bindings) (charge : Entry → ℕ) (r : Result Value OpFault) (meant : Result Entry FaultValue) (old new : World) → bs ≡ bindings_of es → AreLive (bindings_of es) old.tables → FormsFor charge r meant old new → IfOk r (λ v. IsOf bs None v)
+  form_unnamed _ charge r meant old new same live answers = subst (λ b. IfOk r (λ v. IsOf b None v)) (sym same) (go r answers)
     where
-      go : (r : Result Value OpFault) → Forms r meant old new → IfOk r (λ v. IsOf (bindings_of es) None v)
+      go : (r : Result Value OpFault) → FormsFor charge r meant old new → IfOk r (λ v. IsOf (bindings_of es) None v)
       go (Ok (Object id)) answers = search (unnamed, none_shown)
       go _ _ = tt

@@ -1,6 +1,6 @@
 -- The tables of live objects stay valid, also where an object ends that no name stands for.
 use Rattle.{
-  frame_calls.proofs.frame_parts.Common.{arith, ◌≡◌, ℕ, Bool, true, false, nat_eq, List, Option, Some, None, refl, sym, subst, IsSome, All-nil, if◌then◌else◌, ⊤, Result, Ok, Err, IfOk, IfSome, [], ◌∷◌, All, IsLonger, Text, FaultValue, IsSettled, NumberedTable, Table, table_value, Entry, scalar_in, Tables, with_object, argument_of, IsLive, IsLiveArgument, item_of, items_of, IsLiveItem, AreLiveItems, AreLive as AreLiveArguments, ObjId, Argument, One, Many, Value, Object, Scalar, Item, Row' as RowItem', Named, OpFault, Refused, NoMemory, Shown, shown, with_shown, table_in, World, IsSettledWorld, objects_of, entry_in, Forms, Sets, arguments_in, AreKnownArguments, seen_later},
+  frame_calls.proofs.frame_parts.Common.{arith, ◌≡◌, ℕ, Bool, true, false, nat_eq, List, Option, Some, None, refl, sym, subst, IsSome, All-nil, if◌then◌else◌, ⊤, Result, Ok, Err, IfOk, IfSome, [], ◌∷◌, All, IsLonger, Text, FaultValue, IsSettled, NumberedTable, Table, table_value, Entry, scalar_in, Tables, with_object, entry_of, argument_of, arguments_of, IsLive, IsLiveArgument, item_of, items_of, IsLiveItem, AreLiveItems, AreLive as AreLiveArguments, ObjId, Argument, One, Many, Value, Object, Scalar, Item, Row' as RowItem', Named, OpFault, Refused, NoMemory, Shown, shown, with_shown, table_in, World, IsSettledWorld, objects_of, FormsFor, SetsFor, seen_later},
   meaning_laws.{proofs.{cells.Common.{option_map}, ArgumentLaws.{more_valid}}, specs.{tables.Valid.{IsValid}, Validity.{IsHeldCell, IsValidObject, IsValidEntry, IsValidGiven, AreValid, IsValidArgument, AreValidArguments}, method.Concat.{tables_of}}},
   frame_store.specs.{declared.arguments.Item.{One as OneItem}, Shown.{spent}},
   script_state.{specs.{Bindings.{Bindings, released, noted, AreNamed, KeepNamed, AreLive, AreGiven, AreNoted, is_named, state_over}, Work.{names_in, world_of, IsUnnamedValue}, declared.work.Work.{Work}}, proofs.{Worlds.{made_noted, form_keeps, live_after, given_after, noted_after}, Bindings.{nat_same, kept_ended}, States.{state_swept}}},
@@ -21,36 +21,33 @@ each = grind arith
 are_valid : (objects : Shown) → Each objects → AreValid objects
 are_valid = grind arith
 
-pub object_valid : (w : World) (v : Value) → AreValid (objects_of w) → IsLive w.tables v → IsValidObject (entry_in w v)
-object_valid w (Object id) valid live = grind (arith, each _ valid id.0)
-object_valid w (Scalar c) _ _ = tt
+pub object_valid : (texts : List Text) (tables : Tables) (v : Value) → AreValid (shown texts tables) → IsLive tables v → IsValidObject (entry_of tables texts v)
+object_valid texts tables (Object id) valid live = grind (arith, each _ valid id.0)
+object_valid texts tables (Scalar c) _ _ = tt
 
 -- a live argument whose scalar a column can hold
-pub argument_valid : (w : World) (a : Argument) → AreValid (objects_of w) → IsLiveArgument w.tables a → IfSome (scalar_in (argument_of w.tables w.texts a)) IsHeldCell → IsValidGiven (argument_of w.tables w.texts a)
-argument_valid w (One (Object id)) valid live held = search object_valid
-argument_valid w (One (Scalar c)) _ _ held = held
-argument_valid w _ _ _ _ = tt
+pub argument_valid : (texts : List Text) (tables : Tables) (a : Argument) → AreValid (shown texts tables) → IsLiveArgument tables a → IfSome (scalar_in (argument_of tables texts a)) IsHeldCell → IsValidGiven (argument_of tables texts a)
+argument_valid texts tables (One (Object id)) valid live held = search object_valid
+argument_valid texts tables (One (Scalar c)) _ _ held = held
+argument_valid texts tables _ _ _ _ = tt
 
 -- the tables in live arguments are valid
-item_valid : (w : World) (item : Item) → AreValid (objects_of w) → IsLiveItem w.tables item → IsValidArgument (item_of w.tables w.texts item)
-item_valid w (OneItem v) valid live = object_valid w v valid live
-item_valid w (RowItem' shape row) _ _ = tt
+item_valid : (texts : List Text) (tables : Tables) (item : Item) → AreValid (shown texts tables) → IsLiveItem tables item → IsValidArgument (item_of tables texts item)
+item_valid texts tables (OneItem v) valid live = object_valid texts tables v valid live
+item_valid texts tables (RowItem' shape row) _ _ = tt
 
-items_valid : (w : World) (items : List Item) → AreValid (objects_of w) → AreLiveItems w.tables items → All IsValid (tables_of (items_of w.tables w.texts items))
-items_valid w [] _ _ = All-nil IsValid
-items_valid w (item ∷ rest) valid live = search (more_valid, item_valid, items_valid w rest valid live.1)
+items_valid : (texts : List Text) (tables : Tables) (items : List Item) → AreValid (shown texts tables) → AreLiveItems tables items → All IsValid (tables_of (items_of tables texts items))
+items_valid texts tables [] _ _ = All-nil IsValid
+items_valid texts tables (item ∷ rest) valid live = search (more_valid, item_valid, items_valid texts tables rest valid live.1)
 
-tables_valid : (w : World) (a : Argument) → AreValid (objects_of w) → IsLiveArgument w.tables a → IsValidArgument (argument_of w.tables w.texts a)
-tables_valid w (One v) valid live = object_valid w v valid live
-tables_valid w (Many l) valid live = search items_valid
-tables_valid w _ _ _ = tt
+tables_valid : (texts : List Text) (tables : Tables) (a : Argument) → AreValid (shown texts tables) → IsLiveArgument tables a → IsValidArgument (argument_of tables texts a)
+tables_valid texts tables (One v) valid live = object_valid texts tables v valid live
+tables_valid texts tables (Many l) valid live = search items_valid
+tables_valid texts tables _ _ _ = tt
 
-live_valid : (w : World) (args : List Named) → AreValid (objects_of w) → AreLiveArguments w.tables args → AreValidArguments (arguments_in w args)
-live_valid w [] valid live = grind arith
-live_valid w (g ∷ rest) valid live = grind (arith, tables_valid, live_valid w rest valid live.1)
-
-pub arguments_valid : (w : World) (args : List Named) → AreValid (objects_of w) → AreKnownArguments w args → AreValidArguments (arguments_in w args)
-arguments_valid w _ valid known = search live_valid
+pub arguments_valid : (texts : List Text) (tables : Tables) (args : List Named) → AreValid (shown texts tables) → AreLiveArguments tables args → AreValidArguments (arguments_of tables texts args)
+arguments_valid texts tables [] valid live = grind arith
+arguments_valid texts tables (g ∷ rest) valid live = grind (arith, tables_valid, arguments_valid texts tables rest valid live.1)
 
 put_valid : (id : ℕ) (old new : Shown) → IsValid (table_in (new id)) → new ≡ with_shown old id (new id) → AreValid old → AreValid new
 put_valid id old new h put valid = are_valid _ (λ k. grind (arith, by, nat_eq))
@@ -60,22 +57,22 @@ put_valid id old new h put valid = are_valid _ (λ k. grind (arith, by, nat_eq))
     by k false = each _ valid k
 
 -- what a form makes is valid, and the others are as they were
-pub form_valid : (r : Result Value OpFault) (meant : Result Entry FaultValue) (old new : World) → Forms r meant old new → IfOk meant IsValidEntry → AreValid (objects_of old) → AreValid (objects_of new)
-form_valid (Ok (Object id)) _ _ _ h made valid = put_valid _ _ _ (subst (λ m. IfOk m IsValidEntry) h.0.0 made) h.0.1.2 valid
-form_valid (Ok (Scalar c)) _ _ _ h _ valid = subst AreValid (sym h.0.1.0) valid
-form_valid (Err (Refused code)) _ _ _ h _ valid = subst AreValid (sym h.0.1) valid
-form_valid (Err NoMemory) _ _ _ h _ valid = subst AreValid (sym h.0) valid
+pub form_valid : (charge : Entry → ℕ) (r : Result Value OpFault) (meant : Result Entry FaultValue) (old new : World) → FormsFor charge r meant old new → IfOk meant IsValidEntry → AreValid (objects_of old) → AreValid (objects_of new)
+form_valid _ (Ok (Object id)) _ _ _ h made valid = put_valid _ _ _ (subst (λ m. IfOk m IsValidEntry) h.0.0 made) h.0.1.2 valid
+form_valid _ (Ok (Scalar c)) _ _ _ h _ valid = subst AreValid (sym h.0.1.0) valid
+form_valid _ (Err (Refused code)) _ _ _ h _ valid = subst AreValid (sym h.0.1) valid
+form_valid _ (Err NoMemory) _ _ _ h _ valid = subst AreValid (sym h.0) valid
 
 -- a form leaves the work of a statement as it has to be, and what it makes is noted
-module _ (s : Work) (new : World) (r : Result Value OpFault) (meant : Result Entry FaultValue) (answers : Forms r meant (world_of s) new) (valid : IfOk meant IsValidEntry) where
+module _ (s : Work) (new : World) (charge : Entry → ℕ) (r : Result Value OpFault) (meant : Result Entry FaultValue) (answers : FormsFor charge r meant (world_of s) new) (valid : IfOk meant IsValidEntry) where
   stands : {ts : List ObjId} → ts ≡ made_noted s.temps.items r → Stands (names_in s) ts new
   stands is =
       record {
         settled = answers.2;
-        valid = form_valid _ _ _ _ answers valid s.valid;
-        live = live_after _ _ _ (form_keeps _ _ _ _ answers) s.live;
+        valid = form_valid charge _ _ _ _ answers valid s.valid;
+        live = live_after _ _ _ (form_keeps charge _ _ _ _ answers) s.live;
         given = given_after _ _ _ answers.1 s.given;
-        noted = rw is (noted_after (names_in s) s.temps.items r meant (world_of s) new answers s.noted);
+        noted = rw is (noted_after (names_in s) s.temps.items charge r meant (world_of s) new answers s.noted);
       }
 
   pub stands_made : {ts ts' : List ObjId} {v : Value} → r ≡ Ok v → ts' ≡ s.temps.items → ts ≡ noted ts' v → Stands (names_in s) ts new
@@ -84,11 +81,11 @@ module _ (s : Work) (new : World) (r : Result Value OpFault) (meant : Result Ent
   pub stands_refused : {ts : List ObjId} {f : OpFault} → r ≡ Err f → ts ≡ s.temps.items → Stands (names_in s) ts new
   stands_refused is same = stands (cc (is, same))
 
-pub set_valid : (r : Result ⊤ OpFault) (on : Value) (meant : Result Table FaultValue) (old new : World) → Sets r on meant old new → IfOk meant IsValid → AreValid (objects_of old) → AreValid (objects_of new)
-set_valid (Ok done) (Object id) _ _ _ h made valid = put_valid _ _ _ (subst (λ m. IfOk m IsValid) h.0.0 made) h.0.2 valid
-set_valid (Ok done) (Scalar c) _ _ _ h _ _ = absurd h.0
-set_valid (Err (Refused code)) _ _ _ _ h _ valid = subst AreValid (sym h.0.1) valid
-set_valid (Err NoMemory) _ _ _ _ h _ valid = subst AreValid (sym h.0) valid
+pub set_valid : (charge : Table → ℕ) (r : Result ⊤ OpFault) (on : Value) (meant : Result Table FaultValue) (old new : World) → SetsFor charge r on meant old new → IfOk meant IsValid → AreValid (objects_of old) → AreValid (objects_of new)
+set_valid _ (Ok done) (Object id) _ _ _ h made valid = put_valid _ _ _ (subst (λ m. IfOk m IsValid) h.0.0 made) h.0.2 valid
+set_valid _ (Ok done) (Scalar c) _ _ _ h _ _ = absurd h.0
+set_valid _ (Err (Refused code)) _ _ _ _ h _ valid = subst AreValid (sym h.0.1) valid
+set_valid _ (Err NoMemory) _ _ _ _ h _ valid = subst AreValid (sym h.0) valid
 
 -- further texts change no table
 pub longer_valid : (tables : Tables) (old new : List Text) → IsLonger old new → IsSettled shown old tables → AreValid (shown old tables) → AreValid (shown new tables)

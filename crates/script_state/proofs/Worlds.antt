@@ -1,7 +1,7 @@
 -- What forms do to the objects and the texts, and how values are seen then.
 use mathlib.Core.Former.{Count}
 use Rattle.{
-  frame_calls.proofs.frame_parts.Common.{arith, ◌≡◌, ℕ, List, [], ◌∷◌, refl, ap, IsSome, rules, ◌↔◌, Bool, true, false, nat_eq, ◌++◌, Option, None, sym, ◌∙◌, subst, if◌then◌else◌, ⊤, Result, Ok, Err, IfOk, IfSome, Label, Text, IsLonger, FaultValue, Tables, table_or, object_value, entry_of, item_of, items_row, items_of, argument_of, entries_of, arguments_of, subscript_of, IsLive, IsLiveItem, AreLiveItems, IsLiveArgument, AreLive as AreLiveArguments, ObjId, Value, Object, Scalar, Argument, One, Many, Item, Row' as RowItem', Row_of-Item, end_of-Item, more_of-Item, Named, Subscript, Key, OpFault, Refused, NoMemory, Shown, shown, with_shown, table_in, FormAnswers, World, objects_of, entry_in, argument_in, IsSettledWorld, Keeps, IsKnownValue, IsKnownArgument, Forms, Sets, settled_later, seen_later, longer_self, longer_twice, IsSettled, NumberedTable, Table, table_value, Entry},
+  frame_calls.proofs.frame_parts.Common.{arith, ◌≡◌, ℕ, List, [], ◌∷◌, refl, ap, IsSome, rules, ◌↔◌, Bool, true, false, nat_eq, ◌++◌, Option, None, sym, ◌∙◌, subst, if◌then◌else◌, ⊤, Result, Ok, Err, IfOk, IfSome, Label, Text, IsLonger, FaultValue, Tables, table_or, object_value, entry_of, item_of, items_row, items_of, argument_of, entries_of, arguments_of, subscript_of, IsLive, IsLiveItem, AreLiveItems, IsLiveArgument, AreLive as AreLiveArguments, ObjId, Value, Object, Scalar, Argument, One, Many, Item, Row' as RowItem', Row_of-Item, end_of-Item, more_of-Item, Named, Subscript, Key, OpFault, Refused, NoMemory, Shown, shown, with_shown, table_in, FormAnswers, Holding, World, objects_of, entry_in, argument_in, IsSettledWorld, Keeps, IsKnownValue, IsKnownArgument, FormsFor, SetsFor, settled_later, seen_later, longer_self, longer_twice, IsSettled, NumberedTable, Table, table_value, Entry},
   meaning_laws.proofs.cells.Common.{option_map},
   frame_store.specs.{Arguments.{entries_row, IsLiveRow, AreLiveEntries, AreLivePairs, IsLiveSubscript}, declared.arguments.{Argument.{Nothing, Row, Table', Row_of-Entries-pairs-2, end_of-Entries-pairs-2, more_of-Entries-pairs-2}, Item.{One as OneItem}, Subscript.TheVariants.{Span}}, Shown.{seen}, World.{IsKnown}},
   script_state.{specs.Bindings.{Bindings, is_named, contains, noted, AreLive, AreGiven, AreNoted}, proofs.Bindings.{nat_same, contains_last, contains_more}},
@@ -67,8 +67,9 @@ table_shown = grind arith
 pub keeps_same : (old new : World) → new ≡ old → Keeps old new
 keeps_same = search (rules, longer_self)
 
-pub longer_keeps : (tables : Tables) (old new : List Text) → IsLonger old new → IsSettled shown old tables → Keeps (record { tables = tables; texts = old }) (record { tables = tables; texts = new })
-longer_keeps tables old new longer settled = record { objects = λ id live. cc (seen_later shown old new tables longer settled); texts = longer }
+pub longer_keeps : (tables : Tables) (holding : Holding) (old new : List Text) → IsLonger old new → IsSettled shown old tables
+    → Keeps (record { tables = tables; texts = old; holding = holding }) (record { tables = tables; texts = new; holding = holding })
+longer_keeps tables holding old new longer settled = record { objects = λ id live. cc (seen_later shown old new tables longer settled); texts = longer }
 
 pub live_kept : (old new : World) → Keeps old new → (id : ℕ) → IsSome (old.tables id) → IsSome (new.tables id)
 live_kept = grind (arith, some_shown, shown_some)
@@ -139,8 +140,8 @@ module _ (old new : World) (settled : IsSettledWorld old) (settled' : IsSettledW
 grew_keeps : (id : ObjId) (old new : Shown) → old id.0 ≡ None → new ≡ with_shown old id.0 (new id.0) → (k : ℕ) → IsSome (old k) → new k ≡ old k
 grew_keeps = grind (arith, nat_eq, nat_same)
 
-pub form_keeps : (r : Result Value OpFault) (meant : Result Entry FaultValue) (old new : World) → Forms r meant old new → Keeps old new
-form_keeps r meant old new answers = record { objects = go r answers.0; texts = answers.1 }
+pub form_keeps : (charge : Entry → ℕ) (r : Result Value OpFault) (meant : Result Entry FaultValue) (old new : World) → FormsFor charge r meant old new → Keeps old new
+form_keeps charge r meant old new answers = record { objects = go r answers.0; texts = answers.1 }
   where
     go : (r : Result Value OpFault) → FormAnswers new.texts r meant (objects_of old) (objects_of new) → (id : ℕ) → IsSome (old.tables id) → objects_of new id ≡ objects_of old id
     go (Ok (Object o)) a id live = grew_keeps o _ _ a.1.0 a.1.2 id (shown_some old id live)
@@ -160,7 +161,7 @@ object_known w id settled live =
     }
 
 -- and so is what a form answers
-pub form_known : (r : Result Value OpFault) (meant : Result Entry FaultValue) (old new : World) → IsSettledWorld new → Forms r meant old new → IfOk r (λ v. IsKnownValue new v)
+pub form_known : (charge : Entry → ℕ) (r : Result Value OpFault) (meant : Result Entry FaultValue) (old new : World) → IsSettledWorld new → FormsFor charge r meant old new → IfOk r (λ v. IsKnownValue new v)
 form_known = grind (arith, object_known, some_shown)
 
 -- invariants after a form
@@ -171,8 +172,8 @@ abbrev pub made_noted : List ObjId → Result Value OpFault → List ObjId
 made_noted ts (Ok v) = noted ts v
 made_noted ts (Err f) = ts
 
-pub noted_after : (bs : Bindings) (ts : List ObjId) (r : Result Value OpFault) (meant : Result Entry FaultValue) (old new : World) → Forms r meant old new → AreNoted bs ts old.tables → AreNoted bs (made_noted ts r) new.tables
-noted_after bs ts r meant old new answers have = go r answers.0
+pub noted_after : (bs : Bindings) (ts : List ObjId) (charge : Entry → ℕ) (r : Result Value OpFault) (meant : Result Entry FaultValue) (old new : World) → FormsFor charge r meant old new → AreNoted bs ts old.tables → AreNoted bs (made_noted ts r) new.tables
+noted_after bs ts charge r meant old new answers have = go r answers.0
   where
     same : objects_of new ≡ objects_of old → AreNoted bs ts new.tables
     same e id live = have id (some_shown old id (subst (λ f. IsSome (f id)) e (shown_some new id live)))
@@ -200,16 +201,16 @@ module _ (old new : World) where
   set_table : (o : ObjId) → objects_of new ≡ with_shown (objects_of old) o.0 (objects_of new o.0) → (id : ℕ) → nat_eq o.0 id ≡ false → objects_of new id ≡ objects_of old id
   set_table o put id other = ap (λ f. f id) put ∙ ap (λ b. if b then objects_of new o.0 else objects_of old id) other
 
-  module _ (r : Result ⊤ OpFault) (on : Value) (meant : Result Table FaultValue) (there : IsLive old.tables on) (sets : Sets r on meant old new) where
+  module _ (r : Result ⊤ OpFault) (on : Value) (charge : Table → ℕ) (meant : Result Table FaultValue) (there : IsLive old.tables on) (sets : SetsFor charge r on meant old new) where
     -- the same objects are live
     set_shown : (id : ℕ) → IsSome (objects_of new id) ↔ IsSome (objects_of old id)
     set_shown id = go r on there sets
       where
-        at : (o : ObjId) → IsLive old.tables (Object o) → Sets (Ok tt) (Object o) meant old new → (b : Bool) → nat_eq o.0 id ≡ b → IsSome (objects_of new id) ↔ IsSome (objects_of old id)
+        at : (o : ObjId) → IsLive old.tables (Object o) → SetsFor charge (Ok tt) (Object o) meant old new → (b : Bool) → nat_eq o.0 id ≡ b → IsSome (objects_of new id) ↔ IsSome (objects_of old id)
         at o there sets true same = grind (arith, nat_same, shown_some)
         at o there sets false other = alike _ _ (set_table o sets.0.2 id other)
 
-        go : (r : Result ⊤ OpFault) (on : Value) → IsLive old.tables on → Sets r on meant old new → IsSome (objects_of new id) ↔ IsSome (objects_of old id)
+        go : (r : Result ⊤ OpFault) (on : Value) → IsLive old.tables on → SetsFor charge r on meant old new → IsSome (objects_of new id) ↔ IsSome (objects_of old id)
         go (Ok _) (Scalar c) _ sets = absurd sets.0
         go (Ok _) (Object o) there sets = at o there sets _ refl
         go (Err (Refused code)) _ _ sets = alike _ _ (ap (λ f. f id) sets.0.1)
@@ -222,6 +223,6 @@ module _ (old new : World) where
     noted_set _ _ have id live = have id (some_shown old id ((set_shown id).0 (shown_some new id live)))
 
   -- a setting that was refused leaves all objects as they were
-  pub set_failed : (f : OpFault) (on : Value) (meant : Result Table FaultValue) → Sets (Err f) on meant old new → Keeps old new
-  set_failed (Refused code) _ _ sets = record { objects = λ id live. ap (λ f. f id) sets.0.1; texts = sets.1 }
-  set_failed NoMemory _ _ sets = record { objects = λ id live. ap (λ f. f id) sets.0; texts = sets.1 }
+  pub set_failed : (f : OpFault) (on : Value) (charge : Table → ℕ) (meant : Result Table FaultValue) → SetsFor charge (Err f) on meant old new → Keeps old new
+  set_failed (Refused code) _ _ _ sets = record { objects = λ id live. ap (λ f. f id) sets.0.1; texts = sets.1 }
+  set_failed NoMemory _ _ _ sets = record { objects = λ id live. ap (λ f. f id) sets.0; texts = sets.1 }

@@ -7,8 +7,8 @@ use Rattle.outside_io.specs.Files.{FilesValue, Serves}
 use Rattle.meaning_laws.specs.script.Reading.{Files, Reads}
 use Rattle.meaning_laws.specs.script.State.{State}
 use Rattle.script_state.specs.Bindings.{IsOf}
-use Rattle.script_state.specs.Reads.{files_in, Reaches}
-use Rattle.script_state.specs.Work.{names_in, world_of, state_in}
+use Rattle.script_state.specs.Reads.{files_in, Meter, metered, Reaches}
+use Rattle.script_state.specs.Work.{names_in, tab_of, world_of, state_in}
 use Rattle.script_state.specs.declared.file_names.FileName.{FileName}
 use Rattle.script_state.specs.declared.fault.EvalFault.{EvalFault}
 use Rattle.script_state.specs.declared.work.Work.{Work}
@@ -24,6 +24,9 @@ moment_of w s = record { work = w; files = s }
 abbrev pub moment : {F : Type 0} → (F → FilesValue) → Work → F → Moment
 moment seen w f = moment_of w (seen f)
 
+abbrev pub meter_of : Moment → Meter
+meter_of m = metered (tab_of m.work) m.files
+
 -- the value of that name, or one that no name stands for
 pub record IsValue (name : Option Text) (w : Work) (v : Value) : Type 0 where
   pub known : IsKnownValue (world_of w) v
@@ -34,5 +37,5 @@ pub record Evaluates {V A : Type 0} (paths : List FileName) (known : Work → V 
   pub names : names_in new.work ≡ names_in old.work
   pub kept : Keeps (world_of old.work) (world_of new.work)
   pub serves : Serves old.files new.files
-  pub reads : (held : Contents) → Reaches (view (world_of new.work)) (world_of new.work).texts (files_in paths held) old.files new.files (meant (files_in paths held) (state_in old.work)) result
+  pub reads : (held : Contents) → Reaches (view (world_of new.work)) (world_of new.work).texts (files_in paths held) (meter_of old) (meter_of new) (meant (files_in paths held) (state_in old.work)) result
   pub found : IfOk result (known new.work)

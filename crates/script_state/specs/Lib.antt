@@ -1,6 +1,7 @@
 pub mod Bindings
 pub mod Uses
 pub mod Reads
+pub mod Charges
 pub mod Faults
 pub mod Work
 pub mod Evaluates
@@ -11,6 +12,7 @@ pub use Rattle.frame_select.specs as frame_select
 pub use Rattle.frame_set.specs as frame_set
 pub use Rattle.meaning_laws.specs.call as call
 pub use Rattle.meaning_laws.specs.cells as cells
+pub use Rattle.meaning_laws.specs.charge as charge
 pub use Rattle.meaning_laws.specs.language as language
 pub use Rattle.meaning_laws.specs as laws
 pub use Rattle.meaning_laws.specs.method as method

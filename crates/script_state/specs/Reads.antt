@@ -1,5 +1,5 @@
 -- How far an evaluation has come in its reading of files.
-use Rattle.std.specs.Prelude.{◌≡◌, ◌⊎◌, ◌<◌, ◌^◌, ℕ, zero, suc, List, length, map, Option, Some, None, Result, Ok, Err}
+use Rattle.std.specs.Prelude.{◌≡◌, ◌⊎◌, ◌<◌, ◌≤◌, ◌+◌, ◌^◌, ℕ, zero, suc, List, length, map, Option, Some, None, Result, Ok, Err}
 use Rattle.cell_core.specs.declared.code.Code.{Code}
 use Rattle.cell_core.specs.declared.code.Code.TheVariants.{NoFile}
 use Rattle.outside_io.specs.Count.{HasRisen, raised}
@@ -41,6 +41,29 @@ pub record Goes {X : Type 0} (held : Contents) (old new : FilesValue) (whole res
   pub counted : new.fetches ≡ count_after old.fetches spent.fetches
   pub meant : Holds old.contents spent whole.spent held → whole ≡ after spent rest
 
+-- the charge so far, and how many cells are held
+pub record Tab : Type 0 where
+  pub charge : ℕ
+  pub held : ℕ
+
+-- what costs so many cells raises the charge by them, and what is held by at most as many
+pub record Costs (cells : ℕ) (old new : Tab) : Type 0 where
+  pub charge : new.charge ≡ count_after old.charge cells
+  pub held : new.held ≤ old.held + cells
+
+-- what is seen of the files, beside the tab
+pub record Meter : Type 0 where
+  pub files : FilesValue
+  pub tab : Tab
+
+abbrev pub metered : Tab → FilesValue → Meter
+metered tab files = record { files = files; tab = tab }
+
+-- The same where what was spent was put on the tab.
+pub record Pays {X : Type 0} (held : Contents) (old new : Meter) (whole rest : Reading X) : Type 0 where
+  pub goes : Goes held old.files new.files whole rest
+  pub costs : Costs goes.spent.charge old.tab new.tab
+
 -- no more was spent than the whole spends
 pub record Spends {X : Type 0} (held : Contents) (old new : FilesValue) (whole : Reading X) : Type 0 where
   pub spent : Spent
@@ -72,15 +95,15 @@ Halts stop texts files old new whole Input = Stuck files.held old new whole
 Halts stop texts files old new whole NoMemory = Spends files.held old new whole
 
 -- what an evaluation answers is what is meant, as it is seen; or it halts
-abbrev pub Reaches : {V A : Type 0} → (V → A) → List Text → Files → FilesValue → FilesValue → Reads A → Result V EvalFault → Type 0
-Reaches view texts files old new whole (Ok v) = Goes files.held old new whole (gives (view v))
-Reaches view texts files old new whole (Err fault) = Halts Err texts files old new whole fault
+abbrev pub Reaches : {V A : Type 0} → (V → A) → List Text → Files → Meter → Meter → Reads A → Result V EvalFault → Type 0
+Reaches view texts files old new whole (Ok v) = Pays files.held old new whole (gives (view v))
+Reaches view texts files old new whole (Err fault) = Halts Err texts files old.files new.files whole fault
 
 -- The bytes of a file are those of which what is meant is made; or the call halts.
-abbrev pub ReachesBytes : {A : Type 0} → (List ℕ → Result A FaultValue) → List Text → Files → FilesValue → FilesValue → Reads A → Result (List ℕ) EvalFault → Type 0
-ReachesBytes go texts files old new whole (Ok bytes) = Goes files.held old new whole (at_once (go bytes))
-ReachesBytes go texts files old new whole (Err fault) = Halts Err texts files old new whole fault
+abbrev pub ReachesBytes : {A : Type 0} → (List ℕ → Reads A) → List Text → Files → Meter → Meter → Reads A → Result (List ℕ) EvalFault → Type 0
+ReachesBytes go texts files old new whole (Ok bytes) = Pays files.held old new whole (go bytes)
+ReachesBytes go texts files old new whole (Err fault) = Halts Err texts files old.files new.files whole fault
 
 -- bytes beyond the limits are refused
-abbrev pub RefusesLong : {A : Type 0} → (List ℕ → Result A FaultValue) → Type 0
-RefusesLong go = (bytes : List ℕ) → 2 ^ 28 < length bytes → go bytes ≡ Err limit
+abbrev pub RefusesLong : {A : Type 0} → (List ℕ → Reads A) → Type 0
+RefusesLong go = (bytes : List ℕ) → 2 ^ 28 < length bytes → go bytes ≡ at_once (Err limit)

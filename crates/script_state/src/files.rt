@@ -1,16 +1,16 @@
 // Calls of the functions of `pd`, and the files that they read.
-ghost use Rattle.std.specs.Prelude.{◌≡◌, ℕ, List, Some, Result};
+ghost use Rattle.std.specs.Prelude.{◌≡◌, ℕ, List, Some};
 ghost use Rattle.meaning_laws.specs.cells.Text.{Text, Contents};
-ghost use Rattle.meaning_laws.specs.cells.Fault.{FaultValue};
+ghost use Rattle.meaning_laws.specs.charge.Charge.{answer_charge};
 ghost use Rattle.meaning_laws.specs.tables.Value.{Entry};
 ghost use Rattle.meaning_laws.specs.call.declared.Function.TheVariants.{ReadCsv};
 ghost use Rattle.meaning_laws.specs.call.Signature.{function_named};
 ghost use Rattle.meaning_laws.specs.method.Readers.{file_name_of, read_result};
-ghost use Rattle.meaning_laws.specs.script.Reading.{at_once, then_read, of_file};
+ghost use Rattle.meaning_laws.specs.script.Reading.{Reads, at_once, costing, then_read, of_file};
 ghost use Rattle.meaning_laws.specs.script.Expression.{made};
 ghost use Rattle.frame_store.specs.World.{AreKnownArguments, entry_in, arguments_in};
 ghost use Rattle.outside_io.specs.Files.{Serves};
-ghost use Rattle.script_state.specs.Reads.{files_in, ReachesBytes, RefusesLong};
+ghost use Rattle.script_state.specs.Reads.{files_in, metered, ReachesBytes, RefusesLong, Tab};
 ghost use Rattle.script_state.specs.Faults.{IsNoFile};
 
 use crate::fault::{EvalFault, evaluated};
@@ -29,7 +29,7 @@ const MOST_BYTES: usize = 1 << 28;
 impl Work {
     ghost use Rattle.std.specs.Prelude.{None};
     ghost use Rattle.script_state.specs.Evaluates.{moment, IsValue, Evaluates};
-    ghost use Rattle.script_state.specs.Work.{world_of};
+    ghost use Rattle.script_state.specs.Work.{tab_of, world_of};
 
     /// What a function of `pd` gives. One that reads a file is asked for its name first, and the file is
     /// fetched then, once. The refusals are those of the function, in its order; a file that isn't there is a
@@ -65,10 +65,12 @@ impl Work {
         requires { AreKnownArguments (world_of self.now) args.now }
         ensures reads { let given = arguments_in (world_of self.now) args.now in
             (held : Contents) →
-            ReachesBytes (λ bytes. read_result bytes given) (world_of self.now).texts
-            (files_in names.now held) (F.seen files.old) (F.seen files.new)
+            let read = (λ (bytes : List ℕ). costing answer_charge (read_result bytes given)) in
+            ReachesBytes read (world_of self.now).texts
+            (files_in names.now held) (metered (tab_of self.now) (F.seen files.old))
+            (metered (tab_of self.now) (F.seen files.new))
             (then_read (at_once (file_name_of ReadCsv given)) (λ name.
-            of_file (files_in names.now held) name (λ bytes. read_result bytes given)))
+            of_file (files_in names.now held) name read))
             result }
         ensures serves { Serves (F.seen files.old) (F.seen files.new) }
     {
@@ -87,9 +89,10 @@ fn file_named<F: Files>(
     names: &FileNames,
     name: &str,
 ) -> Result<Bytes, EvalFault>
-    ensures reads { (texts : List Text) (held : Contents) (go : List ℕ → Result Entry FaultValue) →
+    ensures reads { (texts : List Text) (held : Contents) (go : List ℕ → Reads Entry) (tab : Tab) →
         RefusesLong go →
-        ReachesBytes go texts (files_in names.now held) (F.seen files.old) (F.seen files.new)
+        ReachesBytes go texts (files_in names.now held)
+        (metered tab (F.seen files.old)) (metered tab (F.seen files.new))
         (of_file (files_in names.now held) name.now go) result }
     ensures serves { Serves (F.seen files.old) (F.seen files.new) }
 {

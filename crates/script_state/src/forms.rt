@@ -3,6 +3,7 @@ ghost use Rattle.std.specs.Prelude.{◌≡◌, ◌<◌, List, Some, IfOk, IfErr,
 ghost use Rattle.meaning_laws.specs.cells.Text.{Text as OneText};
 ghost use Rattle.meaning_laws.specs.cells.Cell.{label_datum};
 ghost use Rattle.meaning_laws.specs.cells.Operator.{cell_label};
+ghost use Rattle.meaning_laws.specs.tables.Cost.{free};
 ghost use Rattle.meaning_laws.specs.tables.Value.{cell};
 ghost use Rattle.meaning_laws.specs.tables.Settled.{IsSettled};
 ghost use Rattle.meaning_laws.specs.call.Signature.{function_named};
@@ -12,6 +13,8 @@ ghost use Rattle.meaning_laws.specs.select.Select.{select_result};
 ghost use Rattle.meaning_laws.specs.select.Set.{assign_result, removal_result};
 ghost use Rattle.meaning_laws.specs.method.Calls.{call_result, has_method, plain};
 ghost use Rattle.meaning_laws.specs.method.Functions.{made_by};
+ghost use Rattle.meaning_laws.specs.charge.Charge.{answer_charge, select_charge, setting_charge};
+ghost use Rattle.meaning_laws.specs.method.Charges.{call_charge};
 ghost use Rattle.frame_store.specs.Arguments.{entry_of, argument_of, IsLive};
 ghost use Rattle.frame_calls.specs.Calls.{method_in, chain_of, IsKnownBetween};
 ghost use Rattle.frame_select.specs.Selected.{way_of};
@@ -20,10 +23,14 @@ ghost use Rattle.column_operators.specs.Tasks.{operator_of};
 ghost use Rattle.script_tokens.specs.View.{binary_of};
 ghost use Rattle.script_tree.specs.View.{literal_of, unary_of};
 ghost use Rattle.meaning_laws.specs.script.Expression.{cell_of, is_minus};
-ghost use Rattle.frame_store.specs.World.{entry_in, argument_in, arguments_in, subscript_in, Keeps, IsKnownValue, IsKnownArgument, AreKnownArguments, IsKnownSubscript, Sets};
+ghost use Rattle.frame_store.specs.World.{entry_in, argument_in, arguments_in, subscript_in, Keeps, IsKnownValue, IsKnownArgument, AreKnownArguments, IsKnownSubscript, SetsFor};
 ghost use Rattle.script_state.specs.Bindings.{value_at, noted, is_spare};
 ghost use Rattle.script_state.specs.Faults.{IsNoName, IsNoAttribute};
 
+use crate::charges::{
+    answer_cells, charged, columns_of, is_free_selection, method_cells, rows_of, selection_cells,
+    setting_cells,
+};
 use crate::fault::EvalFault;
 use crate::literal::cell_of;
 use crate::names::find;
@@ -42,7 +49,7 @@ use std::alloc::Global;
 
 impl Work {
     ghost use Rattle.script_state.specs.Evaluates.{IsValue};
-    ghost use Rattle.script_state.specs.Work.{names_in, tables_in, world_of, IsUnnamedValue, FormsIn, SetsFrom};
+    ghost use Rattle.script_state.specs.Work.{names_in, tab_of, tables_in, world_of, IsUnnamedValue, FormsIn, SetsFrom, SetsIn};
 
     /// The value of a name. A name without a value is a `NameError` that gives it; to say which may take
     /// memory, and want of it is the other refusal.
@@ -64,6 +71,7 @@ impl Work {
     pub fn literal(&mut self, literal: &Literal) -> Result<Value, EvalFault>
         ensures names { names_in self.new ≡ names_in self.old }
         ensures kept { Keeps (world_of self.old) (world_of self.new) }
+        ensures tab { tab_of self.new ≡ tab_of self.old }
         ensures value { IfOk result (λ v. entry_in (world_of self.new) v
             ≡ cell (cell_of (literal_of literal.now))) }
         ensures found { IfOk result (IsValue None self.new) }
@@ -77,6 +85,7 @@ impl Work {
     pub fn key(&mut self, literal: &Literal) -> Result<Label, EvalFault>
         ensures names { names_in self.new ≡ names_in self.old }
         ensures kept { Keeps (world_of self.old) (world_of self.new) }
+        ensures tab { tab_of self.new ≡ tab_of self.old }
         ensures label { IfOk result (λ l. label_datum (world_of self.new).texts l
             ≡ cell_label (cell_of (literal_of literal.now))) }
         ensures given { IfOk result (λ l. IsSettled label_datum (world_of self.new).texts l) }
@@ -91,7 +100,7 @@ impl Work {
     pub fn infix(&mut self, op: Binary, a: Value, b: Value) -> Result<Value, OpFault>
         requires left { IsKnownValue (world_of self.old) a }
         requires right { IsKnownValue (world_of self.old) b }
-        ensures { FormsIn result
+        ensures { FormsIn result answer_charge
             (infix_result (binary_of op)
             (entry_in (world_of self.old) a) (entry_in (world_of self.old) b))
             self.old self.new }
@@ -100,6 +109,7 @@ impl Work {
         let operator = operator_of(op);
         let made = frame_ops::infix(self.alloc, &mut self.store, &mut self.dict, operator, a, b)?;
         note(&mut self.temps, made);
+        self.charge = charged(self.charge, answer_cells(&self.store, made));
         Ok(made)
     }
 
@@ -107,7 +117,7 @@ impl Work {
     /// [`frame_ops::invert_or_negate`], in its order.
     pub fn sign(&mut self, op: Unary, a: Value) -> Result<Value, OpFault>
         requires { IsKnownValue (world_of self.old) a }
-        ensures { FormsIn result
+        ensures { FormsIn result answer_charge
             (sign_result (is_minus (unary_of op)) (entry_in (world_of self.old) a))
             self.old self.new }
     {
@@ -121,6 +131,7 @@ impl Work {
             a,
         )?;
         note(&mut self.temps, made);
+        self.charge = charged(self.charge, answer_cells(&self.store, made));
         Ok(made)
     }
 
@@ -132,7 +143,7 @@ impl Work {
         file: Option<&[u8]>,
     ) -> Result<Value, OpFault>
         requires { AreKnownArguments (world_of self.old) args.now }
-        ensures { FormsIn result (made_by function (option_map (λ bytes. bytes.now) file.entry)
+        ensures { FormsIn result answer_charge (made_by function (option_map (λ bytes. bytes.now) file.entry)
             (arguments_in (world_of self.old) args.now))
             self.old self.new }
     {
@@ -146,6 +157,7 @@ impl Work {
             file,
         )?;
         note(&mut self.temps, made);
+        self.charge = charged(self.charge, answer_cells(&self.store, made));
         Ok(made)
     }
 
@@ -179,11 +191,14 @@ impl Work {
         requires on { IsKnownValue (world_of self.old) on }
         requires named { method_in (entry_in (world_of self.old) on) name.now ≡ Some method }
         requires arguments { AreKnownArguments (world_of self.old) args.now }
-        ensures { FormsIn result (call_result (entry_in (world_of self.old) on) (plain name.now)
-            (arguments_in (world_of self.old) args.now))
-            self.old self.new }
+        ensures { let w = world_of self.old in
+            let given = arguments_in w args.now in
+            FormsIn result (call_charge (entry_in w on) (plain name.now) given)
+            (call_result (entry_in w on) (plain name.now) given) self.old self.new }
     {
         self.temps.reserve(1)?;
+        let rows = rows_of(&self.store, on);
+        let columns = columns_of(&self.store, on);
         let made = method_called(
             self.alloc,
             &mut self.store,
@@ -194,6 +209,8 @@ impl Work {
             args,
         )?;
         note(&mut self.temps, made);
+        let cells = method_cells(&self.store, method, rows, columns, made);
+        self.charge = charged(self.charge, cells);
         Ok(made)
     }
 
@@ -209,10 +226,11 @@ impl Work {
         requires on { IsKnownValue (world_of self.old) on }
         requires before { IsKnownBetween (world_of self.old) between }
         requires arguments { AreKnownArguments (world_of self.old) args.now }
-        ensures { FormsIn result (call_result (entry_in (world_of self.old) on)
-            (chain_of (world_of self.old) between.entry name.now)
-            (arguments_in (world_of self.old) args.now))
-            self.old self.new }
+        ensures { let w = world_of self.old in
+            let chain = chain_of w between.entry name.now in
+            let given = arguments_in w args.now in
+            FormsIn result (call_charge (entry_in w on) chain given)
+            (call_result (entry_in w on) chain given) self.old self.new }
     {
         self.temps.reserve(1)?;
         let made = method_behind(
@@ -225,6 +243,7 @@ impl Work {
             args,
         )?;
         note(&mut self.temps, made);
+        self.charge = charged(self.charge, answer_cells(&self.store, made));
         Ok(made)
     }
 
@@ -240,12 +259,15 @@ impl Work {
         requires on { IsKnownValue (world_of self.old) on }
         requires first { IsKnownSubscript (world_of self.old) first.now }
         requires second { IfSome second.now (IsKnownSubscript (world_of self.old)) }
-        ensures { FormsIn result (select_result (entry_in (world_of self.old) on) (way_of by)
-            (subscript_in (world_of self.old) first.now)
-            (option_map (subscript_in (world_of self.old)) second.now))
+        ensures { let w = world_of self.old in
+            FormsIn result
+            (select_charge (entry_in w on) (way_of by) (subscript_in w first.now))
+            (select_result (entry_in w on) (way_of by) (subscript_in w first.now)
+            (option_map (subscript_in w) second.now))
             self.old self.new }
     {
         self.temps.reserve(1)?;
+        let free = is_free_selection(&self.store, on, by, first);
         let second = second.as_ref();
         let made = frame_select::select(
             self.alloc,
@@ -257,6 +279,8 @@ impl Work {
             second,
         )?;
         note(&mut self.temps, made);
+        let cells = selection_cells(&self.store, free, made);
+        self.charge = charged(self.charge, cells);
         Ok(made)
     }
 
@@ -275,12 +299,44 @@ impl Work {
         requires first { IsKnownSubscript (world_of self.old) first.now }
         requires second { IfSome second.now (IsKnownSubscript (world_of self.old)) }
         requires value { IsKnownArgument (world_of self.old) value.now }
-        ensures { SetsFrom value.now result on
-            (assign_result (entry_in (world_of self.old) on) (way_of by)
-            (subscript_in (world_of self.old) first.now)
-            (option_map (subscript_in (world_of self.old)) second.now)
-            (argument_in (world_of self.old) value.now))
+        ensures { let w = world_of self.old in
+            let second = option_map (subscript_in w) second.now in
+            SetsFrom value.now result on
+            (setting_charge (entry_in w on) (way_of by) (subscript_in w first.now) second)
+            (assign_result (entry_in w on) (way_of by) (subscript_in w first.now) second
+            (argument_in w value.now))
             self.old self.new }
+    {
+        let rows = rows_of(&self.store, on);
+        let keys = second.as_ref();
+        let touched = frame_set::touched(self.alloc, &self.store, &self.dict, on, by, first, keys)?;
+        self.set(on, by, first, second, value)?;
+        let cells = setting_cells(&self.store, rows, touched, on);
+        self.charge = charged(self.charge, cells);
+        Ok(())
+    }
+
+    // The setting without its charge.
+    fn set(
+        &mut self,
+        on: Value,
+        by: Selector,
+        first: &Subscript,
+        second: &Option<Subscript>,
+        value: &Argument,
+    ) -> Result<(), OpFault>
+        requires on { IsKnownValue (world_of self.old) on }
+        requires first { IsKnownSubscript (world_of self.old) first.now }
+        requires second { IfSome second.now (IsKnownSubscript (world_of self.old)) }
+        requires value { IsKnownArgument (world_of self.old) value.now }
+        ensures sets { let w = world_of self.old in
+            let second = option_map (subscript_in w) second.now in
+            SetsIn value.now result on
+            (setting_charge (entry_in w on) (way_of by) (subscript_in w first.now) second)
+            (assign_result (entry_in w on) (way_of by) (subscript_in w first.now) second
+            (argument_in w value.now))
+            self.old self.new }
+        ensures charge { self.new.charge ≡ self.old.charge }
     {
         // A column can hold the scalar: whole numbers of the code have 64 bits.
         let _ = value.scalar();
@@ -333,9 +389,10 @@ impl Work {
         requires on { IsKnownValue (world_of self.old) on }
         requires label { IsKnownValue (world_of self.old) label }
         ensures names { names_in self.new ≡ names_in self.old }
-        ensures sets { Sets result on (removal_result
+        ensures sets { SetsFor free result on (removal_result
             (entry_in (world_of self.old) on) (entry_in (world_of self.old) label))
             (world_of self.old) (world_of self.new) }
+        ensures charge { self.new.charge ≡ self.old.charge }
     {
         frame_set::remove(self.alloc, &mut self.store, &self.dict, on, label)
     }
@@ -343,7 +400,8 @@ impl Work {
     /// The number of rows. A scalar, which has none, is a `TypeError`.
     pub fn length(&self, on: Value) -> Result<Value, OpFault>
         requires { IsKnownValue (world_of self.now) on }
-        ensures { FormsIn result (length_result (entry_in (world_of self.now) on)) self.now self.now }
+        ensures { FormsIn result (λ _. 0)
+            (length_result (entry_in (world_of self.now) on)) self.now self.now }
     {
         match on {
             Value::Object(id) => {

@@ -2,7 +2,8 @@
 //!
 //! A [`Work`] keeps names, each with the scalar, the Series or the frame that it stands for. A form makes new
 //! values of those that are there, and each object that it makes is noted, until [`Work::sweep`] ends those that no
-//! name stands for. A call that reads a file fetches it by the path of its name among [`FileNames`].
+//! name stands for. What each form costs is added to the charge (`charges`). A call that reads a file fetches it by the
+//! path of its name among [`FileNames`].
 //!
 //! ```text
 //! let mut work = Work::new(alloc);
@@ -12,6 +13,7 @@
 //! ```
 #![tactic(auto)]
 
+mod charges;
 mod fault;
 mod file_names;
 mod files;

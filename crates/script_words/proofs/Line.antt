@@ -6,7 +6,10 @@ use Rattle.clap.specs.Faults.{settle_fault, walk_fault}
 use Rattle.clap.specs.Kinds.{Kinds, or_else}
 use Rattle.clap.specs.declared.error.kind.ErrorKind.{ErrorKind}
 use Rattle.clap.specs.declared.error.kind.ErrorKind.TheVariants.{DisplayHelp}
-use Rattle.script_words.specs.CommandLine.{demo_rule, plain_rule}
+use Rattle.script_words.specs.CommandLine.{demo_rule, plain_rule, stats_rule}
+
+abbrev pub stats : Rule
+stats = filled stats_rule
 
 abbrev pub demo : Rule
 demo = filled demo_rule
@@ -18,7 +21,7 @@ abbrev pub help : Rule
 help = filled help_rule
 
 abbrev pub rules : List Rule
-rules = demo ∷ plain ∷ help ∷ []
+rules = stats ∷ demo ∷ plain ∷ help ∷ []
 
 -- the command line, built
 abbrev pub line : Shape

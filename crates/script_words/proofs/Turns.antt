@@ -7,9 +7,9 @@ use Rattle.clap.specs.Kinds.{Kinds, or_else}
 use Rattle.clap.specs.declared.error.kind.ErrorKind.TheVariants as kind
 use Rattle.meaning_words.specs.Words.{WordSort}
 use Rattle.meaning_words.specs.Words as meaning
-use Rattle.script_words.specs.CommandLine.{demo_id, plain_id}
+use Rattle.script_words.specs.CommandLine.{demo_id, plain_id, stats_id}
 use Rattle.clap.specs.Walk.{has_row}
-use Rattle.script_words.proofs.Line.{IsWrong, Pending, demo, held, line, nothing_after, plain, rules, settling, standing, wrong_as, wrong_first}
+use Rattle.script_words.proofs.Line.{IsWrong, Pending, demo, held, line, nothing_after, plain, rules, settling, standing, stats, wrong_as, wrong_first}
 use Rattle.script_words.proofs.Spelling.{IsPlain, IsRefused, IsSpelled}
 
 abbrev pub turn : Walk → Text → Kinds
@@ -40,11 +40,13 @@ next_is rows p positional word = refl
 -- what an option comes to once what was pending is settled
 abbrev pub flag_kinds : WordSort → List Row → Kinds
 flag_kinds meaning.asking rows = kind.DisplayHelp ∷ []
+flag_kinds meaning.stats rows = use_fault false stats [] rows
 flag_kinds (meaning.demo_with given) rows = use_fault false demo (given ∷ []) rows
 flag_kinds _ rows = []
 
 abbrev pub is_flag : WordSort → Bool
 is_flag meaning.asking = true
+is_flag meaning.stats = true
 is_flag meaning.demo = true
 is_flag (meaning.demo_with given) = true
 is_flag _ = false
@@ -63,6 +65,7 @@ settles : (s : WordSort) (word : Text) (rows : List Row) (p : Pending) → IsSpe
     → other_fault line None word (held rows p) ≡ or_else (settling (held rows p)) (flag_kinds s (settled_rows rules p rows))
 settles meaning.asking word rows p (inl is) flag = ap (λ w. other_fault line None w (held rows p)) is
 settles meaning.asking word rows p (inr is) flag = ap (λ w. other_fault line None w (held rows p)) is.1 ∙ settles_bundle is.0 rows p
+settles meaning.stats word rows p is flag = ap (λ w. other_fault line None w (held rows p)) is
 settles meaning.demo word rows p is flag = ap (λ w. other_fault line None w (held rows p)) is ∙ sym (nothing_after (settling (held rows p)))
 settles (meaning.demo_with given) word rows p is flag = ap (λ w. other_fault line None w (held rows p)) is
 settles meaning.dashes word rows p is flag = absurd (true≢false (sym flag))
@@ -96,6 +99,23 @@ dashes_turn word rows p waiting is = ap (turn (standing rows p waiting false)) i
 pub dashes_next : (word : Text) (rows : List Row) (p : Pending) (waiting : Waiting) → word ≡ codes "--"
     → next (standing rows p waiting false) word ≡ standing rows p waiting true
 dashes_next word rows p waiting is = ap (next (standing rows p waiting false)) is ∙ next_is rows p waiting (codes "--")
+
+pub stats_turn : (word : Text) (rows : List Row) (p : Pending) (waiting : Waiting) → word ≡ codes "--stats" → settling (held rows p) ≡ []
+    → turn (standing rows p waiting false) word ≡ use_fault false stats [] (settled_rows rules p rows)
+stats_turn word rows p waiting is right =
+    ap (turn (standing rows p waiting false)) is ∙ turn_is rows p waiting (codes "--stats")
+    ∙ ap (λ a. or_else (or_else a (use_fault false stats [] (settled_rows rules p rows))) []) right
+    ∙ nothing_after (use_fault false stats [] (settled_rows rules p rows))
+
+pub stats_next : (word : Text) (rows : List Row) (p : Pending) (waiting : Waiting) → word ≡ codes "--stats"
+    → next (standing rows p waiting false) word ≡ standing (used stats [] (settled_rows rules p rows)) None idle false
+stats_next word rows p waiting is = ap (next (standing rows p waiting false)) is ∙ next_is rows p waiting (codes "--stats")
+
+pub stats_fresh : (rows : List Row) → has_row stats_id rows ≡ false → use_fault false stats [] rows ≡ []
+stats_fresh rows none = rw none
+
+pub stats_twice : (rows : List Row) → has_row stats_id rows ≡ true → IsWrong (use_fault false stats [] rows)
+stats_twice rows has = (kind.ArgumentConflict, rw has, λ e. cc)
 
 pub demo_turn : (word : Text) (rows : List Row) (p : Pending) (waiting : Waiting) → word ≡ codes "--demo" → settling (held rows p) ≡ []
     → turn (standing rows p waiting false) word ≡ []

@@ -1,20 +1,20 @@
 -- The walk of `clap` over the words comes to what the rule for them says.
-use Rattle.std.proofs.Common.{◌≡◌, ◌∙◌, ap, refl, sym, subst, true, false, List, [], ◌∷◌, ◌++◌, Option, Some, None, codes, drop, fold, is_some, IsUtf8, append_assoc, append-nil, true≢false, subst₂, eqb-true, arith}
+use Rattle.std.proofs.Common.{◌≡◌, ◌∙◌, ◌||◌, ap, refl, sym, subst, true, false, List, [], ◌∷◌, ◌++◌, Option, Some, None, codes, drop, fold, is_some, IsUtf8, append_assoc, append-nil, true≢false, subst₂, eqb-true, arith}
 use Rattle.std.proofs.lemmas.Bool.{and_parts, cond-true, cond_both, or_right}
 use Rattle.std.specs.List.{list_all}
 use Rattle.clap.specs.declared.builder.value_parser.Reading.{Reading}
 use Rattle.clap.specs.Walk.{Row, Text, Waiting, Walk, has_row, idle, nothing_held, option, positional, settled, settled_rows, used, walk, walked, with_default, default_rows, is_empty, reading_by, Rule}
-use Rattle.clap.specs.Faults.{defaults_fault, fault_of, walk_fault, level_fault, entered_fault, default_fault}
+use Rattle.clap.specs.Faults.{defaults_fault, fault_of, given_default_fault, walk_fault, level_fault, entered_fault, default_fault}
 use Rattle.clap.specs.Simple.{App, entered, matches_of}
 use Rattle.clap.specs.Kinds.{Kinds, or_else}
 use Rattle.clap.specs.declared.error.kind.ErrorKind.TheVariants as kind
 use Rattle.meaning_words.specs.Words.{WordSort, Words, WordsRead, is_option, no_words, read_after, read_as, sort_of, words_read}
 use Rattle.meaning_words.specs.Words as meaning
-use Rattle.script_words.specs.CommandLine.{command_line, demo_id, plain_id}
-use Rattle.script_words.proofs.Line.{IsWrong, Pending, demo, fault_from, held, line, nothing_after, rows_from, rules, settling, standing, wrong_as, wrong_first}
-use Rattle.script_words.proofs.Rows.{Holds, adds_demo, adds_plain, has_demo}
+use Rattle.script_words.specs.CommandLine.{command_line, demo_id, plain_id, stats_id}
+use Rattle.script_words.proofs.Line.{IsWrong, Pending, demo, fault_from, held, help, line, nothing_after, plain, rows_from, rules, settling, standing, stats, wrong_as, wrong_first}
+use Rattle.script_words.proofs.Rows.{Holds, HoldsAll, adds_demo, adds_plain, adds_stats, has_demo, has_stats, with_flag}
 use Rattle.script_words.proofs.Spelling.{IsPlain, IsSpelled, plain_from, spelled}
-use Rattle.script_words.proofs.Turns.{IsFree, after_plain, awaiting, dashes_next, dashes_turn, demo_next, demo_turn, flag_in_wrong, flag_turn, next, plain_next, plain_turn, refused_turn, trailing_next, trailing_turn, turn, use_fresh, use_twice, value_next, value_turn, with_next, with_turn}
+use Rattle.script_words.proofs.Turns.{IsFree, after_plain, awaiting, dashes_next, dashes_turn, demo_next, demo_turn, flag_in_wrong, flag_turn, next, plain_next, plain_turn, refused_turn, stats_fresh, stats_next, stats_turn, stats_twice, trailing_next, trailing_turn, turn, use_fresh, use_twice, value_next, value_turn, with_next, with_turn}
 
 -- what the kinds and the rows at the end of a walk say
 abbrev pub Tells : Kinds → List Row → WordsRead → Type 0
@@ -67,6 +67,7 @@ lost_at_dashes word more rows p waiting is wrong =
 lost_at : (s : WordSort) (word : Text) (more : List Text) (rows : List Row) (p : Pending) (waiting : Waiting) → IsSpelled s word → IsWrong (settling (held rows p))
     → (IsPlain word → IsWrong (fault_from (standing rows p waiting false) (word ∷ more))) → IsWrong (fault_from (standing rows p waiting false) (word ∷ more))
 lost_at meaning.asking word more rows p waiting is wrong plainly = refuses (standing rows p waiting false) word more (flag_in_wrong meaning.asking word rows p waiting is refl wrong)
+lost_at meaning.stats word more rows p waiting is wrong plainly = refuses (standing rows p waiting false) word more (flag_in_wrong meaning.stats word rows p waiting is refl wrong)
 lost_at meaning.demo word more rows p waiting is wrong plainly = refuses (standing rows p waiting false) word more (flag_in_wrong meaning.demo word rows p waiting is refl wrong)
 lost_at (meaning.demo_with given) word more rows p waiting is wrong plainly =
     refuses (standing rows p waiting false) word more (flag_in_wrong (meaning.demo_with given) word rows p waiting is refl wrong)
@@ -103,7 +104,7 @@ trailing : (words : List Text) (before : Words) (rows : List Row) (p : Pending) 
     → TellsOf (standing rows p waiting true) words (meaning.read (record before { plain = before.plain ++ words }))
 trailing [] before rows p waiting right = (
   ends (standing rows p waiting true) ∙ right.0,
-  record { demo = right.1.demo; plain = right.1.plain ∙ sym (append-nil before.plain) },
+  record { stats = right.1.stats; demo = right.1.demo; plain = right.1.plain ∙ sym (append-nil before.plain) },
 )
 trailing (word ∷ more) before rows p waiting right =
     goes_on (standing rows p waiting true) (after_plain rows p word true) word more (meaning.read (record before { plain = before.plain ++ word ∷ more }))
@@ -125,6 +126,15 @@ module _ (word : Text) (more : List Text) (texts : AreTexts more) (on : ReadsOn 
       → TellsOf (standing rows p waiting false) (word ∷ more) (read_as s before word more (λ before' awaited. read_after before' awaited more))
   reads_word meaning.asking is before rows p waiting free right =
       helps (standing rows p waiting false) word more (flag_turn meaning.asking word rows p waiting is refl right.0)
+  reads_word meaning.stats is before rows p waiting free right =
+      let found = has_stats (settled_rows rules p rows) before right.1 in
+      cond_both before.stats meaning.fault (read_after (record before { stats = true }) false more) (TellsOf (standing rows p waiting false) (word ∷ more))
+      (λ again. refuses (standing rows p waiting false) word more
+      (wrong_as _ _ (stats_turn word rows p waiting is right.0) (stats_twice (settled_rows rules p rows) (found ∙ again))))
+      (λ first. goes_on (standing rows p waiting false) (standing (used stats [] (settled_rows rules p rows)) None idle false) word more (read_after (record before { stats = true }) false more)
+      (stats_turn word rows p waiting is right.0 ∙ stats_fresh (settled_rows rules p rows) (found ∙ first)) (stats_next word rows p waiting is)
+      (on (record before { stats = true }) (used stats [] (settled_rows rules p rows)) None idle tt
+      (refl, adds_stats (settled_rows rules p rows) before right.1 first)))
   reads_word meaning.demo is before rows p waiting free right =
       let found = has_demo (settled_rows rules p rows) before right.1 in
       cond_both (is_some before.demo) meaning.fault (read_after before true more) (TellsOf (standing rows p waiting false) (word ∷ more))
@@ -177,7 +187,10 @@ reads (word ∷ more) texts =
 
 -- ---- the whole of a parse
 
--- no argument has a default
+-- the arguments but for the flag have no default
+abbrev others : List Rule
+others = demo ∷ plain ∷ help ∷ []
+
 abbrev HaveNoDefaults : List Rule → Type 0
 HaveNoDefaults ds = list_all (λ a. is_empty a.defaults) ds ≡ true
 
@@ -202,6 +215,14 @@ kept_rows (d ∷ ds) rows none =
     ap (λ r. fold with_default r ds) (cond_both (has_row d.id rows) rows (default_rows d.id (reading_by d) d.defaults rows) (λ x. x ≡ rows) (λ _. refl)
     (λ _. no_default_rows d.id (reading_by d) d.defaults rows both.0)) ∙ kept_rows ds rows both.1
 
+-- the default of the flag is no fault
+quiet_flag : (rows : List Row) → default_fault rows stats ≡ []
+quiet_flag rows = cond_both (has_row stats_id rows || is_empty stats.defaults) [] (given_default_fault stats stats.defaults) (λ x. x ≡ []) (λ _. refl) (λ _. refl)
+
+quiet_rules : (rows : List Row) → defaults_fault rows rules ≡ []
+unfolding defaults_fault
+quiet_rules rows = ap (λ k. or_else k (defaults_fault (with_default rows stats) others)) (quiet_flag rows) ∙ quiet_defaults others (with_default rows stats) refl
+
 abbrev start : Walk
 start = standing [] None idle false
 
@@ -217,21 +238,32 @@ level_is : (words : List Text) → level_fault line [] nothing_held words false 
 level_is words =
     let end = (fold (walked rules []) start words).held in
     ap (or_else (walk_fault line [] start words))
-    (ap (λ k. or_else (settling end) (or_else k [])) (quiet_defaults rules (settled rules end).rows refl) ∙ nothing_after (settling end))
+    (ap (λ k. or_else (settling end) (or_else k [])) (quiet_rules (settled rules end).rows) ∙ nothing_after (settling end))
 
 fault_is : (words : List Text) → fault_of command_line words ≡ fault_from start (drop 1 words)
 fault_is words = no_level_below (walk rules [] nothing_held (drop 1 words)).stopped (drop 1 words) ∙ level_is (drop 1 words)
 
-rows_are : (words : List Text) → matches_of command_line words ≡ rows_from start (drop 1 words)
-rows_are words = kept_rows rules (rows_from start (drop 1 words)) refl
+rows_are : (words : List Text) → matches_of command_line words ≡ with_default (rows_from start (drop 1 words)) stats
+rows_are words = kept_rows others (with_default (rows_from start (drop 1 words)) stats) refl
 
-told : (words : List Text) (what : WordsRead) → TellsOf start (drop 1 words) what → Tells (fault_of command_line words) (matches_of command_line words) what
-told words what h = subst₂ (λ k rows. Tells k rows what) (sym (fault_is words)) (sym (rows_are words)) h
+-- the same once the flag has its default
+abbrev pub TellsAll : Kinds → List Row → WordsRead → Type 0
+TellsAll kinds rows meaning.help = kinds ≡ kind.DisplayHelp ∷ []
+TellsAll kinds rows meaning.fault = IsWrong kinds
+TellsAll kinds rows (meaning.read words) = (kinds ≡ []) × HoldsAll rows words
+
+all_told : (kinds : Kinds) (rows : List Row) (what : WordsRead) → Tells kinds rows what → TellsAll kinds (with_default rows stats) what
+all_told kinds rows meaning.help t = t
+all_told kinds rows meaning.fault t = t
+all_told kinds rows (meaning.read words) t = (t.0, with_flag rows words t.1)
+
+told : (words : List Text) (what : WordsRead) → TellsOf start (drop 1 words) what → TellsAll (fault_of command_line words) (matches_of command_line words) what
+told words what h = subst₂ (λ k rows. TellsAll k rows what) (sym (fault_is words)) (sym (rows_are words)) (all_told _ _ what h)
 
 none_yet : Holds [] no_words
-none_yet = record { demo = refl; plain = refl }
+none_yet = record { stats = refl; demo = refl; plain = refl }
 
 -- what the parse comes to is what the rule says of the words
-pub tells : (words : List Text) → AreTexts words → Tells (fault_of command_line words) (matches_of command_line words) (words_read words)
+pub tells : (words : List Text) → AreTexts words → TellsAll (fault_of command_line words) (matches_of command_line words) (words_read words)
 tells [] texts = told [] (words_read []) ((reads [] tt).0 no_words [] None idle tt (refl, none_yet))
 tells (program ∷ more) texts = told (program ∷ more) (words_read (program ∷ more)) ((reads more texts.1).0 no_words [] None idle tt (refl, none_yet))

@@ -15,10 +15,11 @@ use std::alloc::{AllocError, Global};
 pub enum WordsRead<'a> {
     /// They ask for help: by `--help`, or by a word that begins with `-h`.
     Help,
-    /// They are wrong: an option that there isn't, a second `--demo`, or one with no value.
+    /// They are wrong: an option that there isn't, a second `--stats` or `--demo`, or a `--demo` with no value.
     Wrong,
-    /// The value of `--demo`, where it is given, and the plain words in order.
+    /// Whether `--stats` is given, the value of `--demo`, where it is, and the plain words in order.
     Words {
+        stats: bool,
         demo: Option<&'a str>,
         plain: Vec<&'a str>,
     },
@@ -35,6 +36,7 @@ pub fn read_words<'a>(alloc: Global, words: &'a [String]) -> Result<WordsRead<'a
 {
     match command(alloc)?.try_get_matches_from(words) {
         Ok(matches) => Ok(WordsRead::Words {
+            stats: matches.get_flag("stats"),
             demo: matches.get_str("demo"),
             plain: plain_words(alloc, &matches)?,
         }),

@@ -1,20 +1,20 @@
 use Rattle.{
-  frame_parts.proofs.Common.{arith, ◌≡◌, ap, sym, tables, table_or, longer_self},
+  frame_parts.proofs.Common.{arith, ◌≡◌, ap, sym, tables, table_or, longer_self, world},
   frame_groups.{specs.{Calls.{call_of}, Grouped.{grouping_seen, values_seen}}, proofs.FormLaws.{known_table, answer_at}},
 }
 use Rattle.frame_groups.proofs.calling.answer.Goals as goal
 
 pub reduced-table-requires-clause-known : goal.reduced-table-requires-clause-known
-reduced-table-requires-clause-known c = known_table _ _ _ c.read.ensures.table c.read.ensures.whole c.requires.settled
+reduced-table-requires-clause-known c = known_table (world c.args.store.now c.args.dict.now) _ _ c.read.ensures.table c.read.ensures.whole c.requires.settled
 
 pub along_rows-table-requires-clause-known : goal.along_rows-table-requires-clause-known
-along_rows-table-requires-clause-known c = known_table _ _ _ c.read-in-Transformed.ensures.table c.read-in-Transformed.ensures.whole c.requires.settled
+along_rows-table-requires-clause-known c = known_table (world c.args.store.now c.args.dict.now) _ _ c.read-in-Transformed.ensures.table c.read-in-Transformed.ensures.whole c.requires.settled
 
 pub along_rows-table-requires-in-Cumsum-clause-known : goal.along_rows-table-requires-in-Cumsum-clause-known
-along_rows-table-requires-in-Cumsum-clause-known c = known_table _ _ _ c.read-in-Cumsum.ensures.table c.read-in-Cumsum.ensures.whole c.requires.settled
+along_rows-table-requires-in-Cumsum-clause-known c = known_table (world c.args.store.now c.args.dict.now) _ _ c.read-in-Cumsum.ensures.table c.read-in-Cumsum.ensures.whole c.requires.settled
 
 pub counts-table-requires-clause-known : goal.counts-table-requires-clause-known
-counts-table-requires-clause-known c = known_table _ _ _ c.read-in-Cumcount.ensures.table c.read-in-Cumcount.ensures.whole c.requires.settled
+counts-table-requires-clause-known c = known_table (world c.args.store.now c.args.dict.now) _ _ c.read-in-Cumcount.ensures.table c.read-in-Cumcount.ensures.whole c.requires.settled
 
 pub returns-in-Reduced : goal.returns-in-Reduced
 returns-in-Reduced c =

@@ -15,10 +15,10 @@ returns-in_default-clause-values c =
 
 -- those that are named
 pub labelled-requires-clause-known : goal.labelled-requires-clause-known
-labelled-requires-clause-known c = known_table _ _ _ c.read-source.ensures.table c.read-source.ensures.whole c.requires.settled
+labelled-requires-clause-known c = known_table (world c.args.store.now c.args.dict.now) _ _ c.read-source.ensures.table c.read-source.ensures.whole c.requires.settled
 
 pub listed-requires-clause-known : goal.listed-requires-clause-known
-listed-requires-clause-known c = known_table _ _ _ c.read-source.ensures.table c.read-source.ensures.whole c.requires.settled
+listed-requires-clause-known c = known_table (world c.args.store.now c.args.dict.now) _ _ c.read-source.ensures.table c.read-source.ensures.whole c.requires.settled
 
 pub listed-requires-clause-items : goal.listed-requires-clause-items
 listed-requires-clause-items c =

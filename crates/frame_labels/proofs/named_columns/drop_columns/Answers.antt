@@ -11,4 +11,4 @@ columns_of-requires-clause-columns c =
 pub returns : goal.returns
 returns c =
     let t = table_at (tables c.args.store.now) c.args.on.0 in
-    forms_so _ _ _ _ _ (cc (others_meant c.args.dict.now t c.args.places.now c.in_ok-kept.kept c.columns.result c.in_ok-kept.ensures (grind arith))) c.columns_of.ensures
+    forms_so _ _ _ _ _ _ (cc (others_meant c.args.dict.now t c.args.places.now c.in_ok-kept.kept c.columns.result c.in_ok-kept.ensures (grind arith))) c.columns_of.ensures

@@ -1,5 +1,6 @@
 use Rattle.{
   frame_parts.proofs.Common.{arith, world},
+  frame_store.specs.tables.Cost.{answer_charge},
   frame_labels.proofs.AnswerLaws.{forms_so},
   frame_merge.proofs.KeyLaws.{is_call},
 }
@@ -11,6 +12,6 @@ merged-table-requires-clause-call c =
 
 pub returns : goal.returns
 returns c =
-    forms_so _ _ _ _ _
+    forms_so answer_charge _ _ _ _ _
     (grind arith)
     (c.placed.ensures.answers _ _ c.merged-table.ensures.longer c.requires.settled c.merged-table.ensures.answer)

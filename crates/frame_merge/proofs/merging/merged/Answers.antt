@@ -9,22 +9,22 @@ pub read-r-requires : goal.read-r-requires
 read-r-requires c = c.frame.ensures.live (tables c.args.store.now) c.requires.call.live
 
 pub keys_of_merge-requires-clause-left : goal.keys_of_merge-requires-clause-left
-keys_of_merge-requires-clause-left c = known_table _ _ _ c.read-l.ensures.table c.read-l.ensures.whole c.requires.settled
+keys_of_merge-requires-clause-left c = known_table (world c.args.store.now c.args.dict.now) _ _ c.read-l.ensures.table c.read-l.ensures.whole c.requires.settled
 
 pub keys_of_merge-requires-clause-right : goal.keys_of_merge-requires-clause-right
-keys_of_merge-requires-clause-right c = known_table _ _ _ c.read-r.ensures.table c.read-r.ensures.whole c.requires.settled
+keys_of_merge-requires-clause-right c = known_table (world c.args.store.now c.args.dict.now) _ _ c.read-r.ensures.table c.read-r.ensures.whole c.requires.settled
 
 pub keys_of_merge-requires-clause-given : goal.keys_of_merge-requires-clause-given
-keys_of_merge-requires-clause-given c = told_given _ _ _ c.requires.call c.in_ok-told.ensures
+keys_of_merge-requires-clause-given c = told_given (world c.args.store.now c.args.dict.now) _ _ c.requires.call c.in_ok-told.ensures
 
 pub keys_of_merge-requires-clause-some : goal.keys_of_merge-requires-clause-some
-keys_of_merge-requires-clause-some c = told_some _ _ _ c.requires.call c.in_ok-told.ensures
+keys_of_merge-requires-clause-some c = told_some (world c.args.store.now c.args.dict.now) _ _ c.requires.call c.in_ok-told.ensures
 
 pub merged_rows-requires-clause-left : goal.merged_rows-requires-clause-left
-merged_rows-requires-clause-left c = known_table _ _ _ c.read-l.ensures.table c.read-l.ensures.whole c.requires.settled
+merged_rows-requires-clause-left c = known_table (world c.args.store.now c.args.dict.now) _ _ c.read-l.ensures.table c.read-l.ensures.whole c.requires.settled
 
 pub merged_rows-requires-clause-right : goal.merged_rows-requires-clause-right
-merged_rows-requires-clause-right c = known_table _ _ _ c.read-r.ensures.table c.read-r.ensures.whole c.requires.settled
+merged_rows-requires-clause-right c = known_table (world c.args.store.now c.args.dict.now) _ _ c.read-r.ensures.table c.read-r.ensures.whole c.requires.settled
 
 pub merged_rows-requires-clause-frames : goal.merged_rows-requires-clause-frames
 merged_rows-requires-clause-frames c =

@@ -1,5 +1,5 @@
 use Rattle.{
-  frame_parts.proofs.Common.{arith},
+  frame_parts.proofs.Common.{arith, refl},
   frame_store.proofs.ObjectMade.{kept_settled},
   frame_methods.proofs.CallLaws.{refused_made, table_meant, scalar_answered},
 }
@@ -10,6 +10,7 @@ returns-in_err-cell c = λ earlier meant longer settled makes. (
   grind (arith, refused_made),
   longer,
   search kept_settled,
+  record { cells = omega arith; blocks = λ id live there apart. refl },
 )
 
 pub returns-in-Table : goal.returns-in-Table
@@ -21,4 +22,5 @@ returns-in-Scalar c = λ earlier meant longer settled makes. (
   scalar_answered _ _ _ _ _ _ _ c.in_ok-cell.was c.in-Scalar.is c.requires longer settled makes,
   longer,
   search kept_settled,
+  record { cells = omega arith; blocks = λ id live there apart. refl },
 )

@@ -6,5 +6,5 @@ use Rattle.frame_methods.proofs.calling.label_method.Goals as goal
 
 pub returns : goal.returns
 returns c =
-    forms_so _ _ _ _ _ (grind arith)
+    forms_so _ _ _ _ _ _ (grind arith)
     (c.placed.ensures.answers c.args.dict.now _ (longer_self _) c.requires.settled c.labels_made-table.ensures)

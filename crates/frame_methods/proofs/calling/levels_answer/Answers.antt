@@ -1,4 +1,4 @@
-use Rattle.{frame_parts.proofs.Common.{arith, ap, refl, world, object_settled, longer_self}, frame_labels.{specs.method.Levels.{set_index_result}, proofs.{LevelNameLaws.{names_given}, LevelMoveLaws.{option_given}}}, frame_methods.proofs.{AnswerLaws.{answer_by, makes_by, derives_on, extends_on}, RowLaws.{makes_so}, ShapeLaws.{set_index_of_frame}}}
+use Rattle.{frame_parts.proofs.Common.{arith, ◌≡◌, false, rules, ap, refl, world, object_settled, longer_self}, frame_store.proofs.FormLaws.{free_forms, forms_within}, frame_labels.{specs.method.Levels.{set_index_result}, proofs.{LevelNameLaws.{names_given}, LevelMoveLaws.{option_given}}}, frame_methods.proofs.{AnswerLaws.{answer_by, makes_by, derives_on, extends_on, reset_costs}, RowLaws.{makes_so}, ShapeLaws.{set_index_of_frame}}}
 use Rattle.meaning_call.specs.declared.Method.TheVariants as method
 use Rattle.frame_methods.proofs.calling.levels_answer.Goals as goal
 
@@ -10,10 +10,10 @@ derived-requires-clause-fits c =
 
 pub returns-in_ok-names-in-RenameAxis : goal.returns-in_ok-names-in-RenameAxis
 returns-in_ok-names-in-RenameAxis c =
-    c.derived.ensures _ _ (longer_self _) c.requires.settled
+    free_forms _ _ _ _ _ (c.derived.ensures.answers _ _ (longer_self _) c.requires.settled
     (makes_so _ _ _ _ (grind (arith, answer_by))
     (derives_on _ _ _ _ _ c.read-source.ensures.table
-    (c.rename_axis-made.ensures _ (object_settled _ _ _ _ c.read-source.ensures.table c.requires.settled) (rw c.as_slice.ensures.value (names_given c.args.bound.now 0 _ _ _ c.in_ok-names-in-RenameAxis.ensures c.requires.call.given)))).1)
+    (c.rename_axis-made.ensures _ (object_settled _ _ _ _ c.read-source.ensures.table c.requires.settled) (rw c.as_slice.ensures.value (names_given c.args.bound.now 0 _ _ _ c.in_ok-names-in-RenameAxis.ensures c.requires.call.given)))).1))
 
 -- columns as levels
 pub set_index-made-requires-clause-known : goal.set_index-made-requires-clause-known
@@ -28,10 +28,10 @@ derived-requires-in-SetIndex-clause-fits c = (derives_on _ _ _ _ _ c.read-source
 pub returns-in_ok-places-in-SetIndex : goal.returns-in_ok-places-in-SetIndex
 returns-in_ok-places-in-SetIndex c =
     let w = world c.args.store.now c.args.dict.now in
-    c.derived-in-SetIndex.ensures _ _ (longer_self _) c.requires.settled
+    free_forms _ _ _ _ _ (c.derived-in-SetIndex.ensures.answers _ _ (longer_self _) c.requires.settled
     (makes_by w _ _ c.args.bound.now _ _ _ (λ a t. set_index_result t (a 0)) _ c.read-source.ensures.table (ap method.Levels c.in-SetIndex.is) c.requires.call.parameters (λ v. refl)
     (grind arith)
-    (derives_on _ _ _ _ _ c.read-source.ensures.table c.set_index-made.ensures).1)
+    (derives_on _ _ _ _ _ c.read-source.ensures.table c.set_index-made.ensures).1))
 
 -- levels as columns, or none of them
 pub derived-requires-then-truth-clause-fits : goal.derived-requires-then-truth-clause-fits
@@ -40,9 +40,9 @@ derived-requires-then-truth-clause-fits c =
 
 pub returns-then-truth : goal.returns-then-truth
 returns-then-truth c =
-    c.derived-then-truth.ensures _ _ (longer_self _) c.requires.settled
+    free_forms _ _ _ _ _ (c.derived-then-truth.ensures.answers _ _ (longer_self _) c.requires.settled
     (makes_so _ _ _ _ (grind (arith, answer_by))
-    (derives_on _ _ _ _ _ c.read-source.ensures.table (c.renumber-made.ensures _ (object_settled _ _ _ _ c.read-source.ensures.table c.requires.settled))).1)
+    (derives_on _ _ _ _ _ c.read-source.ensures.table (c.renumber-made.ensures _ (object_settled _ _ _ _ c.read-source.ensures.table c.requires.settled))).1))
 
 pub reset_levels-made-requires : goal.reset_levels-made-requires
 reset_levels-made-requires c = search object_settled
@@ -52,9 +52,14 @@ derived_behind-requires-clause-fits c = (extends_on _ _ _ _ _ c.read-source.ensu
 
 pub returns-else-truth : goal.returns-else-truth
 returns-else-truth c =
-    c.derived_behind.ensures _ _ c.reset_levels-made.ensures.longer c.requires.settled
+    let w = world c.args.store.now c.args.dict.now in
+    let kept : c.truth.result ≡ false = search rules in
+    forms_within _ _ _ _ _ _
+    (λ answer is. reset_costs w _ c.args.bound.now _ c.args.on.0 c.truth.result c.read-source.ensures.table (ap method.Levels c.in-ResetIndex.is) answer c.requires.call.parameters c.requires.call.binds (c.truth.ensures w.tables w.texts) kept)
+    (c.derived_behind.ensures.answers _ _ c.reset_levels-made.ensures.longer c.requires.settled
     (makes_so _ _ _ _ (grind (arith, answer_by))
     (extends_on _ _ _ _ _ c.read-source.ensures.table c.reset_levels-made.ensures.answer).1)
+    _ c.reset_levels-made.ensures.within)
 
 -- a level that goes
 pub drop_level-made-requires-clause-known : goal.drop_level-made-requires-clause-known
@@ -68,9 +73,9 @@ derived-requires-in-Droplevel-clause-fits c = (derives_on _ _ _ _ _ c.read-sourc
 
 pub returns-in-Droplevel : goal.returns-in-Droplevel
 returns-in-Droplevel c =
-    c.derived-in-Droplevel.ensures _ _ (longer_self _) c.requires.settled
+    free_forms _ _ _ _ _ (c.derived-in-Droplevel.ensures.answers _ _ (longer_self _) c.requires.settled
     (makes_so _ _ _ _ (grind (arith, answer_by))
-    (derives_on _ _ _ _ _ c.read-source.ensures.table c.drop_level-made.ensures).1)
+    (derives_on _ _ _ _ _ c.read-source.ensures.table c.drop_level-made.ensures).1))
 
 -- two levels that change places
 pub swap_levels-made-requires-clause-known : goal.swap_levels-made-requires-clause-known
@@ -87,6 +92,6 @@ derived-requires-in-Swaplevel-clause-fits c = (derives_on _ _ _ _ _ c.read-sourc
 
 pub returns-in-Swaplevel : goal.returns-in-Swaplevel
 returns-in-Swaplevel c =
-    c.derived-in-Swaplevel.ensures _ _ (longer_self _) c.requires.settled
+    free_forms _ _ _ _ _ (c.derived-in-Swaplevel.ensures.answers _ _ (longer_self _) c.requires.settled
     (makes_so _ _ _ _ (grind (arith, answer_by))
-    (derives_on _ _ _ _ _ c.read-source.ensures.table c.swap_levels-made.ensures).1)
+    (derives_on _ _ _ _ _ c.read-source.ensures.table c.swap_levels-made.ensures).1))

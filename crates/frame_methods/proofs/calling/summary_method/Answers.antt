@@ -9,6 +9,6 @@ summarize-made-requires c = search object_settled
 
 pub returns : goal.returns
 returns c =
-    forms_so _ _ _ _ _
+    forms_so _ _ _ _ _ _
     (grind arith)
     (c.answer_made.ensures c.args.dict.now _ (longer_self _) c.requires.settled c.summarize-made.ensures.answer)

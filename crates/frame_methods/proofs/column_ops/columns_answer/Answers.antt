@@ -15,7 +15,7 @@ pub returns-in_ok-values-in-Isin : goal.returns-in_ok-values-in-Isin
 returns-in_ok-values-in-Isin c =
     let w = world c.args.store.now c.args.dict.now in
     let t = table_value c.args.dict.now (table_at (tables c.args.store.now) c.args.on.0) in
-    forms_so _ _ _ _ _
+    forms_so _ _ _ _ _ _
     (isin_meant _ _ _ _ _ t (c.list.ensures.value w.tables w.texts) (c.in_ok-values-in-Isin.ensures.same w.texts)
     ∙ answer_by w _ _ c.args.bound.now t (λ a. on (list_in (a 0)) (λ parts. each_column (listed_column (cells_of parts)) t)) (ap method.Columns c.in-Isin.is) c.requires.call.parameters refl)
     c.columns_placed-in-Isin.ensures

@@ -1,5 +1,6 @@
 use Rattle.{
   frame_parts.proofs.Common.{arith, ◌≡◌, [], ◌∷◌, None, slice_index_or, object_settled, headings_part},
+  frame_labels.proofs.AnswerLaws.{forms_so},
   frame_methods.proofs.NameLaws.{named_settled, heading_list, label_seen, one_item, frame_heading},
 }
 use Rattle.frame_methods.proofs.renaming.to_frame.Goals as goal
@@ -12,4 +13,4 @@ as_frame-requires-clause-labels c =
     grind (arith, named_settled, frame_heading, label_seen, heading_list)
 
 pub returns : goal.returns
-returns = grind (arith, frame_heading, label_seen, heading_list, one_item)
+returns c = forms_so _ _ _ _ _ _ (grind (arith, frame_heading, label_seen, heading_list, one_item)) c.as_frame.ensures

@@ -9,6 +9,6 @@ pub returns : goal.returns
 returns c = λ texts settled.
     let all = rows_read texts _ _ _ c.read.ensures.table c.rows.ensures in
     let counted = rw (to_z-of_z w64 c.args.n c.ranges.n) at c.count_taken-count.ensures.taken in
-    forms_so _ _ _ _ _
+    forms_so _ _ _ _ _ _
     (grind (arith, first_meant))
     (c.sliced.ensures texts settled)

@@ -12,6 +12,6 @@ returns c = λ texts settled.
     let count = c.count_taken-count.result in
     let all = rows_read _ _ _ _ c.read.ensures.table c.rows-all.ensures in
     let counted = rw (to_z-of_z w64 c.args.n c.ranges.n) at c.count_taken-count.ensures.taken in
-    forms_so _ _ _ _ _
+    forms_so _ _ _ _ _ _
     (cc (last_meant t c.args.n count (counted ∙ ap (λ k. rows_before k c.args.n) all)))
     (c.sliced.ensures texts settled)

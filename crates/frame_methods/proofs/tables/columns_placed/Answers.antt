@@ -10,5 +10,5 @@ columns_table-table-requires-clause-known g c = search object_settled
 pub returns : goal.returns
 returns g c =
     let at : c.read.result ≡ table_at (tables c.args.store.now) c.args.on.0 = grind arith in
-    forms_so _ _ _ _ _ (cc)
+    forms_so _ _ _ _ _ _ (cc)
     (c.placed.ensures.answers _ _ c.columns_table-table.ensures.longer c.requires.settled c.columns_table-table.ensures.answer)

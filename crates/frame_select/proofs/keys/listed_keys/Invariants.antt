@@ -1,6 +1,6 @@
 use Rattle.{
   frame_parts.proofs.Common.{◌≡◌, List, drop, Text, HaveLevels, Tables, items_of},
-  meaning_select.specs.Keys.{whole_items},
+  meaning_charge.specs.select.Keys.{whole_items},
   frame_select.proofs.HeadingLaws.{keys_after},
 }
 use Rattle.frame_select.proofs.keys.listed_keys.Given as goal

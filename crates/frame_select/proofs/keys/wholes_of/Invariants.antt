@@ -1,6 +1,6 @@
 use Rattle.{
   frame_parts.proofs.Common.{◌≡◌, List, drop, Text, try_all, cells_value},
-  meaning_select.specs.Keys.{whole_cell},
+  meaning_charge.specs.select.Keys.{whole_cell},
   frame_select.proofs.HeadingLaws.{made_after},
 }
 use Rattle.frame_select.proofs.keys.wholes_of.Given as goal

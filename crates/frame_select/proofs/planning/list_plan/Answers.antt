@@ -9,4 +9,4 @@ selected_columns-requires-clause-cells c =
     scalars_settled _ _ _ _ (λ texts. ap (option_map (cells_value texts)) (sym c.in-Some.is) ∙ c.in_ok-cells.ensures _ texts) c.requires.items.1
 
 pub returns-in_ok-places-in-Some-clause-plan : goal.returns-in_ok-places-in-Some-clause-plan
-returns-in_ok-places-in-Some-clause-plan c = λ live. grind (arith, length-map)
+returns-in_ok-places-in-Some-clause-plan c = λ live. record { picked = grind (arith, length-map); shared = grind arith }

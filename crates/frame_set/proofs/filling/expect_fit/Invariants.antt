@@ -1,12 +1,15 @@
 use Rattle.{
-  frame_parts.proofs.Common.{◌≡◌, List, drop, Text, Table, cells_value},
+  frame_parts.proofs.Common.{◌≡◌, ℕ, ◌%◌, List, drop, length, Text, Table, cells_value},
   frame_select.specs.select.Set.{fit_from},
-  frame_set.specs.Values.{HasKinds},
+  frame_set.specs.Values.{AreKindsOf},
 }
 use Rattle.frame_set.proofs.filling.expect_fit.Given as goal
 
--- whether the values from this one on fit
-abbrev pub invariant-loop-k : goal.invariant-loop-k
-invariant-loop-k l =
-    (texts : List Text) (grown : Table) → HasKinds grown l.on l.added l.columns
-    → fit_from l.k grown l.columns (cells_value texts (drop l.k l.values)) ≡ fit_from 0 grown l.columns (cells_value texts l.values)
+-- the column of the next value, and whether the values from it on fit
+abbrev pub invariant-loop-value : goal.invariant-loop-value
+invariant-loop-value l = record {
+  column : l.column ≡ l.value-index % length l.kinds;
+  fits :
+      (texts : List Text) (grown : Table) (columns : List ℕ) → AreKindsOf grown columns l.kinds
+      → fit_from l.value-index grown columns (cells_value texts (drop l.value-index l.values)) ≡ fit_from 0 grown columns (cells_value texts l.values);
+}

@@ -1,5 +1,5 @@
 use Rattle.{
-  frame_parts.proofs.Common.{◌≡◌, rules, err_from_is_err_and, Frame, entry_of, tables, headings_part, object_settled},
+  frame_parts.proofs.Common.{◌≡◌, rules, err_from_is_err_and, Frame, entry_of, free, tables, headings_part, object_settled},
   frame_select.specs.select.Set.{removal_result},
   frame_set.proofs.SetLaws.{entry_label_settled, removal_set, set_left},
 }
@@ -16,10 +16,12 @@ pub returns-in_err-remove_column : goal.returns-in_err-remove_column
 returns-in_err-remove_column c =
     let live = tables c.args.store.now in
     let p = err_from_is_err_and c.from_residual-in_err-remove_column.result c.from_residual-in_err-remove_column.ensures.1 in
-    rw (p.1, p.2) (set_left _ _ _ c.args.on (removal_result (entry_of live c.args.dict.now c.args.on) (entry_of live c.args.dict.now c.args.label)) c.requires.settled c.in_err-remove_column.ensures.err)
+    let refused = c.in_err-remove_column.ensures in
+    rw (p.1, p.2) (set_left _ _ _ _ _ free c.args.on (removal_result (entry_of live c.args.dict.now c.args.on) (entry_of live c.args.dict.now c.args.label)) c.requires.settled refused.err refused.held refused.blocks)
 
 pub returns : goal.returns
 returns c =
     let frame : c.read-source.result.shape ≡ Frame = search rules in
-    removal_set _ _ _ _ _ _ _ _ _ _
-    c.in-Object-Scalar.is-0 c.in-Object-Scalar.is-1 c.read-source.ensures.table frame (c.from.ensures.1 _) c.requires.settled c.in_ok-place.ensures.answer c.in_ok-remove_column.ensures.ok
+    let done = c.in_ok-remove_column.ensures in
+    removal_set _ _ _ _ _ _ _ _ _ _ _ _
+    c.in-Object-Scalar.is-0 c.in-Object-Scalar.is-1 c.read-source.ensures.table frame (c.from.ensures.1 _) c.requires.settled c.in_ok-place.ensures.answer done.ok done.held done.blocks

@@ -7,7 +7,7 @@ use Rattle.script_run.proofs.advancing.advance.Goals as goal
 
 pub returns-in_err-warn-in-Ok-clause-stops : goal.returns-in_err-warn-in-Ok-clause-stops
 returns-in_err-warn-in-Ok-clause-stops g c =
-    stops_warning c.in-Ok.ensures.answers _ _ _ _ _ (search) c.in_err-warn-in-Ok.ensures.status refl c.in_err-warn-in-Ok.ensures.part
+    stops_warning (λ held. (c.in-Ok.ensures.answers held).goes) _ _ _ _ _ (search) c.in_err-warn-in-Ok.ensures.status refl c.in_err-warn-in-Ok.ensures.part
 
 pub returns-in_err-warn-in-Err-Refused-clause-stops : goal.returns-in_err-warn-in-Err-Refused-clause-stops
 returns-in_err-warn-in-Err-Refused-clause-stops g c =
@@ -18,12 +18,15 @@ pub returns-in_ok-warn-in-Ok-clause-on : goal.returns-in_ok-warn-in-Ok-clause-on
 returns-in_ok-warn-in-Ok-clause-on g c =
     let at = outside g.F.Files.seen g.O.Sink.seen g.E.Sink.seen in
     on_ok_weaker c.show.result
-    (λ shown. goes_on c.in-Ok.ensures.answers _ (at c.args.files.now c.args.out.now c.args.err.now) (at c.step.new.files c.show.new.out c.warn.new.err) c.in_ok-warn-in-Ok.ensures.shown refl refl (rw c.as_str.ensures at shown) c.show.ensures.faults c.in_ok-warn-in-Ok.ensures.faults)
+    (λ shown. goes_on c.in-Ok.ensures.answers _ _ _ _ c.in-Ok.ensures.peak c.in-Ok.ensures.rows (at c.args.files.now c.args.out.now c.args.err.now) (at c.step.new.files c.show.new.out c.warn.new.err) c.in_ok-warn-in-Ok.ensures.shown refl refl (rw c.as_str.ensures at shown) c.show.ensures.faults c.in_ok-warn-in-Ok.ensures.faults)
     c.show.ensures.shown
+
+pub returns-in_ok-warn-in-Ok-clause-within : goal.returns-in_ok-warn-in-Ok-clause-within
+returns-in_ok-warn-in-Ok-clause-within g c = on_ok_weaker c.show.result (λ _. c.in-Ok.ensures.within) c.show.ensures.shown
 
 pub returns-in_ok-warn-in-Ok-clause-stops : goal.returns-in_ok-warn-in-Ok-clause-stops
 returns-in_ok-warn-in-Ok-clause-stops g c =
-    IfErr-weaker c.show.result _ _ (λ status (is, part, risen). stops_showing c.in-Ok.ensures.answers _ _ _ c.in_ok-warn-in-Ok.ensures.shown status is (grind arith) risen) c.show.ensures.part
+    IfErr-weaker c.show.result _ _ (λ status (is, part, risen). stops_showing (λ held. (c.in-Ok.ensures.answers held).goes) _ _ _ c.in_ok-warn-in-Ok.ensures.shown status is (grind arith) risen) c.show.ensures.part
 
 pub returns-in_ok-warn-in-Err-Refused-clause-stops : goal.returns-in_ok-warn-in-Err-Refused-clause-stops
 returns-in_ok-warn-in-Err-Refused-clause-stops g c =

@@ -1,7 +1,7 @@
 use Rattle.{
-  script_session.{proofs.cells.Common.{◌≡◌, map, refl, inl, inr, string_bytes}, specs.{script.Run.{finished, usage}, script_state.Reads.{paths_of}}},
-  meaning_run.specs.Asked.{RunWords, Asked, usage_help, wrong_words, demonstration, fixed, script, asked},
-  script_run.{specs.{Ends.{outside}}, proofs.{RunLaws.{ends_with_line, ends_with_output}, Options.{some-always}, FileLaws.{complete_run, ends_unbegun, not_unread}, OneResult.{run_one}, AskedLaws.{fixed_ends, fixed_told, fixed_unbegun, script_here, script_told}}},
+  script_session.{proofs.cells.Common.{map, refl, inl, inr, string_bytes}, specs.{script.Run.{finished, usage}}},
+  meaning_run.specs.Asked.{usage_help, wrong_words, demonstration, asked},
+  script_run.{specs.{Ends.{outside}}, proofs.{RunLaws.{ends_with_line, ends_with_output}, Options.{some-always}, FileLaws.{complete_run, ends_unbegun, not_unread}, OneResult.{some_asked}, AskedLaws.{ends_any, fixed_ends, fixed_told, fixed_unbegun, script_here, script_told}}},
 }
 use Rattle.script_run.proofs.running.run.Goals as goal
 
@@ -9,7 +9,7 @@ use Rattle.script_run.proofs.running.run.Goals as goal
 pub returns-in_default-clause-told : goal.returns-in_default-clause-told
 returns-in_default-clause-told g c =
     let old = outside g.F.Files.seen g.O.Sink.seen g.E.Sink.seen c.args.files.now c.args.out.now c.args.err.now in
-    some-always _ _ (λ held. ends_unbegun _ old old (run_one (map string_bytes c.args.words.now.items) held) refl refl)
+    some-always _ _ (λ held. ends_unbegun _ old old (some_asked (asked (map string_bytes c.args.words.now.items)) held) refl refl)
 
 pub returns-in_default-clause-words : goal.returns-in_default-clause-words
 returns-in_default-clause-words g c = fixed_unbegun _ (outside g.F.Files.seen g.O.Sink.seen g.E.Sink.seen c.args.files.now c.args.out.now c.args.err.now)
@@ -20,14 +20,14 @@ returns-in-Help-clause-words g c =
     let at = outside g.F.Files.seen g.O.Sink.seen g.E.Sink.seen c.args.files.now in
     let old = at c.args.out.now c.args.err.now in
     let new = at c.end_usage.new.sink c.args.err.now in
-    fixed_ends _ usage_help (rw (c.in-Help.is, c.deref.ensures.value) at c.in-Ok.ensures) _ old new (ends_with_output old new finished _ _ refl refl c.end_usage.ensures.ended)
+    fixed_ends _ usage_help (rw (c.in-Help.is, c.deref.ensures.value) at c.in-Ok.ensures) _ old new (ends_any _ _ old new (ends_with_output old new finished _ _ refl refl c.end_usage.ensures.ended))
 
 pub returns-in-Help-clause-told : goal.returns-in-Help-clause-told
 returns-in-Help-clause-told g c =
     let at = outside g.F.Files.seen g.O.Sink.seen g.E.Sink.seen c.args.files.now in
     let old = at c.args.out.now c.args.err.now in
     let new = at c.end_usage.new.sink c.args.err.now in
-    fixed_told _ usage_help (rw (c.in-Help.is, c.deref.ensures.value) at c.in-Ok.ensures) _ old new (ends_with_output old new finished _ _ refl refl c.end_usage.ensures.ended) _
+    fixed_told _ usage_help (rw (c.in-Help.is, c.deref.ensures.value) at c.in-Ok.ensures) _ old new (ends_any _ _ old new (ends_with_output old new finished _ _ refl refl c.end_usage.ensures.ended)) _
 
 pub returns-in-Help-clause-complete : goal.returns-in-Help-clause-complete
 returns-in-Help-clause-complete g c =
@@ -39,14 +39,14 @@ returns-in-Wrong-clause-words g c =
     let at = outside g.F.Files.seen g.O.Sink.seen g.E.Sink.seen c.args.files.now in
     let old = at c.args.out.now c.args.err.now in
     let new = at c.args.out.now c.end_usage-in-Wrong.new.sink in
-    fixed_ends _ wrong_words (rw (c.in-Wrong.is, c.deref.ensures.value) at c.in-Ok.ensures) _ old new (ends_with_line old new usage _ _ refl refl c.end_usage-in-Wrong.ensures.ended)
+    fixed_ends _ wrong_words (rw (c.in-Wrong.is, c.deref.ensures.value) at c.in-Ok.ensures) _ old new (ends_any _ _ old new (ends_with_line old new usage _ _ refl refl c.end_usage-in-Wrong.ensures.ended))
 
 pub returns-in-Wrong-clause-told : goal.returns-in-Wrong-clause-told
 returns-in-Wrong-clause-told g c =
     let at = outside g.F.Files.seen g.O.Sink.seen g.E.Sink.seen c.args.files.now in
     let old = at c.args.out.now c.args.err.now in
     let new = at c.args.out.now c.end_usage-in-Wrong.new.sink in
-    fixed_told _ wrong_words (rw (c.in-Wrong.is, c.deref.ensures.value) at c.in-Ok.ensures) _ old new (ends_with_line old new usage _ _ refl refl c.end_usage-in-Wrong.ensures.ended) _
+    fixed_told _ wrong_words (rw (c.in-Wrong.is, c.deref.ensures.value) at c.in-Ok.ensures) _ old new (ends_any _ _ old new (ends_with_line old new usage _ _ refl refl c.end_usage-in-Wrong.ensures.ended)) _
 
 pub returns-in-Wrong-clause-complete : goal.returns-in-Wrong-clause-complete
 returns-in-Wrong-clause-complete g c =
@@ -54,10 +54,10 @@ returns-in-Wrong-clause-complete g c =
 
 -- the demonstration
 pub returns-in-Demo-clause-words : goal.returns-in-Demo-clause-words
-returns-in-Demo-clause-words g c = fixed_ends _ (demonstration c.in-Demo.orders) (rw (c.in-Demo.is, c.deref.ensures.value) at c.in-Ok.ensures) _ _ _ (c.run_demo.ensures.told (g.F.Files.seen c.args.files.now))
+returns-in-Demo-clause-words g c = fixed_ends _ (demonstration c.in-Demo.stats c.in-Demo.orders) (rw (c.in-Demo.is, c.deref.ensures.value) at c.in-Ok.ensures) _ _ _ (c.run_demo.ensures.told (g.F.Files.seen c.args.files.now))
 
 pub returns-in-Demo-clause-told : goal.returns-in-Demo-clause-told
-returns-in-Demo-clause-told g c = fixed_told _ (demonstration c.in-Demo.orders) (rw (c.in-Demo.is, c.deref.ensures.value) at c.in-Ok.ensures) _ _ _ (c.run_demo.ensures.told (g.F.Files.seen c.args.files.now)) _
+returns-in-Demo-clause-told g c = fixed_told _ (demonstration c.in-Demo.stats c.in-Demo.orders) (rw (c.in-Demo.is, c.deref.ensures.value) at c.in-Ok.ensures) _ _ _ (c.run_demo.ensures.told (g.F.Files.seen c.args.files.now)) _
 
 pub returns-in-Demo-clause-cause : goal.returns-in-Demo-clause-cause
 returns-in-Demo-clause-cause g c = c.run_demo.ensures.cause (g.F.Files.seen c.args.files.now)

@@ -1,12 +1,11 @@
 use Rattle.{
   std.specs.Borrow.{Bor},
-  script_state.{proofs.{cells.Common.{rules, refl, length, ◌≡◌, sym, ◌∙◌, ap, subst, Some, None, arith, Option, append-nil, List, is_some, IfSome, Text}, Evaluations.{evaluates_by, apart, flat, spent, known_after, seen_after, stops, goes_on, adds, makes, stays, forms, knows_none, names_value, writes_out}, Worlds.{of_value, of_items, of_argument, of_pairs, of_arguments, of_subscript, seen_kept, keeps_both, brackets_seen, brackets_kept}, Rides.{then_gives}, laws.{FormFaults.{sign_result_fault, infix_result_fault, length_result_fault}, SelectFaults.{select_result_fault}, CallFaults.{call_result_fault}}}, specs.{language.{Tree.{bare, named, keyed}, Depth.{depth, step_depth}}, tables.Value.{Entry, one, entries, Given, NamedGiven}, call.Signature.{function_named}, select.Select.{plain, through}, method.Calls.{has_method, call_result}, script_tokens.View.{binary_of}, script.{Reading.{Reads, at_once, gives, then_read}, Expression.{where_named}}, Work.{world_of}, frame_calls.Calls.{chain_of, IsKnownBetween}}},
+  script_state.{proofs.{cells.Common.{rules, refl, length, ◌≡◌, sym, ◌∙◌, ap, subst, Some, None, arith, Option, append-nil, List, is_some, IfSome, Text}, Evaluations.{evaluates_by, apart, flat, spent, known_after, seen_after, stops, goes_on, adds, makes, stays, forms, knows_none, names_value, writes_out}, Worlds.{of_value, of_items, of_argument, of_pairs, of_arguments, of_subscript, seen_kept, keeps_both, brackets_seen, brackets_kept}, Rides.{cost_nothing, then_gives}, laws.{FormFaults.{sign_result_fault, infix_result_fault, length_result_fault}, SelectFaults.{select_result_fault}, CallFaults.{call_result_fault}}}, specs.{language.{Tree.{bare, named, keyed}, Depth.{depth, step_depth}}, tables.Value.{Entry, one, entries, Given, NamedGiven}, call.Signature.{function_named}, select.Select.{plain, through}, method.Calls.{has_method}, script_tokens.View.{binary_of}, script.{Reading.{Reads, gives, then_read}, Expression.{called, where_named}}, Work.{world_of}, frame_calls.Calls.{chain_of, IsKnownBetween}}},
   frame_store.{proofs.RowLaws.{item_of-Row, argument_of-Table}, specs.{declared.arguments.{Named.{Named}, Argument.{Argument}}, World.{World, arguments_in, entry_in, subscript_in, IsKnownArgument, AreKnownArguments}}},
   script_tree.{specs.View.{expr_of, step_of, arg_of, parts_of, named_parts_of, pair_parts_of, sub_of as view_sub}, proofs.Rows.{expr_of-Make, step_of-Method, step_of-Group, step_of-Rolling, step_of-Expanding, arg_of-Many, arg_of-Row, arg_of-Table}},
   script_session.{specs.{Parts.{brackets_in}, Links.{link_name, between_of, chain_meant}, declared.link.Link.{Link}}, proofs.{Gathering.{gathered, gathers_first, gathers_next, gathers_none}, Refusing.{refuses_kind}, Parts.{reads_items, reads_pairs, reads_arguments, parts_end, pairs_end, no_items, no_pairs, no_arguments, items_push, pairs_push, arguments_push, items_known, pairs_known, arguments_known, key_known, span_known, row_known, table_known}, Trees.{part_depth, sub_of-Span, step_of-Access}}},
 }
 use Rattle.script_state.specs.method.Calls as calls
-use Rattle.script_state.specs.language.Tree as tree
 use Rattle.script_session.proofs.evaluating.+evaluating.Goals as goal
 
 pub evaluate-returns-in-Name : goal.evaluate-returns-in-Name
@@ -15,7 +14,7 @@ evaluate-returns-in-Name g t c = rw c.in-Name.is (names_value _ _ _ c.named.ensu
 pub evaluate-returns-in-Literal : goal.evaluate-returns-in-Literal
 evaluate-returns-in-Literal g t c =
     let x = c.literal.ensures in
-    rw c.in-Literal.is (writes_out c.args.work.now _ _ _ x.names x.kept x.value x.found x.memory)
+    rw c.in-Literal.is (writes_out c.args.work.now _ _ _ x.names x.kept x.tab x.value x.found x.memory)
 
 pub evaluate-returns-in-Paren : goal.evaluate-returns-in-Paren
 evaluate-returns-in-Paren g t c = rw (c.in-Paren.is, ← c.deref-in-Paren.ensures) c.evaluate-in-Paren.ensures
@@ -25,7 +24,7 @@ evaluate-returns-in_err-value-in-Unary g t c = rw (c.in-Unary.is, ← c.deref.en
 
 pub evaluate-returns-in_ok-value-in-Unary : goal.evaluate-returns-in_ok-value-in-Unary
 evaluate-returns-in_ok-value-in-Unary g t c =
-    rw (c.in-Unary.is, ← c.deref.ensures) (goes_on _ c.in_ok-value-in-Unary.ensures (forms _ (search sign_result_fault) c.evaluated.ensures (search)))
+    rw (c.in-Unary.is, ← c.deref.ensures) (goes_on _ c.in_ok-value-in-Unary.ensures (forms _ _ (search sign_result_fault) c.evaluated.ensures c.sign.ensures))
 
 pub evaluate-returns-in_err-a-in-Infix : goal.evaluate-returns-in_err-a-in-Infix
 evaluate-returns-in_err-a-in-Infix g t c = rw (c.in-Infix.is, ← c.deref-in-Infix.ensures) (stops _ c.in_err-a-in-Infix.ensures (search))
@@ -44,7 +43,7 @@ evaluate-returns-in_ok-b-in-Infix g t c =
     let x = c.in_ok-a-in-Infix.ensures in
     let y = c.in_ok-b-in-Infix.ensures in
     rw (c.in-Infix.is, ← c.deref-in-Infix.ensures, ← c.deref-in-Infix-2.ensures) (goes_on _ x (goes_on _ y (rw (← seen_after y of_value x.found.known)
-    (forms _ (infix_result_fault (binary_of c.in-Infix.op) _ (entry_in (world_of c.evaluate-in-Infix-2.new.work) c.in_ok-b-in-Infix.b)) c.evaluated-in-Infix.ensures (search)))))
+    (forms _ _ (infix_result_fault (binary_of c.in-Infix.op) _ (entry_in (world_of c.evaluate-in-Infix-2.new.work) c.in_ok-b-in-Infix.b)) c.evaluated-in-Infix.ensures c.infix.ensures))))
 
 pub evaluate-returns-in_err-on-in-After : goal.evaluate-returns-in_err-on-in-After
 evaluate-returns-in_err-on-in-After g t c = rw (c.in-After.is, ← c.deref-in-After.ensures) (stops _ c.in_err-on-in-After.ensures (search))
@@ -58,7 +57,7 @@ evaluate-returns-in_err-value-in-Len g t c = rw (c.in-Len.is, ← c.deref-in-Len
 
 pub evaluate-returns-in_ok-value-in-Len : goal.evaluate-returns-in_ok-value-in-Len
 evaluate-returns-in_ok-value-in-Len g t c =
-    rw (c.in-Len.is, ← c.deref-in-Len.ensures) (goes_on _ c.in_ok-value-in-Len.ensures (forms _ (search length_result_fault) c.evaluated-in-Len.ensures c.length.ensures))
+    rw (c.in-Len.is, ← c.deref-in-Len.ensures) (goes_on _ c.in_ok-value-in-Len.ensures (evaluates_by (forms _ _ (search length_result_fault) c.evaluated-in-Len.ensures c.length.ensures) (λ fs. cost_nothing _)))
 
 pub evaluate-arguments-requires : goal.evaluate-arguments-requires
 evaluate-arguments-requires g t c =
@@ -89,7 +88,7 @@ after-select-requires g t c =
 pub after-returns-in_ok-key-in-Item : goal.after-returns-in_ok-key-in-Item
 after-returns-in_ok-key-in-Item g t c =
     let x = c.in_ok-key-in-Item.ensures in
-    rw (c.in-Item.is, ← seen_after x of_value c.requires) (goes_on _ x (forms _ (select_result_fault (entry_in (world_of c.given.new.work) c.args.on) _ _ _) c.evaluated.ensures (search)))
+    rw (c.in-Item.is, ← seen_after x of_value c.requires) (goes_on _ x (forms _ _ (select_result_fault (entry_in (world_of c.given.new.work) c.args.on) _ _ _) c.evaluated.ensures c.select.ensures))
 
 pub after-returns-in_err-first-in-Access : goal.after-returns-in_err-first-in-Access
 after-returns-in_err-first-in-Access g t c =
@@ -104,7 +103,7 @@ pub after-returns-in_ok-first-in-Access : goal.after-returns-in_ok-first-in-Acce
 after-returns-in_ok-first-in-Access g t c =
     let x = c.in_ok-first-in-Access.ensures in
     rw (ap step_of c.in-Access.is ∙ step_of-Access _ _ _, ← c.selector_of.ensures, ← seen_after x of_value c.requires) (apart _ _ _ (goes_on _ x
-    (forms _ (select_result_fault (entry_in (world_of c.subscripts.new.work) c.args.on) _ _ _) c.evaluated-in-Access.ensures (search))))
+    (forms _ _ (select_result_fault (entry_in (world_of c.subscripts.new.work) c.args.on) _ _ _) c.evaluated-in-Access.ensures c.select-in-Access.ensures)))
 
 pub after-arguments-requires : goal.after-arguments-requires
 after-arguments-requires g t c =
@@ -133,7 +132,7 @@ after-returns-in_ok-args-in-Method g t c =
     let x = c.in_ok-args-in-Method.ensures in
     rw (ap step_of c.in-Method.is ∙ step_of-Method _ _, rw c.as_str.ensures at (c.in_ok-method-in-Method.ensures.known c.args.work.now.dict))
     (rw (← seen_after x of_value c.requires, ← c.as_str-in-Method.ensures) (goes_on _ x
-    (forms _ (call_result_fault (entry_in (world_of c.arguments.new.work) c.args.on) (calls.plain c.as_str-in-Method.result.now) _) c.evaluated-in-Method.ensures (search))))
+    (forms _ _ (call_result_fault (entry_in (world_of c.arguments.new.work) c.args.on) (calls.plain c.as_str-in-Method.result.now) _) c.evaluated-in-Method.ensures c.method.ensures)))
 
 -- what a chain is seen as
 chain_seen : (w : World) (link : Link) (args : Bor (List Named)) (by : Bor (Option Argument)) (name : Text) → chain_of w (between_of link args by) name ≡ chain_meant link (arguments_in w args.now) (brackets_in w by.now) name
@@ -144,8 +143,8 @@ chain_known : (w : World) (link : Link) (args : Bor (List Named)) (by : Bor (Opt
 chain_known = grind arith
 
 -- a call without brackets reads nothing in their place
-no_brackets : (v : Entry) (n : Text) (chain : List NamedGiven → calls.ChainValue) (args more : Reads (List NamedGiven)) → where_named (has_method v n) n (then_read args (λ g. then_read more (λ gs. at_once (call_result v (chain g) gs))))
-    ≡ where_named (has_method v n) n (then_read args (λ g. then_read (gives None) (λ (h : Option Given). then_read more (λ gs. at_once (call_result v (chain g) gs)))))
+no_brackets : (v : Entry) (n : Text) (chain : List NamedGiven → calls.ChainValue) (args more : Reads (List NamedGiven)) → where_named (has_method v n) n (then_read args (λ g. then_read more (called v (chain g))))
+    ≡ where_named (has_method v n) n (then_read args (λ g. then_read (gives None) (λ (h : Option Given). then_read more (called v (chain g)))))
 no_brackets = search then_gives
 
 pub after-through-requires : goal.after-through-requires
@@ -196,10 +195,10 @@ through-chained-requires g t c =
     let y = c.in_ok-by.ensures in
     let z = c.in_ok-more.ensures in
     let args = known_after z of_arguments (known_after y of_arguments x.found) in
-    let by = brackets_kept _ _ c.brackets.new.work.settled c.arguments-2.new.work.settled z.kept c.in_ok-by.by y.found in
+    let by = brackets_kept (world_of c.brackets.new.work) (world_of c.arguments-2.new.work) c.brackets.new.work.settled c.arguments-2.new.work.settled z.kept c.in_ok-by.by y.found in
     record {
       on = known_after z of_value (known_after y of_value (known_after x of_value c.requires));
-      before = subst (IsKnownBetween (world_of c.arguments-2.new.work)) (sym c.between-between.ensures) (search chain_known);
+      before = subst (IsKnownBetween (world_of c.arguments-2.new.work)) (sym c.between-between.ensures) (search (chain_known (world_of c.arguments-2.new.work)));
       arguments = z.found;
     }
 
@@ -212,13 +211,13 @@ through-returns g t c =
     let y = c.in_ok-by.ensures in
     let z = c.in_ok-more.ensures in
     let kept = keeps_both _ _ _ y.kept z.kept in
-    let on = seen_kept _ _ c.args.work.now.settled w.settled (keeps_both _ _ _ x.kept kept) of_value c.requires in
-    let args = seen_kept _ _ p.settled w.settled kept of_arguments x.found in
-    let by : brackets_in (world_of w) c.in_ok-by.by ≡ brackets_in (world_of q) c.in_ok-by.by = search brackets_seen in
+    let on = seen_kept (world_of c.args.work.now) (world_of w) c.args.work.now.settled w.settled (keeps_both _ _ _ x.kept kept) of_value c.requires in
+    let args = seen_kept (world_of p) (world_of w) p.settled w.settled kept of_arguments x.found in
+    let by : brackets_in (world_of w) c.in_ok-by.by ≡ brackets_in (world_of q) c.in_ok-by.by = brackets_seen (world_of q) (world_of w) q.settled w.settled z.kept c.in_ok-by.by y.found in
     let name = c.as_str.result.now in
-    let chained = (λ i. chain_of (world_of w) (c.between-between.ensures i) name) ∙ chain_seen _ _ _ _ _ ∙ (λ i. chain_meant c.args.call.link (args i) (by i) (c.as_str.ensures i)) in
+    let chained = (λ i. chain_of (world_of w) (c.between-between.ensures i) name) ∙ chain_seen (world_of w) _ _ _ _ ∙ (λ i. chain_meant c.args.call.link (args i) (by i) (c.as_str.ensures i)) in
     rw (rw c.name.ensures at (c.in_ok-expect_method.ensures.known c.args.work.now.dict)) (goes_on _ x (goes_on _ y (goes_on _ z (rw (← on, ← chained)
-    (forms _ (call_result_fault (entry_in (world_of w) c.args.on) (chain_of (world_of w) c.between-between.result name) _) c.evaluated.ensures (search))))))
+    (forms _ _ (call_result_fault (entry_in (world_of w) c.args.on) (chain_of (world_of w) c.between-between.result name) _) c.evaluated.ensures c.chained.ensures)))))
 
 pub subscripts-returns-in_err-first : goal.subscripts-returns-in_err-first
 subscripts-returns-in_err-first g t c = stops _ c.in_err-first.ensures (search)
@@ -429,19 +428,19 @@ entries-returns-in_err-value g t c = gathers_none reads_pairs c.loop-i.invariant
 pub entries-returns-in_err-label : goal.entries-returns-in_err-label
 entries-returns-in_err-label g t c =
     let e = c.in_err-label.ensures in
-    gathers_none reads_pairs c.loop-i.invariant.gathers c.at.ensures (spent (adds c.given.new.work c.key.new.self c.in_ok-value.ensures e.names e.kept)) (grind arith)
+    gathers_none reads_pairs c.loop-i.invariant.gathers c.at.ensures (spent (adds c.given.new.work c.key.new.self c.in_ok-value.ensures e.names e.kept e.tab)) (grind arith)
 
 pub entries-returns-in_err-push : goal.entries-returns-in_err-push
 entries-returns-in_err-push g t c =
     let e = c.in_ok-label.ensures in
-    gathers_none reads_pairs c.loop-i.invariant.gathers c.at.ensures (spent (adds c.given.new.work c.key.new.self c.in_ok-value.ensures e.names e.kept)) (search)
+    gathers_none reads_pairs c.loop-i.invariant.gathers c.at.ensures (spent (adds c.given.new.work c.key.new.self c.in_ok-value.ensures e.names e.kept e.tab)) (search)
 
 pub entries-loop-i-preserved : goal.entries-loop-i-preserved
 entries-loop-i-preserved g t c =
     let inv = c.loop-i.invariant in
     let u = c.key.new.self in
     let y = c.in_ok-label.ensures in
-    let x = adds c.given.new.work u c.in_ok-value.ensures y.names y.kept in
+    let x = adds c.given.new.work u c.in_ok-value.ensures y.names y.kept y.tab in
     let pairs = c.loop-i.entries.pairs.items in
     let push = c.in_ok-push.ensures.ok in
     record {

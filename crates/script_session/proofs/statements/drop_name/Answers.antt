@@ -11,4 +11,4 @@ returns-in_err-named c = λ paths seen. fails _ (names_value c.args.work.now _ (
 pub returns : goal.returns
 returns c = λ paths seen.
     follows _ (names_value c.args.work.now _ (Ok _) c.in_ok-named.ensures.found tt) (does c.forget.new.self _
-    (cc (c.forget.ensures.state, c.as_str.ensures)) c.quiet.ensures.printed c.quiet.ensures.warned (subst (λ t. IsLonger (world_of c.args.work.now).texts t) (sym c.forget.ensures.texts) (longer_self _)))
+    (cc (c.forget.ensures.state, c.as_str.ensures)) c.quiet.ensures.printed c.quiet.ensures.warned (subst (λ t. IsLonger (world_of c.args.work.now).texts t) (sym c.forget.ensures.texts) (longer_self _)) c.forget.ensures.tab)

@@ -1,12 +1,12 @@
 use Rattle.{
-  script_state.{proofs.cells.Common.{refl, [], false}, specs.script.Statement.{done}},
+  script_state.{proofs.{cells.Common.{refl, [], false}, Rides.{costs_same}}, specs.script.Statement.{done}},
   frame_store.proofs.Settling.{longer_self},
   script_session.proofs.Answering.{does},
 }
 use Rattle.script_session.proofs.statements.perform.Goals as goal
 
 pub returns-in-Import-clause-executes : goal.returns-in-Import-clause-executes
-returns-in-Import-clause-executes g c = rw c.in-Import.is (does c.args.work.now (λ s. done s [] false) refl c.quiet.ensures.printed c.quiet.ensures.warned (longer_self _))
+returns-in-Import-clause-executes g c = rw c.in-Import.is (does c.args.work.now (λ s. done s [] false) refl c.quiet.ensures.printed c.quiet.ensures.warned (longer_self _) (costs_same refl))
 
 pub returns-in-Bind-clause-executes : goal.returns-in-Bind-clause-executes
 returns-in-Bind-clause-executes g c = rw c.in-Bind.is c.bind.ensures

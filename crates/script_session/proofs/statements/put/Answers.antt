@@ -1,7 +1,7 @@
 use Rattle.{
-  script_state.{proofs.{cells.Common.{sym, ◌∙◌}, laws.SetFaults.{assign_result_fault}, Evaluations.{known_after, seen_after}, Worlds.{of_argument, of_value}}, specs.script.Expression.{named_by}},
+  script_state.{proofs.{cells.Common.{refl, sym, ◌∙◌}, laws.SetFaults.{assign_result_fault}, Evaluations.{known_after, seen_after}, Worlds.{of_argument, of_value}}, specs.script.Expression.{named_by}},
   script_tree.specs.View.{expr_of},
-  script_session.proofs.{Answering.{fails, follows, does, set_done, set_longer, set_refused, state_after}, Settings.{set_apart}},
+  script_session.proofs.{Answering.{fails, follows, set_does, set_done, set_refused, state_after}, Settings.{set_apart}},
 }
 use Rattle.script_session.proofs.statements.put.Goals as goal
 
@@ -30,10 +30,9 @@ returns-in-Ok-clause-executes g c =
     let x = c.in_ok-value.ensures in
     let y = c.in_ok-on.ensures in
     let z = c.in_ok-by.ensures in
-    follows _ x (follows _ y (follows _ z (does c.assign.new.self _
-    (rw (← seen_after y of_argument x.found, ← seen_after z of_argument (known_after y of_argument x.found), ← seen_after z of_value y.found.known)
-    (set_done c.last_step.new.work c.assign.new.self c.assign.ensures (named_by (expr_of c.args.target.now)) (rw z.names y.found.object) c.in-Ok.is))
-    c.quiet.ensures.printed (c.quiet.ensures.warned ∙ c.is_chained-warned.ensures) (set_longer c.last_step.new.work c.assign.new.self c.assign.ensures))))
+    follows _ x (follows _ y (follows _ z (set_does c.last_step.new.work c.assign.new.self c.assign.ensures (named_by (expr_of c.args.target.now))
+    (λ fs. rw (← seen_after y of_argument x.found, ← seen_after z of_argument (known_after y of_argument x.found), ← seen_after z of_value y.found.known) refl)
+    (rw z.names y.found.object) c.in-Ok.is c.quiet.ensures.printed (c.quiet.ensures.warned ∙ c.is_chained-warned.ensures))))
 
 pub returns-in-Ok-clause-apart : goal.returns-in-Ok-clause-apart
 returns-in-Ok-clause-apart g c =
@@ -48,5 +47,6 @@ returns-clause-executes g c =
     let y = c.in_ok-on.ensures in
     let z = c.in_ok-by.ensures in
     follows _ x (follows _ y (follows _ z
-    (set_refused c.last_step.new.work c.assign.new.self c.assign.ensures _ (named_by (expr_of c.args.target.now)) c.in-Err.fault (search assign_result_fault) c.in-Err.is (cc (c.marked.ensures, c.is_chained-warned.ensures))
-    (rw (← seen_after y of_argument x.found, ← seen_after z of_argument (known_after y of_argument x.found), ← seen_after z of_value y.found.known)))))
+    (set_refused c.last_step.new.work c.assign.new.self c.assign.ensures (named_by (expr_of c.args.target.now)) c.in-Err.fault
+    (λ fs. rw (← seen_after y of_argument x.found, ← seen_after z of_argument (known_after y of_argument x.found), ← seen_after z of_value y.found.known) refl)
+    (search assign_result_fault) c.in-Err.is (cc (c.marked.ensures, c.is_chained-warned.ensures)))))

@@ -1,5 +1,5 @@
 use Rattle.{
-  frame_calls.proofs.frame_parts.Common.{sym, ◌∙◌, subst, tables},
+  frame_calls.proofs.frame_parts.Common.{arith, sym, ◌∙◌, subst, tables},
   script_state.{specs.Bindings.{bindings_of, AreNoted}, proofs.Bindings.{noted_named, noted_ended, kept_ended}},
 }
 use Rattle.script_state.proofs.sweeping.sweep.Goals as goal
@@ -9,7 +9,11 @@ loop-id-preserved-then-not-has c =
     let bs = bindings_of c.args.names.now.values.entries in
     let unnamed = sym c.has.ensures ∙ c.if-not-has.true in
     let before = subst (λ ts. AreNoted bs ts (tables c.loop-id.store)) c.in-Some.ensures.items c.loop-id.invariant.noted in
-    search (noted_ended, kept_ended)
+    record {
+      noted = search noted_ended;
+      kept = search kept_ended;
+      held = omega (arith, c.loop-id.invariant.held, c.end.ensures.held);
+    }
 
 pub loop-id-preserved : goal.loop-id-preserved
 loop-id-preserved c =

@@ -6,9 +6,9 @@ use Rattle.script_words.proofs.reading.read_words.Goals as goal
 
 pub returns-in-Ok : goal.returns-in-Ok
 returns-in-Ok c =
-    ap₂ (λ (d : Option (List ℕ)) (p : List (List ℕ)). meaning.read (record { demo = d; plain = p })) c.get_str.ensures c.in_ok-plain_words-in-Ok.ensures
-    ∙ parsed (app_of c.in_ok-command.field-0) (map string_bytes c.args.words.now) c.in-Ok.matches c.in_ok-command.ensures (are_texts c.args.words.now)
-    c.in-Ok.ensures.matches c.in-Ok.ensures.kinds
+    ap₂ (λ (d : Option (List ℕ)) (p : List (List ℕ)). meaning.read (record { stats = c.get_flag.result; demo = d; plain = p })) c.get_str.ensures c.in_ok-plain_words-in-Ok.ensures
+    ∙ parsed (app_of c.in_ok-command.field-0) (map string_bytes c.args.words.now) c.in-Ok.matches c.get_flag.result c.in_ok-command.ensures (are_texts c.args.words.now)
+    c.in-Ok.ensures.matches c.in-Ok.ensures.kinds (c.get_flag.ensures.value, c.get_flag.ensures.other)
 
 pub returns-in-DisplayHelp : goal.returns-in-DisplayHelp
 returns-in-DisplayHelp c =

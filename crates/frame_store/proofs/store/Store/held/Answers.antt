@@ -1,8 +1,11 @@
 use Rattle.{
   meaning_tables.proofs.cells.Common.{◌∙◌},
-  frame_store.proofs.HeldLaws.{nothing_held},
+  frame_store.proofs.HeldLaws.{nothing_held, rows_held},
 }
 use Rattle.frame_store.proofs.store.Store.held.Goals as goal
 
 pub returns-clause-none : goal.returns-clause-none
 returns-clause-none c = λ none. c.held.ensures.cells ∙ nothing_held c.args.self.now.pool c.args.self.now.objects.slots c.args.self.now.kept c.held.ensures.kept none
+
+pub returns-clause-least : goal.returns-clause-least
+returns-clause-least c = rows_held c.args.self.now.pool c.args.self.now.objects.slots c.args.self.now.kept c.held.ensures.kept

@@ -1,4 +1,4 @@
-use Rattle.{meaning_tables.{proofs.cells.Common.{on_ok_weaker, subst, length, ◌≤◌}, specs.{Table.{NumberedTable}, Change.{with_column}}}, std.proofs.lemmas.Result.{on_err_weaker}, frame_store.{specs.Parts.{block_column, FitsRows, TakesHeading}, proofs.{ChangedLaws.{store_changed, tables_changed, tables_unchanged, kept_there, table_is}, KeptLaws.{stays_table}}}}
+use Rattle.{meaning_tables.{proofs.cells.Common.{on_ok_weaker, subst, length, ◌≤◌}, specs.{Table.{NumberedTable}, Change.{with_column}}}, std.proofs.lemmas.Result.{on_err_weaker}, frame_store.{specs.Parts.{block_column, FitsRows, TakesHeading}, proofs.{ChangedLaws.{store_changed, tables_changed, tables_unchanged, lie_changed, kept_there, table_is}, KeptLaws.{stays_table}}}}
 use Rattle.frame_store.proofs.store.Store.put_column.Goals as goal
 
 pub put_column-requires-clause-kept : goal.put_column-requires-clause-kept
@@ -29,3 +29,6 @@ put_column-requires-clause-rows c = subst (λ (t : NumberedTable). FitsRows t c.
 
 pub put_column-requires-clause-headings : goal.put_column-requires-clause-headings
 put_column-requires-clause-headings c = subst (λ (t : NumberedTable). TakesHeading t c.args.column c.args.heading) (table_is c.args.self.now.pool c.args.self.now.objects.slots c.args.self.now.kept c.args.on.0 c.index_mut.result.now c.index_mut.ensures.value) c.requires.headings
+
+pub returns-clause-blocks : goal.returns-clause-blocks
+returns-clause-blocks c = lie_changed c.args.self.now.pool c.put_column.new.pool c.args.self.now.objects.slots c.args.on.0 c.index_mut.result.now c.put_column.new.self c.args.self.now.kept c.index_mut.ensures.value c.put_column.ensures.trades c.put_column.result c.put_column.ensures.err

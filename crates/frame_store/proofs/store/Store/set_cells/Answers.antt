@@ -1,4 +1,4 @@
-use Rattle.{meaning_tables.{proofs.cells.Common.{on_ok_weaker, sym, subst}, specs.{Table.{NumberedTable}, Change.{with_values}, Valid.{IsWhole}}}, std.proofs.lemmas.Result.{on_err_weaker}, block_manager.specs.Managed.{RaisesBy, cells_named}, frame_store.{specs.{Parts.{AreRowsOf, AreColumnsOf, AreHeld}, Stores.{charged, tables_over}}, proofs.{ChangedLaws.{store_changed, tables_changed, tables_unchanged, kept_there, table_is, set_in, sole_there, sole_blocks}, KeptLaws.{stays_table}}}}
+use Rattle.{meaning_tables.{proofs.cells.Common.{on_ok_weaker, sym, subst}, specs.{Table.{NumberedTable}, Change.{with_values}, Valid.{IsWhole}}}, std.proofs.lemmas.Result.{on_err_weaker}, block_manager.specs.Managed.{RaisesBy, cells_named}, frame_store.{specs.{Parts.{AreRowsOf, AreColumnsOf, AreHeld}, Stores.{charged, tables_over}}, proofs.{ChangedLaws.{store_changed, tables_changed, tables_unchanged, lie_changed, kept_there, table_is, set_in, sole_there, sole_blocks}, KeptLaws.{stays_table}}}}
 use Rattle.frame_store.proofs.store.Store.set_cells.Goals as goal
 
 pub set_cells-requires-clause-kept : goal.set_cells-requires-clause-kept
@@ -50,3 +50,6 @@ returns-clause-sole c =
     let same = then (sole_there c.args.self.now.pool c.args.self.now.objects.slots c.args.on.0 c.index_mut.result.now c.args.columns.now c.index_mut.ensures.value alone) in
     sole_blocks c.args.self.now.pool c.set_cells.new.pool c.args.self.now.objects.slots c.args.on.0 c.index_mut.result.now c.set_cells.new.self c.index_mut.ensures.value same.0 same.1)
     c.set_cells.ensures.sole
+
+pub returns-clause-blocks : goal.returns-clause-blocks
+returns-clause-blocks c = lie_changed c.args.self.now.pool c.set_cells.new.pool c.args.self.now.objects.slots c.args.on.0 c.index_mut.result.now c.set_cells.new.self c.args.self.now.kept c.index_mut.ensures.value c.set_cells.ensures.trades c.set_cells.result c.set_cells.ensures.err

@@ -1,28 +1,46 @@
 use Rattle.{
-  frame_calls.proofs.frame_parts.Common.{rules, sym, subst, IfSome, option_map, datum, tables, World},
-  meaning_laws.{specs.Validity.{IsHeldCell, IsValidGiven}, proofs.SetLaws.{assign_result_keeps}},
-  frame_set.specs.Assigned.{moved_object, without},
-  script_state.{specs.Work.{names_in, world_of}, proofs.{Worlds.{live_set, noted_set, given_after}, Bindings.{swept_live}, Validity.{object_valid, argument_valid, set_valid, unnamed_spare, spent_valid, spent_keeps, spent_noted, spent_on}}},
+  frame_calls.proofs.frame_parts.Common.{arith, err_from_is_err_and, longer_self, None, ◌≡◌, sym, ◌∙◌, ap, refl, entry_in, argument_in},
+  frame_select.specs.Selected.{way_of},
+  meaning_laws.{proofs.cells.Common.{option_map}, specs.charge.Charge.{setting_charge, touched_columns}},
+  script_state.{specs.{Charges.{told, setting_cost}, Reads.{count_after}, Work.{world_of}}, proofs.ChargeLaws.{set_live, setting_is, set_charged}},
 }
+use Rattle.{frame_store.specs.World.{subscript_in}, frame_select.specs.Selected.{second_in}}
 use Rattle.script_state.proofs.work.Work.assign.Goals as goal
 
-pub invariant_of-self : goal.invariant_of-self
-invariant_of-self c =
-    let s = c.args.self.now in
-    let n = c.new_value-value.ensures in
-    let spare = moved_object c.new_value-value.result in
-    let old = without c.assign.result spare (world_of s) in
-    let new : World = record { tables = tables c.assign.new.store; texts = c.assign.new.dict } in
-    let sets = c.assign.ensures in
-    let fits : IfSome (option_map (datum s.dict) c.scalar.result) IsHeldCell = search (rules, c.scalar.type_inv) in
-    let held = subst (λ o. IfSome o IsHeldCell) (c.scalar.ensures (tables s.store) s.dict) fits in
-    let valid = subst IsValidGiven (sym (n.meant s.dict)) (argument_valid _ c.args.value.now s.valid c.requires.value.live held) in
-    let there = spent_on _ _ spare c.assign.result n.other c.requires.on.live in
-    let named = spent_keeps (names_in s) _ _ _ (unnamed_spare (names_in s) _ _ n.spare) in
+pub setting_cells-cells-requires : goal.setting_cells-cells-requires
+setting_cells-cells-requires c =
+    let s = c.in_ok-set.ensures.sets in
+    let w = world_of c.args.self.now in
+    set_live (setting_charge (entry_in w c.args.on) (way_of c.args.by) (subscript_in w c.args.first.now) (option_map (subscript_in w) c.args.second.now)) _ _ (world_of c.set.new.self) c.args.on s.sets
+
+pub returns : goal.returns
+returns c =
+    let old = world_of c.args.self.now in
+    let new = world_of c.set.new.self in
+    let s = c.in_ok-set.ensures.sets in
+    let v = entry_in old c.args.on in
+    let way = way_of c.args.by in
+    let first = subscript_in old c.args.first.now in
+    let second = option_map (subscript_in old) c.args.second.now in
+    let keys : second_in old c.as_ref-keys.result ≡ second = grind arith in
     record {
-      settled = sets.2;
-      valid = set_valid _ _ _ _ _ sets (search (assign_result_keeps, object_valid)) (spent_valid _ _ _ _ s.valid);
-      live = live_set old new _ _ _ there sets (names_in s) (swept_live _ _ _ named s.live);
-      given = search given_after;
-      noted = noted_set old new _ _ _ there sets (names_in s) _ (search spent_noted);
+      names = s.names;
+      spare = s.spare;
+      unnamed = s.unnamed;
+      sets = s.sets;
+      charged = set_charged c.args.self.now.charge _ _ (λ cost is. c.charged-self.ensures cost is ∙ ap (λ n. count_after n cost) c.in_ok-set.ensures.charge) (setting_charge v way first second) _ _ new c.args.on s.sets (λ t is left.
+          c.setting_cells-cells.ensures new.texts
+          ∙ (λ i. told (setting_cost (c.rows_of-rows.ensures old.texts i) ((c.in_ok-touched.ensures ∙ ap (touched_columns v way first) keys) i) (left i)))
+          ∙ ap told (sym (setting_is v way first second (argument_in old c.args.value.now) t is)));
     }
+
+pub returns-in_err-touched : goal.returns-in_err-touched
+returns-in_err-touched c =
+    let p = err_from_is_err_and c.from_residual.result c.from_residual.ensures.1 in
+    rw (p.1, p.2) (record { names = refl; spare = None; unnamed = tt; sets = (refl, longer_self _, c.args.self.now.settled, record { cells = omega arith; blocks = λ id live there apart. refl }); charged = refl })
+
+pub returns-in_err-set : goal.returns-in_err-set
+returns-in_err-set c =
+    let s = c.in_err-set.ensures.sets in
+    let p = err_from_is_err_and c.from_residual-in_err-set.result c.from_residual-in_err-set.ensures.1 in
+    rw (p.1, p.2) (record { names = s.names; spare = s.spare; unnamed = s.unnamed; sets = s.sets; charged = c.in_err-set.ensures.charge })

@@ -1,7 +1,7 @@
 use Rattle.{
   frame_calls.proofs.frame_parts.Common.{ap, sym, ◌∙◌, arith, Err, arguments_of},
-  meaning_laws.specs.{method.Readers.{read_result}, script.Reading.{at_once, then_read, of_file}},
-  script_state.{specs.{Reads.{files_in}, Work.{world_of}}, proofs.{Fetching.{refuses_long}, Rides.{bytes_by, then_gives, goes_same}}},
+  meaning_laws.specs.script.Reading.{at_once, then_read, of_file},
+  script_state.{specs.{Reads.{files_in}, Work.{tab_of, world_of}}, proofs.{Calls.{read}, Fetching.{refuses_long}, Rides.{bytes_by, then_gives, goes_same}}},
 }
 use Rattle.script_state.proofs.work.Work.file_of.Goals as goal
 
@@ -12,11 +12,11 @@ returns-in-Ok-clause-reads g c =
     let is = c.in-Ok.ensures.0 in
     λ held.
     let fs = files_in c.args.names.now held in
-    bytes_by _ _ _ _ (λ bytes. read_result bytes given) _
-    (ap (λ r. then_read (at_once r) (λ name. of_file fs name (λ bytes. read_result bytes given))) is
-    ∙ then_gives Err _ (λ name. of_file fs name (λ bytes. read_result bytes given))
-    ∙ ap (λ n. of_file fs n (λ bytes. read_result bytes given)) (sym c.text.ensures))
-    (c.file_named.ensures.reads w.texts held (λ bytes. read_result bytes given) (refuses_long given _ is))
+    bytes_by _ _ _ _ (read given) _
+    (ap (λ r. then_read (at_once r) (λ name. of_file fs name (read given))) is
+    ∙ then_gives Err _ (λ name. of_file fs name (read given))
+    ∙ ap (λ n. of_file fs n (read given)) (sym c.text.ensures))
+    (c.file_named.ensures.reads w.texts held (read given) (tab_of c.args.self.now) (refuses_long given _ is))
 
 pub returns-in-Err-clause-reads : goal.returns-in-Err-clause-reads
 returns-in-Err-clause-reads g c =
@@ -24,7 +24,7 @@ returns-in-Err-clause-reads g c =
     let given = arguments_of w.tables w.texts c.args.args.now in
     λ held.
     let fs = files_in c.args.names.now held in (
-      goes_same (ap (λ r. then_read (at_once r) (λ name. of_file fs name (λ bytes. read_result bytes given))) c.in-Err.ensures.0),
+      goes_same (ap (λ r. then_read (at_once r) (λ name. of_file fs name (read given))) c.in-Err.ensures.0),
       grind arith,
       c.in-Err.ensures.1,
     )

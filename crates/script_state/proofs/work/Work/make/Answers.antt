@@ -2,10 +2,24 @@ use Rattle.{
   script_state.proofs.Validity.{arguments_valid, stands_made, stands_refused},
   meaning_laws.proofs.CallLaws.{made_by_keeps},
 }
+use Rattle.{
+  frame_calls.proofs.frame_parts.Common.{refl, World, world},
+  meaning_laws.specs.charge.Charge.{answer_charge},
+  script_state.{specs.Work.{world_of}, proofs.ChargeLaws.{form_charged, made_live}},
+}
 use Rattle.script_state.proofs.work.Work.make.Goals as goal
 
 pub invariant_of-self-in-Break-branch-2 : goal.invariant_of-self-in-Break-branch-2
-invariant_of-self-in-Break-branch-2 c = stands_refused c.args.self.now _ _ _ c.function_called.ensures (search (made_by_keeps, arguments_valid)) c.in_err-made.was c.reserve.ensures.items
+invariant_of-self-in-Break-branch-2 c = stands_refused c.args.self.now _ answer_charge _ _ c.function_called.ensures (search (made_by_keeps, arguments_valid)) c.in_err-made.was c.reserve.ensures.items
 
 pub invariant_of-self-2 : goal.invariant_of-self-2
-invariant_of-self-2 c = stands_made c.args.self.now _ _ _ c.function_called.ensures (search (made_by_keeps, arguments_valid)) c.in_ok-made.was c.reserve.ensures.items c.note.ensures
+invariant_of-self-2 c = stands_made c.args.self.now _ answer_charge _ _ c.function_called.ensures (search (made_by_keeps, arguments_valid)) c.in_ok-made.was c.reserve.ensures.items c.note.ensures
+
+pub answer_cells-requires : goal.answer_cells-requires
+answer_cells-requires c = made_live answer_charge _ (world_of c.args.self.now) (world c.function_called.new.store c.function_called.new.dict) _ (rw c.in_ok-made.was at c.function_called.ensures)
+
+pub returns : goal.returns
+returns c =
+    let new : World = world c.function_called.new.store c.function_called.new.dict in
+    let made = rw c.in_ok-made.was at c.function_called.ensures in
+    record { names = refl; answers = made; charged = form_charged _ _ _ c.charged-self.ensures answer_charge _ (world_of c.args.self.now) new _ made (c.answer_cells.ensures new.texts) }
