@@ -3,11 +3,12 @@ _pdscript() {
     local line=${COMP_LINE:0:COMP_POINT} word before script name
     word=${line##* }
     before=${line% *}
-    script=${COMP_WORDS[1]}
-    if [ "$script" = --stats ]; then
-        before=${before/ --stats/}
-        script=${COMP_WORDS[2]}
-    fi
+    local -i first=1
+    while case ${COMP_WORDS[first]} in --stats | --keep-going) ;; *) false ;; esac; do
+        before=${before/ ${COMP_WORDS[first]}/}
+        first+=1
+    done
+    script=${COMP_WORDS[first]}
     COMPREPLY=()
     case $word in
     *=*)
@@ -18,7 +19,7 @@ _pdscript() {
         if [ "$before" = "${COMP_WORDS[0]}" ]; then
             compopt -o filenames 2>/dev/null
             mapfile -t COMPREPLY < <(compgen -d -- "$word"; compgen -f -X '!*.pds' -- "$word")
-            case $word in -*) mapfile -t COMPREPLY < <(compgen -W "--help --demo --stats" -- "$word") ;; esac
+            case $word in -*) mapfile -t COMPREPLY < <(compgen -W "--help --demo --stats --keep-going" -- "$word") ;; esac
         elif [ -f "$script" ]; then
             compopt -o nospace 2>/dev/null
             while IFS= read -r name; do

@@ -1,10 +1,10 @@
 #compdef pdscript
 # Completion of pdscript for zsh: scripts and options, then the names that the script reads, and paths behind NAME=.
 local -i first=2
-[[ $words[2] == --stats ]] && (( CURRENT > 2 )) && first=3
+while [[ $words[first] == --(stats|keep-going) ]] && (( CURRENT > first )); do first+=1; done
 if (( CURRENT == first )); then
     _files -g '*.pds'
-    compadd -- --help --demo --stats
+    compadd -- --help --demo --stats --keep-going
 elif compset -P '*='; then
     _files
 else

@@ -1,6 +1,6 @@
 -- The tables that names stand for were paid for.
 use Rattle.{
-  meaning_script.{proofs.cells.Common.{arith, ◌≡◌, refl, sym, subst, ℕ, ◌+◌, ◌≤◌, ◌^◌, nat_le, nat_tests, List, [], ◌∷◌, ◌++◌, length, map, max, Bool, true, false, ◌&&◌, ◌||◌, if◌then◌else◌, codes, is_some, get, Option, Some, None, IfSome, Result, Ok, Err, IfOk, All-head, All-tail, inl, inr, Text, same_text, Contents, FaultValue}, specs.{charge.Charge.{answer_charge, select_charge, setting_charge}, language.Tree.{Expr, Step, Action, Statement}, tables.{Table.{Table}, Valid.{within_limits}, Value.{Entry, cell, table, NamedGiven, key_given}}, method.{Charges.{call_charge}, Calls.{has_method, call_result}, Functions.{function_result}, Readers.{reads_file, file_name_of, read_result}}, call.{declared.Function.TheVariants.{ReadCsv}, Signature.{function_named}}, form.Select.{length_result}, select.{Select.{plain, through, select_result}, Set.{removal_result}}, Spent.{Spent, spent_for}, State.{State, no_names, without_name, value_rows, entry_rows, held_rows, most_rows_of, most_rows}, Reading.{Files, Reading, Reads, at_once, costing, after, goes_on, then_read, of_bytes, path_of_name, of_path}, Expression.{named_by, value_of_name, where_named, made, value_of, stepped, sub_of, second_of, brackets_of, given_of, named_of, target_of}, Statement.{Answer, done, refused, then_answer, with_value, with_set, set_answer, assigned, statement_result}, Run.{Ending, usage, syntax, RunStep, RunResult, least_peak, spent_of, told_charge, IsPeak, after_answer, fetched, statements_result, with_line, too_large_line, syntax_line, not_found_line, IsScriptResult, IsFileResult}}},
+  meaning_script.{proofs.cells.Common.{arith, ◌≡◌, refl, sym, subst, ℕ, ◌+◌, ◌≤◌, ◌^◌, nat_le, nat_tests, List, [], ◌∷◌, ◌++◌, length, map, max, Bool, true, false, ◌&&◌, ◌||◌, if◌then◌else◌, codes, is_some, get, Option, Some, None, IfSome, Result, Ok, Err, IfOk, All-head, All-tail, inl, inr, Text, same_text, Contents, FaultValue}, specs.{charge.Charge.{answer_charge, select_charge, setting_charge}, language.Tree.{Expr, Step, Action, Statement}, tables.{Table.{Table}, Valid.{within_limits}, Value.{Entry, cell, table, NamedGiven, key_given}}, method.{Charges.{call_charge}, Calls.{has_method, call_result}, Functions.{function_result}, Readers.{reads_file, file_name_of, read_result}}, call.{declared.Function.TheVariants.{ReadCsv}, Signature.{function_named}}, form.Select.{length_result}, select.{Select.{plain, through, select_result}, Set.{removal_result}}, Spent.{Spent, spent_for}, State.{State, no_names, without_name, value_rows, entry_rows, held_rows, most_rows_of, most_rows}, Reading.{Files, Reading, Reads, at_once, costing, after, goes_on, then_read, of_bytes, path_of_name, of_path}, Expression.{named_by, value_of_name, where_named, made, value_of, stepped, sub_of, second_of, brackets_of, given_of, named_of, target_of}, Statement.{Answer, done, refused, then_answer, with_value, with_set, set_answer, assigned, statement_result}, Run.{Ending, usage, syntax, RunStep, RunResult, least_peak, spent_of, told_charge, IsPeak, after_fault, after_answer, fetched, statements_result, with_line, too_large_line, syntax_line, not_found_line, IsScriptResult, IsFileResult}}},
   meaning_laws.{specs.{Validity.{IsValidObject, IsValidEntry, IsValidState, LeavesValid, HasHeldLiterals, IsHeldAction}, Paid.{IsPaid, LeavesPaid, PaidIn, PaysForTables, HasPeak}}, proofs.{LiteralLaws.{AreHeld, script_held}, PaidForms.{Within, under_rows, costs_cells, select_within, assign_within, removal_within}, PaidCalls.{call_within}, StatementLaws.{value_of_keeps, statement_keeps}}},
 }
 use Rattle.meaning_script.specs.language.Tree as tree
@@ -233,23 +233,29 @@ record ArePaid (before : ℕ) (steps : List RunStep) : Type 0 where
   paid : least_peak steps ≤ before + (spent_of steps).charge
   limited : least_peak steps ≤ 2 ^ 26
 
-answer_paid : (spent : Spent) (a : Answer) (line : ℕ) (go : State → RunResult) (paid : ℕ) → LeavesPaid (paid + spent.charge) a → LeavesValid a
-    → ((s : State) → IsPaid (paid + spent.charge) s → IsValidState s → ArePaid (paid + spent.charge) (go s).steps) → ArePaid paid (after_answer spent a line go).steps
-answer_paid spent (done s printed mark) line go paid h valid rest =
+fault_paid : (keep_going : Bool) (paid : ℕ) (rest : RunResult) → ArePaid paid rest.steps → ArePaid paid (after_fault keep_going rest).steps
+fault_paid false paid rest h = record { paid = omega arith; limited = omega arith }
+fault_paid true paid rest h = h
+
+answer_paid : (keep_going : Bool) (s : State) (spent : Spent) (a : Answer) (line : ℕ) (go : State → RunResult) (paid : ℕ) → IsPaid paid s → IsValidState s → LeavesPaid (paid + spent.charge) a → LeavesValid a
+    → ((paid : ℕ) (s : State) → IsPaid paid s → IsValidState s → ArePaid paid (go s).steps) → ArePaid paid (after_answer keep_going s spent a line go).steps
+answer_paid keep_going _ spent (done s printed mark) line go paid _ _ h valid rest =
     let now = most_within s (paid + spent.charge) h in
     let small = most_within s (2 ^ 26) (λ n. limited_rows (s.value n) (valid n)) in
-    let later = rest s h valid in
+    let later = rest (paid + spent.charge) s h valid in
     record { paid = omega arith; limited = omega arith }
-answer_paid spent (refused fault mark) line go paid h valid rest = record { paid = omega arith; limited = omega arith }
+answer_paid keep_going s spent (refused fault mark) line go paid before was_valid h valid rest =
+    let later = fault_paid keep_going paid (go s) (rest paid s before was_valid) in
+    record { paid = omega (arith, later.paid); limited = omega (arith, later.limited) }
 
-statements_paid : (files : Files) (ss : List Statement) (s : State) (paid : ℕ) → IsValidState s → IsPaid paid s → AreHeld ss → ArePaid paid (statements_result files s ss).steps
-statements_paid files [] s paid valid h held = record { paid = omega arith; limited = omega arith }
-statements_paid files (st ∷ rest) s paid valid h held =
+statements_paid : (keep_going : Bool) (files : Files) (ss : List Statement) (s : State) (paid : ℕ) → IsValidState s → IsPaid paid s → AreHeld ss → ArePaid paid (statements_result keep_going files s ss).steps
+statements_paid keep_going files [] s paid valid h held = record { paid = omega arith; limited = omega arith }
+statements_paid keep_going files (st ∷ rest) s paid valid h held =
     let here = All-head (λ (st : Statement). IsHeldAction st.action) st rest held in
     let later = All-tail (λ (st : Statement). IsHeldAction st.action) st rest held in
     let r = statement_result files s st.action in
-    answer_paid r.spent r.answer st.line (λ s'. statements_result files s' rest) paid (statement_pays files s st.action valid here paid h) (statement_keeps files s st.action valid here)
-    (λ s' paid' valid'. statements_paid files rest s' (paid + r.spent.charge) valid' paid' later)
+    answer_paid keep_going s r.spent r.answer st.line (λ s'. statements_result keep_going files s' rest) paid h valid (statement_pays files s st.action valid here paid h) (statement_keeps files s st.action valid here)
+    (λ paid' s' h' valid'. statements_paid keep_going files rest s' paid' valid' h' later)
 
 paid_peak : (steps : List RunStep) → ArePaid 0 steps → IsPeak steps (told_charge (spent_of steps).charge)
 paid_peak steps h = record { least = omega (arith, h.paid, h.limited); most = omega arith }
@@ -258,15 +264,15 @@ line_peak : (line : Text) (ending : Ending) → HasPeak (with_line line ending)
 line_peak line ending = record { least = omega arith; most = omega arith }
 
 -- each run of a script has a peak
-pub script_has_peak : (files : Files) (bytes : List ℕ) (result : RunResult) → IsScriptResult files bytes result → HasPeak result
-script_has_peak files bytes result (inl (long, is)) = subst HasPeak (sym is) (line_peak too_large_line syntax)
-script_has_peak files bytes result (inr (inl (within, (ss, script, is)))) =
-    subst HasPeak (sym is) (paid_peak (statements_result files no_names ss).steps (statements_paid files ss no_names 0 (λ n. tt) (λ n. omega arith) (script_held bytes ss script)))
-script_has_peak files bytes result (inr (inr (within, (line, wrong, is)))) = subst HasPeak (sym is) (line_peak (syntax_line line) syntax)
+pub script_has_peak : (keep_going : Bool) (files : Files) (bytes : List ℕ) (result : RunResult) → IsScriptResult keep_going files bytes result → HasPeak result
+script_has_peak keep_going files bytes result (inl (long, is)) = subst HasPeak (sym is) (line_peak too_large_line syntax)
+script_has_peak keep_going files bytes result (inr (inl (within, (ss, script, is)))) =
+    subst HasPeak (sym is) (paid_peak (statements_result keep_going files no_names ss).steps (statements_paid keep_going files ss no_names 0 (λ n. tt) (λ n. omega arith) (script_held bytes ss script)))
+script_has_peak keep_going files bytes result (inr (inr (within, (line, wrong, is)))) = subst HasPeak (sym is) (line_peak (syntax_line line) syntax)
 
-pub file_has_peak : (files : Files) (path : Text) (bytes : Option (List ℕ)) (result : RunResult) → IsFileResult files path bytes result → HasPeak result
-file_has_peak files path None result is = subst HasPeak (sym is) (line_peak (not_found_line path) usage)
-file_has_peak files path (Some bytes) result is = script_has_peak files bytes result is
+pub file_has_peak : (keep_going : Bool) (files : Files) (path : Text) (bytes : Option (List ℕ)) (result : RunResult) → IsFileResult keep_going files path bytes result → HasPeak result
+file_has_peak keep_going files path None result is = subst HasPeak (sym is) (line_peak (not_found_line path) usage)
+file_has_peak keep_going files path (Some bytes) result is = script_has_peak keep_going files bytes result is
 
 -- steps one after the other
 pub least-append : (a b : List RunStep) → least_peak (a ++ b) ≡ max (least_peak a) (least_peak b)

@@ -3,19 +3,19 @@ use Rattle.std.specs.Prelude.{ℕ, ◌+◌, ◌&&◌, ◌==◌, nat_lt, not, Boo
 use Rattle.std.specs.List.{position_or_len}
 use Rattle.meaning_script.specs.cells.Text.{Text}
 use Rattle.meaning_script.specs.Reading.{path_of_name}
-use Rattle.meaning_words.specs.Words.{WordsRead, help, fault, read, words_read, demo_size}
+use Rattle.meaning_words.specs.Words.{Flags, WordsRead, help, fault, read, words_read, demo_size}
 
--- whether `--stats` stands there, the script's path, and the names of files with their paths
+-- the flags, the script's path, and the names of files with their paths
 pub record RunWords : Type 0 where
-  pub stats : Bool
+  pub flags : Flags
   pub script : Text
   pub paths : List (Text × Text)
 
--- what has one result in all files: help, words that are wrong, a demonstration with `--stats` or without, and with so many orders
+-- what has one result in all files: help, words that are wrong, a demonstration with these flags and so many orders
 pub data Fixed : Type 0 where
   usage_help : Fixed
   wrong_words : Fixed
-  demonstration : Bool → ℕ → Fixed
+  demonstration : Flags → ℕ → Fixed
 
 pub data Asked : Type 0 where
   fixed : Fixed → Asked
@@ -52,29 +52,29 @@ abbrev pub names_after : List (Text × Text) → List Text → Option (List (Tex
 names_after names [] = Some names
 names_after names (word ∷ words) = if may_follow names word then names_after (names ++ pair_in word ∷ []) words else None
 
-abbrev pub with_names : Bool → Text → Option (List (Text × Text)) → Asked
-with_names stats path None = fixed wrong_words
-with_names stats path (Some names) = script record { stats = stats; script = path; paths = names }
+abbrev pub with_names : Flags → Text → Option (List (Text × Text)) → Asked
+with_names flags path None = fixed wrong_words
+with_names flags path (Some names) = script record { flags = flags; script = path; paths = names }
 
 -- the script's path, and then names of files
-abbrev pub of_plain : Bool → List Text → Asked
-of_plain stats [] = fixed wrong_words
-of_plain stats (path ∷ more) = if nat_lt 0 (length path) then with_names stats path (names_after [] more) else fixed wrong_words
+abbrev pub of_plain : Flags → List Text → Asked
+of_plain flags [] = fixed wrong_words
+of_plain flags (path ∷ more) = if nat_lt 0 (length path) then with_names flags path (names_after [] more) else fixed wrong_words
 
-abbrev pub of_size : Bool → Option ℕ → Asked
-of_size stats None = fixed wrong_words
-of_size stats (Some orders) = fixed (demonstration stats orders)
+abbrev pub of_size : Flags → Option ℕ → Asked
+of_size flags None = fixed wrong_words
+of_size flags (Some orders) = fixed (demonstration flags orders)
 
 -- a demonstration, beside which no other word stands; without one a script
-abbrev pub of_words : Bool → Option Text → List Text → Asked
-of_words stats None plain = of_plain stats plain
-of_words stats (Some value) [] = of_size stats (demo_size value)
-of_words stats (Some value) (word ∷ more) = fixed wrong_words
+abbrev pub of_words : Flags → Option Text → List Text → Asked
+of_words flags None plain = of_plain flags plain
+of_words flags (Some value) [] = of_size flags (demo_size value)
+of_words flags (Some value) (word ∷ more) = fixed wrong_words
 
 abbrev pub of_read : WordsRead → Asked
 of_read help = fixed usage_help
 of_read fault = fixed wrong_words
-of_read (read words) = of_words words.stats words.demo words.plain
+of_read (read words) = of_words words.flags words.demo words.plain
 
 -- what these words ask for, of which the first is the program's name
 abbrev pub asked : List Text → Asked

@@ -26,10 +26,10 @@ demo_contents orders = insert empty orders_name (orders_file orders)
 abbrev pub demo_files : ℕ → Files
 demo_files orders = record { paths = (orders_name, orders_name) ∷ []; held = demo_contents orders }
 
-abbrev pub IsDemoResult : ℕ → RunResult → Type 0
-IsDemoResult orders result = (rest : RunResult) × IsScriptResult (demo_files orders) demo_script rest × (result ≡ without_fetches rest)
+abbrev pub IsDemoResult : Bool → ℕ → RunResult → Type 0
+IsDemoResult keep_going orders result = (rest : RunResult) × IsScriptResult keep_going (demo_files orders) demo_script rest × (result ≡ without_fetches rest)
 
--- With `--stats` a last line gives the charge and the peak, the one number that the meaning leaves open within its bounds.
+-- With `--stats` a run without a fault has a last line with the charge and the peak, the one number that the meaning leaves open within its bounds.
 abbrev pub IsStated : Bool → ℕ → (RunResult → Type 0) → RunResult → Type 0
 IsStated stats peak means result = (rest : RunResult) × means rest × IsPeak rest.steps peak × (result ≡ with_stats stats peak rest)
 
@@ -39,15 +39,15 @@ Stated stats means result = (peak : ℕ) × IsStated stats peak means result
 abbrev pub IsFixedWith : Fixed → ℕ → RunResult → Type 0
 IsFixedWith usage_help peak result = result ≡ help_result
 IsFixedWith wrong_words peak result = result ≡ with_line usage_line usage
-IsFixedWith (demonstration stats orders) peak result = IsStated stats peak (IsDemoResult orders) result
+IsFixedWith (demonstration flags orders) peak result = IsStated flags.stats peak (IsDemoResult flags.keep_going orders) result
 
 -- the run of the script that its path holds, which is fetched first
-abbrev pub IsPathResult : Text → List (Text × Text) → Contents → RunResult → Type 0
-IsPathResult path paths held result = (rest : RunResult) × IsFileResult (record { paths = paths; held = held }) path (get held path) rest × (result ≡ after_step fetched rest)
+abbrev pub IsPathResult : Bool → Text → List (Text × Text) → Contents → RunResult → Type 0
+IsPathResult keep_going path paths held result = (rest : RunResult) × IsFileResult keep_going (record { paths = paths; held = held }) path (get held path) rest × (result ≡ after_step fetched rest)
 
 abbrev pub IsAskedWith : Asked → Contents → ℕ → RunResult → Type 0
 IsAskedWith (fixed asks) held peak result = IsFixedWith asks peak result
-IsAskedWith (script run) held peak result = IsStated run.stats peak (IsPathResult run.script run.paths held) result
+IsAskedWith (script run) held peak result = IsStated run.flags.stats peak (IsPathResult run.flags.keep_going run.script run.paths held) result
 
 -- the run of these words where these files are held, with this peak
 abbrev pub IsRunWith : List Text → Contents → ℕ → RunResult → Type 0

@@ -10,7 +10,7 @@ use Rattle.meaning_script.specs.Statement.{Answer, done, refused, statement_resu
 use Rattle.meaning_language.specs.Script.{IsScript, IsSyntaxLine, most_bytes}
 use Rattle.meaning_method.specs.cells.FaultText.{fault_text}
 
--- how a run ends: after its last statement, at a fault, at words that are no run or a script that isn't there, at a text that is no script
+-- how a run ends: after its last statement without a fault, with one, at words that are no run or a script that isn't there, at a text that is no script
 pub data Ending : Type 0 where
   finished : Ending
   fault : Ending
@@ -18,7 +18,7 @@ pub data Ending : Type 0 where
   syntax : Ending
 
 -- What a step of a run prints on the output and on the errors, what it spends, and the most rows of a table with a column
--- that a name stands for after it. A step that leaves no names, as that of a statement that is refused, has none.
+-- that a name stands for after it. Where no statement was done, as where one is refused, no rows count.
 pub record RunStep : Type 0 where
   pub output : Text
   pub errors : Text
@@ -68,19 +68,27 @@ with_line line ending = record { steps = record { output = []; errors = line; sp
 abbrev pub after_step : RunStep → RunResult → RunResult
 after_step step rest = record { steps = step ∷ rest.steps; ending = rest.ending }
 
--- the step of a statement with this answer, and then what follows it
-abbrev pub after_answer : Spent → Answer → ℕ → (State → RunResult) → RunResult
-after_answer spent (done s printed mark) line go = after_step (record { output = printed; errors = warning_line line mark; spent = spent; rows = most_rows s }) (go s)
-after_answer spent (refused f mark) line go =
-    record { steps = record { output = []; errors = warning_line line mark ++ line_about line (fault_text f); spent = spent; rows = 0 } ∷ []; ending = fault }
+-- what follows a fault: nothing, or the other statements where the run keeps going; in both cases it ends with a fault
+abbrev pub after_fault : Bool → RunResult → RunResult
+after_fault false rest = record { steps = []; ending = fault }
+after_fault true rest = record { steps = rest.steps; ending = fault }
 
-abbrev pub after_reading : Reading Answer → ℕ → (State → RunResult) → RunResult
-after_reading r line go = after_answer r.spent r.answer line go
+-- The step of a statement with this answer, and then what follows it from the state that it leaves. A statement that is refused
+-- leaves the state as it was, and costs nothing.
+abbrev pub after_answer : Bool → State → Spent → Answer → ℕ → (State → RunResult) → RunResult
+after_answer keep_going s spent (done s' printed mark) line go =
+    after_step (record { output = printed; errors = warning_line line mark; spent = spent; rows = most_rows s' }) (go s')
+after_answer keep_going s spent (refused f mark) line go =
+    after_step (record { output = []; errors = warning_line line mark ++ line_about line (fault_text f); spent = record spent { charge = 0 }; rows = 0 })
+    (after_fault keep_going (go s))
 
--- the statements in order, up to the first fault
-abbrev pub statements_result : Files → State → List Statement → RunResult
-statements_result files s [] = record { steps = []; ending = finished }
-statements_result files s (st ∷ rest) = after_reading (statement_result files s st.action) st.line (λ s'. statements_result files s' rest)
+abbrev pub after_reading : Bool → State → Reading Answer → ℕ → (State → RunResult) → RunResult
+after_reading keep_going s r line go = after_answer keep_going s r.spent r.answer line go
+
+-- the statements in order, up to the first fault, or up to the last statement where the run keeps going
+abbrev pub statements_result : Bool → Files → State → List Statement → RunResult
+statements_result keep_going files s [] = record { steps = []; ending = finished }
+statements_result keep_going files s (st ∷ rest) = after_reading keep_going s (statement_result files s st.action) st.line (λ s'. statements_result keep_going files s' rest)
 
 -- the charge as it is told: it stops at the last number of 64 bits
 abbrev pub told_charge : ℕ → ℕ
@@ -100,7 +108,7 @@ pub record IsPeak (steps : List RunStep) (peak : ℕ) : Type 0 where
 abbrev pub stats_line : ℕ → ℕ → Text
 stats_line peak charge = codes "peak " ++ decimal peak ++ codes " charge " ++ decimal charge ++ codes "\n"
 
--- a run that ends after its last statement, and with `--stats` by this line
+-- a run that ends after its last statement without a fault, and with `--stats` by this line
 abbrev pub stats_step : ℕ → List RunStep → RunStep
 stats_step peak steps = record { output = []; errors = stats_line peak (told_charge (spent_of steps).charge); spent = nothing_spent; rows = 0 }
 
@@ -113,7 +121,7 @@ with_stats false peak result = result
 with_stats true peak result = record { steps = with_line_of result.ending peak result.steps; ending = result.ending }
 
 abbrev pub usage_line : Text
-usage_line = codes "usage: pdscript [--stats] [--demo N | SCRIPT] [NAME=PATH ..]\n"
+usage_line = codes "usage: pdscript [--stats] [--keep-going] [--demo N | SCRIPT] [NAME=PATH ..]\n"
 
 abbrev pub not_found_line : Text → Text
 not_found_line path = codes "script not found: " ++ path ++ codes "\n"
@@ -125,16 +133,16 @@ abbrev pub syntax_line : ℕ → Text
 syntax_line line = line_about line (codes "SyntaxError")
 
 -- the run of these bytes
-abbrev pub IsScriptResult : Files → List ℕ → RunResult → Type 0
-IsScriptResult files bytes result =
+abbrev pub IsScriptResult : Bool → Files → List ℕ → RunResult → Type 0
+IsScriptResult keep_going files bytes result =
     ((most_bytes < length bytes) × (result ≡ with_line too_large_line syntax))
-    ⊎ ((length bytes ≤ most_bytes) × ((ss : List Statement) × IsScript bytes ss × (result ≡ statements_result files no_names ss)))
+    ⊎ ((length bytes ≤ most_bytes) × ((ss : List Statement) × IsScript bytes ss × (result ≡ statements_result keep_going files no_names ss)))
     ⊎ ((length bytes ≤ most_bytes) × ((line : ℕ) × IsSyntaxLine bytes line × (result ≡ with_line (syntax_line line) syntax)))
 
 -- the run of the file that the path holds
-abbrev pub IsFileResult : Files → Text → Option (List ℕ) → RunResult → Type 0
-IsFileResult files path None result = result ≡ with_line (not_found_line path) usage
-IsFileResult files path (Some bytes) result = IsScriptResult files bytes result
+abbrev pub IsFileResult : Bool → Files → Text → Option (List ℕ) → RunResult → Type 0
+IsFileResult keep_going files path None result = result ≡ with_line (not_found_line path) usage
+IsFileResult keep_going files path (Some bytes) result = IsScriptResult keep_going files bytes result
 
 -- The first step fetches the script.
 abbrev pub fetched : RunStep

@@ -11,11 +11,16 @@ begins front word = same_text front (take (length front) word)
 abbrev pub is_option : Text → Bool
 is_option word = begins (codes "-") word && nat_lt 1 (length word)
 
--- What a word is by its text: one that asks for help; `--stats`, a flag; `--demo`, whose value is the next word; `--demo=` and its value;
+-- `--stats` and `--keep-going`
+pub data Flag : Type 0 where
+  stats : Flag
+  keep_going : Flag
+
+-- What a word is by its text: one that asks for help; a flag; `--demo`, whose value is the next word; `--demo=` and its value;
 -- `--`, after which no word is an option; any other option; a word that stands for itself.
 pub data WordSort : Type 0 where
   asking : WordSort
-  stats : WordSort
+  flag : Flag → WordSort
   demo : WordSort
   demo_with : Text → WordSort
   dashes : WordSort
@@ -26,21 +31,38 @@ abbrev pub sort_of : Text → WordSort
 sort_of word =
     if same_text word (codes "--help") then asking
     else if begins (codes "-h") word then asking
-    else if same_text word (codes "--stats") then stats
+    else if same_text word (codes "--stats") then flag stats
+    else if same_text word (codes "--keep-going") then flag keep_going
     else if same_text word (codes "--demo") then demo
     else if begins (codes "--demo=") word then demo_with (drop 7 word)
     else if same_text word (codes "--") then dashes
     else if is_option word then unknown
     else plain
 
--- what was read: whether `--stats` was, the value of `--demo`, where it was given, and the plain words in order
-pub record Words : Type 0 where
+-- which flags were given
+pub record Flags : Type 0 where
   pub stats : Bool
+  pub keep_going : Bool
+
+abbrev pub no_flags : Flags
+no_flags = record { stats = false; keep_going = false }
+
+abbrev pub has_flag : Flag → Flags → Bool
+has_flag stats flags = flags.stats
+has_flag keep_going flags = flags.keep_going
+
+abbrev pub with_flag : Flag → Flags → Flags
+with_flag stats flags = record flags { stats = true }
+with_flag keep_going flags = record flags { keep_going = true }
+
+-- what was read: the flags, the value of `--demo`, where it was given, and the plain words in order
+pub record Words : Type 0 where
+  pub flags : Flags
   pub demo : Option Text
   pub plain : List Text
 
 abbrev pub no_words : Words
-no_words = record { stats = false; demo = None; plain = [] }
+no_words = record { flags = no_flags; demo = None; plain = [] }
 
 -- what reading comes to: the first help or fault decides
 pub data WordsRead : Type 0 where
@@ -52,7 +74,7 @@ pub data WordsRead : Type 0 where
 -- whether their first one is the value of `--demo`
 abbrev pub read_as : WordSort → Words → Text → List Text → (Words → Bool → WordsRead) → WordsRead
 read_as asking before word more go = help
-read_as stats before word more go = if before.stats then fault else go (record before { stats = true }) false
+read_as (flag f) before word more go = if has_flag f before.flags then fault else go (record before { flags = with_flag f before.flags }) false
 read_as demo before word more go = if is_some before.demo then fault else go before true
 read_as (demo_with value) before word more go = if is_some before.demo then fault else go (record before { demo = Some value }) false
 read_as dashes before word more go = read (record before { plain = before.plain ++ more })

@@ -1,6 +1,6 @@
-// Which calls are to fail.
+// Which calls are to fail, and how much one gives or takes.
 ghost use Rattle.std.specs.Prelude.{◌≡◌, ◌↔◌, ◌++◌, ◌∷◌, [], Some, IsTrue, OnOk, OnErr};
-ghost use Rattle.outside_io.specs.Memory.{IsNamed, call_after};
+ghost use Rattle.outside_io.specs.Memory.{IsNamed, call_after, limited};
 
 use cell_core::NoMemory;
 use std::alloc::Global;
@@ -46,5 +46,15 @@ impl Calls {
         };
         self.next = call.checked_add(1);
         self.failing.contains(&call)
+    }
+}
+
+/// So many bytes, or as many as a limit lets through.
+pub(crate) fn limited(length: usize, most: Option<usize>) -> usize
+    ensures { result ≡ limited most length }
+{
+    match most {
+        Some(most) => length.min(most),
+        None => length,
     }
 }

@@ -1,24 +1,25 @@
 // Files in memory.
-ghost use Rattle.std.specs.Prelude.{◌≡◌, ◌≤◌, ◌<◌, ◌↔◌, ◌++◌, ◌∷◌, [], length, Some, OnOk, OnErr};
+ghost use Rattle.std.specs.Prelude.{◌≡◌, ◌≤◌, ◌<◌, ◌↔◌, ◌++◌, ◌∷◌, [], length, Some, None, OnOk, OnErr};
 ghost use Rattle.std.specs.FinMap.{empty, insert};
 ghost use Rattle.outside_io.specs.Count.{HasRisen, raised};
 ghost use Rattle.outside_io.specs.Files.{Fetches, Reads, IsGotWithin, taken_after};
-ghost use Rattle.outside_io.specs.Memory.{IsNamed, call_after, faults_after_fetch, absences_after_fetch, faults_after_read};
+ghost use Rattle.outside_io.specs.Memory.{IsNamed, call_after, limited, faults_after_fetch, absences_after_fetch, faults_after_read};
 
-use crate::calls::Calls;
+use crate::calls::{Calls, limited};
 use crate::files::{Fetch, Files, Got};
 use crate::shelf::Shelf;
 use cell_core::NoMemory;
 use std::alloc::Global;
 use std::marker::Model;
 
-/// Files in memory, whose calls fail where it is said beforehand. They keep the allocator that they
-/// were made with.
+/// Files in memory, whose calls fail where it is said beforehand, and give no more than it is said.
+/// They keep the allocator that they were made with.
 #[derive(Drop)]
 pub struct MemFiles {
     alloc: Global,
     shelf: Shelf,
     calls: Calls,
+    most: Option<usize>,
     faults: u64,
     absences: u64,
     fetches: u64,
@@ -26,7 +27,7 @@ pub struct MemFiles {
 }
 
 impl Model for MemFiles {
-    ghost use Rattle.outside_io.specs.Memory.{FilesInMemory, files_code};
+    ghost use Rattle.outside_io.specs.Memory.{FilesInMemory, files_code, IsLimit};
 
     ghost Value = { FilesInMemory };
 
@@ -41,11 +42,14 @@ impl Model for MemFiles {
       taken = s.taken;
       next_call = s.calls.next;
       failing = s.calls.failing.items;
+      most = s.most;
     } };
+
+    ghost invariant = { λ s. IsLimit s.most };
 }
 
 impl MemFiles {
-    /// No files. No call is to fail. Takes no memory.
+    /// No files. No call is to fail, and no read is limited. Takes no memory.
     pub fn new(alloc: Global) -> MemFiles
         ensures contents { result.contents ≡ empty }
         ensures rest { result.rest ≡ [] }
@@ -55,11 +59,13 @@ impl MemFiles {
         ensures taken { result.taken ≡ 0 }
         ensures next_call { result.next_call ≡ Some 0 }
         ensures failing { result.failing ≡ [] }
+        ensures most { result.most ≡ None }
     {
         MemFiles {
             alloc,
             shelf: Shelf::new(alloc),
             calls: Calls::new(alloc),
+            most: None,
             faults: 0,
             absences: 0,
             fetches: 0,
@@ -86,6 +92,14 @@ impl MemFiles {
     {
         self.calls.fail_at(call)
     }
+
+    /// Makes each later `read` give at most so many bytes. Takes no memory.
+    pub fn limit_read(&mut self, most: usize)
+        requires { 0 < most }
+        ensures { self.new ≡ record self.old { most = Some most } }
+    {
+        self.most = Some(most);
+    }
 }
 
 impl Files for MemFiles {
@@ -107,6 +121,7 @@ impl Files for MemFiles {
         ensures named { (result ≡ Fetch.Failed) ↔ IsNamed self.old.next_call self.old.failing }
         ensures next_call { self.new.next_call ≡ call_after self.old.next_call }
         ensures failing { self.new.failing ≡ self.old.failing }
+        ensures most { self.new.most ≡ self.old.most }
 
         ensures contents { self.new.contents ≡ self.old.contents }
         ensures rest { Fetches self.old.contents path.now result (Some self.new.rest) }
@@ -134,14 +149,16 @@ impl Files for MemFiles {
         Fetch::Fetched
     }
 
-    /// Fails exactly where the call was named. Takes no memory.
+    /// Fails exactly where the call was named, and gives no more than the limit. Takes no memory.
     fn read(&mut self, piece: &mut [u8]) -> Got
         requires { 0 < length piece.old }
 
         ensures named { (result ≡ Got.Failed) ↔ IsNamed self.old.next_call self.old.failing }
         ensures next_call { self.new.next_call ≡ call_after self.old.next_call }
         ensures failing { self.new.failing ≡ self.old.failing }
+        ensures most { self.new.most ≡ self.old.most }
 
+        ensures limited { IsGotWithin result (limited self.old.most (length piece.old)) }
         ensures within { IsGotWithin result (length piece.old) }
         ensures bytes { Reads self.old.rest result piece.new (Some self.new.rest) }
         ensures contents { self.new.contents ≡ self.old.contents }
@@ -157,7 +174,8 @@ impl Files for MemFiles {
             self.faults = self.faults.saturating_add(1);
             return Got::Failed;
         }
-        let count = self.shelf.read(piece);
+        let want = limited(piece.len(), self.most);
+        let count = self.shelf.read(&mut piece[..want]);
         if count == 0 {
             return Got::End;
         }

@@ -27,7 +27,7 @@ module _ (asks : Asked) where
     pub script_here : (P : RunWords → Type 0) → P run → IfScript asks P
     script_here P p = subst (λ a. IfScript a P) is p
 
-    pub script_told : (contents : Option Contents) (result : Status) (old new : Outside) → IfSome contents (λ held. Ends (Stated run.stats (IsPathResult run.script run.paths held)) result old new)
+    pub script_told : (contents : Option Contents) (result : Status) (old new : Outside) → IfSome contents (λ held. Ends (Stated run.flags.stats (IsPathResult run.flags.keep_going run.script run.paths held)) result old new)
         → IfSome contents (λ held. Ends (IsAskedResult asks held) result old new)
     script_told contents result old new told = subst (λ a. IfSome contents (λ held. Ends (IsAskedResult a held) result old new)) is told
 

@@ -56,12 +56,12 @@ module _ (means : RunResult → Type 0) (files inner inner' : FilesValue) (out o
   ends_unfetched _ = grind (arith, as_unfetched, early_unfetched, unwritten_unfetched)
 
 -- the names, the contents and the bytes are those of the demonstration
-pub ends_demo : (stats : Bool) (orders : ℕ) (paths : List (Text × Text)) (held : Contents) (bytes : List ℕ) (status : Status) (old new : Outside) → paths ≡ (orders_name, orders_name) ∷ [] → held ≡ demo_contents orders → bytes ≡ demo_script
-    → Ends (Stated stats (IsScriptResult (record { paths = paths; held = held }) bytes)) status old new → Ends (Stated stats (IsScriptResult (demo_files orders) demo_script)) status old new
-ends_demo stats orders paths held bytes status old new names contents text ends =
-    subst (λ p. Ends (Stated stats (IsScriptResult (record { paths = p; held = demo_contents orders }) demo_script)) status old new) names
-    (subst (λ h. Ends (Stated stats (IsScriptResult (record { paths = paths; held = h }) demo_script)) status old new) contents
-    (subst (λ b. Ends (Stated stats (IsScriptResult (record { paths = paths; held = held }) b)) status old new) text ends))
+pub ends_demo : (stats keep_going : Bool) (orders : ℕ) (paths : List (Text × Text)) (held : Contents) (bytes : List ℕ) (status : Status) (old new : Outside) → paths ≡ (orders_name, orders_name) ∷ [] → held ≡ demo_contents orders → bytes ≡ demo_script
+    → Ends (Stated stats (IsScriptResult keep_going (record { paths = paths; held = held }) bytes)) status old new → Ends (Stated stats (IsScriptResult keep_going (demo_files orders) demo_script)) status old new
+ends_demo stats keep_going orders paths held bytes status old new names contents text ends =
+    subst (λ p. Ends (Stated stats (IsScriptResult keep_going (record { paths = p; held = demo_contents orders }) demo_script)) status old new) names
+    (subst (λ h. Ends (Stated stats (IsScriptResult keep_going (record { paths = paths; held = h }) demo_script)) status old new) contents
+    (subst (λ b. Ends (Stated stats (IsScriptResult keep_going (record { paths = paths; held = held }) b)) status old new) text ends))
 
 -- a count below its last value that stays hasn't risen
 pub never_risen : (count : ℕ) → count < last_count → HasRisen count count → ⊥

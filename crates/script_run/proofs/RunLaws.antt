@@ -1,9 +1,9 @@
 -- What one statement of a run, its lines and its failures make of the run.
 use Rattle.{
-  script_session.{proofs.{script_state.laws.{SpentLaws.{sum-nothing}, PaidLaws.{least-append}}, cells.Common.{err_from_is_err_and, lt-ltb, le-ltb, append-nil, nil_from_length, flat_map-append, rules, ◌≡◌, ◌≢◌, ℕ, zero, suc, ◌+◌, ◌<◌, ◌≤◌, length, List, [], ◌∷◌, ◌++◌, drop, Option, Some, refl, sym, ◌∙◌, ap, subst, append_assoc, length-append, add-zero, arith, max, inl, inr, ◌⊎◌, codes, slice_get, Bool, IfSome, IfErr, IsErrAnd, Result, ⊤, Text, Contents, FaultValue, fault_text}}, specs.{language.Tree.{Statement}, script.{Spent.{Spent, nothing_spent, spent_sum}, Reading.{Files, Reading, at_once}, State.{State, most_rows}, Statement.{Answer, done, refused, statement_result}, Run.{RunStep, RunResult, Ending, fault, finished, errors_of, spent_of, before_fetch, after_step, after_answer, after_reading, statements_result, warning_line, line_about, with_line}}, script_state.Reads.{Goes, Holds, Meter, Pays, Stuck, count_after}}},
-  std.proofs.Math.ListN.{drop_of_length-le},
+  script_session.{proofs.{script_state.laws.{SpentLaws.{sum-nothing}, PaidLaws.{least-append}}, cells.Common.{err_from_is_err_and, lt-ltb, le-ltb, append-nil, nil_from_length, flat_map-append, rules, ◌≡◌, ◌≢◌, ℕ, zero, suc, ◌+◌, ◌<◌, ◌≤◌, length, List, [], ◌∷◌, ◌++◌, drop, Option, Some, refl, sym, ◌∙◌, ap, subst, append_assoc, length-append, add-zero, arith, max, inl, inr, ◌⊎◌, codes, slice_get, Bool, true, false, ◌||◌, IfSome, IfErr, IsErrAnd, Result, Text, Contents, FaultValue, fault_text}}, specs.{language.Tree.{Statement}, script.{Spent.{Spent, nothing_spent, spent_sum}, Reading.{Files, Reading, at_once}, State.{State, most_rows}, Statement.{Answer, done, refused, statement_result}, Run.{RunStep, RunResult, Ending, fault, finished, errors_of, spent_of, before_fetch, after_step, after_fault, after_answer, after_reading, statements_result, warning_line, line_about, with_line}}, script_state.Reads.{Goes, Holds, Meter, Pays, Stuck, count_after}}},
+  std.proofs.{Common.{true≢false}, Math.ListN.{drop_of_length-le}},
   outside_io.{specs.{Count.{HasRisen}, Files.{FilesValue}, Sink.{appended, AppendsFront, AppendsPart}}, proofs.Appended.{appended-appended, appended-nil}},
-  script_run.{specs.{Ends.{Outside, Ends, EndsAs, EndsEarly, EndsUnwritten, EndsUnread, EndsWithLine, Is, status_of}, Steps.{Does, Tally, ComesTo, GoesOn, Stops, after_steps}, declared.status.Status.{Status, TheVariants.{Done, Fault, Input, Output, Memory}}}, proofs.{Options.{some-told}, StepLaws.{Written, spent_of-append, before_fetch-append, before_byte-append, count_after-add, does_one, does_more, text_more}}},
+  script_run.{specs.{Ends.{Outside, Ends, EndsAs, EndsEarly, EndsUnwritten, EndsUnread, EndsWithLine, Is, status_of}, Steps.{Does, Tally, ComesTo, GoesOn, Stops, after_steps, after_turn}, declared.status.Status.{Status, TheVariants.{Done, Fault, Input, Output, Memory}}}, proofs.{Options.{some-told}, StepLaws.{Written, spent_of-append, before_fetch-append, before_byte-append, count_after-add, does_one, does_more, text_more}}},
 }
 
 -- nothing was written yet
@@ -25,6 +25,11 @@ part_of _ _ _ rest f = (f.0, f.1 ++ rest, more _ f.2, f.3, grind (arith, append_
     more : (some : Text) → some ≢ [] → some ++ rest ≢ []
     more [] none _ = none refl
     more (b ∷ bs) some is = cc
+
+-- a part of what comes after a text that was written
+part_after : (old mid new : Written) (text whole : Text) → mid ≡ appended old text → AppendsPart mid new whole → AppendsPart old new (text ++ whole)
+part_after old mid new text whole wrote (front, rest, some, is, split) =
+    (text ++ front, rest, some, is ∙ ap (λ w. appended w front) wrote ∙ appended-appended old text front, ap (λ t. text ++ t) split ∙ sym (append_assoc text front rest))
 
 -- the result of one step, and then of others
 abbrev pub first_then : RunStep → List RunStep → Ending → RunResult
@@ -171,25 +176,48 @@ ends_come _ _ status _ _ _ steps whole does t =
     (ends_after _ _ _ _ _ does status t)
 
 -- nothing follows the last statement
-pub none_left : (files : Files) (ss : List Statement) (i : ℕ) (s : State) → length ss ≤ i → statements_result files s (drop i ss) ≡ record { steps = []; ending = finished }
-none_left files ss i s within = ap (statements_result files s) (drop_of_length-le ss within)
+pub none_left : (keep_going : Bool) (files : Files) (ss : List Statement) (i : ℕ) (s : State) → length ss ≤ i → statements_result keep_going files s (drop i ss) ≡ record { steps = []; ending = finished }
+none_left keep_going files ss i s within = ap (statements_result keep_going files s) (drop_of_length-le ss within)
 
 -- a run with no steps
 pub ends_nothing : (new : Outside) → Ends (Is (record { steps = []; ending = finished })) Done new new
 ends_nothing = search (rules, appended-nil)
 
+pub ends_fault : (new : Outside) → Ends (Is (record { steps = []; ending = fault })) Fault new new
+ends_fault = search (rules, appended-nil)
+
 -- nothing was done yet
 pub comes_none : (whole rest : RunResult) (tally : Tally) (old : Outside) → whole ≡ rest → tally.charge ≡ 0 → ComesTo whole rest tally old old
 comes_none _ _ _ _ is none = record { steps = []; is = is; does = grind (arith, appended-nil); charge = none; least = omega arith }
 
--- one statement more was done
-pub comes_more : (whole rest : RunResult) (answer : Reading Answer) (line : ℕ) (state : State) (go : State → RunResult) (before after : Tally) (old mid new : Outside) → ComesTo whole rest before old mid → rest ≡ after_reading answer line go → GoesOn answer line state before after mid new
-    → ComesTo whole (go state) after old new
-comes_more _ _ _ _ state go before after _ _ _ come is on =
+-- what is left after a statement, where a fault came before it or none
+abbrev pub left_by : Bool → Bool → Bool → RunResult → RunResult
+left_by keep_going faulted false rest = after_turn true faulted rest
+left_by keep_going faulted true rest = after_fault keep_going rest
+
+pub left_is : (keep_going faulted rejected : Bool) → (rejected ≡ true → keep_going ≡ true) → (rest : RunResult) → left_by keep_going faulted rejected rest ≡ after_turn true (faulted || rejected) rest
+left_is keep_going false false keeps rest = refl
+left_is keep_going true false keeps rest = refl
+left_is true false true keeps rest = refl
+left_is true true true keeps rest = refl
+left_is false false true keeps rest = absurd (true≢false (sym (keeps refl)))
+left_is false true true keeps rest = absurd (true≢false (sym (keeps refl)))
+
+turned : (keep_going faulted rejected : Bool) (step : RunStep) (rest : RunResult) → after_turn true faulted (after_step step (after_turn keep_going rejected rest)) ≡ after_step step (left_by keep_going faulted rejected rest)
+turned keep_going false false step rest = refl
+turned keep_going true false step rest = refl
+turned keep_going false true step rest = refl
+turned false true true step rest = refl
+turned true true true step rest = refl
+
+-- one statement more was done or refused, after a fault or none
+pub comes_more : (keep_going faulted rejected : Bool) (whole rest : RunResult) (answer : Reading Answer) (line : ℕ) (first state : State) (go : State → RunResult) (before after : Tally) (old mid new : Outside) → ComesTo whole (after_turn true faulted rest) before old mid
+    → rest ≡ after_reading keep_going first answer line go → GoesOn answer line rejected first state before after mid new → ComesTo whole (left_by keep_going faulted rejected (go state)) after old new
+comes_more keep_going faulted rejected _ _ _ _ _ state go before after _ _ _ come is on =
     let cost = on.step.spent.charge in
     record {
       steps = come.steps ++ on.step ∷ [];
-      is = come.is ∙ ap (after_steps come.steps) (is ∙ on.goes go) ∙ one_more come.steps on.step (go state);
+      is = come.is ∙ ap (λ r. after_steps come.steps (after_turn true faulted r)) (is ∙ on.goes keep_going go) ∙ ap (after_steps come.steps) (turned keep_going faulted rejected on.step (go state)) ∙ one_more come.steps on.step _;
       does = does_more _ _ _ _ _ come.does on.does;
       charge = on.charge ∙ ap (λ n. count_after n cost) come.charge ∙ count_after-add 0 (spent_of come.steps).charge cost
           ∙ ap (count_after 0) (ap (λ n. (spent_of come.steps).charge + n) (sym (add-zero cost)) ∙ sym (ap (λ (s : Spent). s.charge) (spent_of-append come.steps (on.step ∷ []))));
@@ -200,11 +228,11 @@ comes_more _ _ _ _ state go before after _ _ _ come is on =
     one_more steps step next = λ i. record { steps = sym (append_assoc steps (step ∷ []) next.steps) i; ending = next.ending }
 
 -- the next statement, and then the others
-pub next-result : (files : Files) (ss : List Statement) (i : ℕ) (st : Statement) (s : State) → slice_get ss i ≡ Some st
-    → statements_result files s (drop i ss) ≡ after_reading (statement_result files s st.action) st.line (λ s'. statements_result files s' (drop (i + 1) ss))
-next-result _ [] i _ s is = cc
-next-result _ (x ∷ ss) zero _ s is = grind arith
-next-result files (x ∷ ss) (suc i) st s is = grind (arith, next-result files ss i st s is)
+pub next-result : (keep_going : Bool) (files : Files) (ss : List Statement) (i : ℕ) (st : Statement) (s : State) → slice_get ss i ≡ Some st
+    → statements_result keep_going files s (drop i ss) ≡ after_reading keep_going s (statement_result files s st.action) st.line (λ s'. statements_result keep_going files s' (drop (i + 1) ss))
+next-result keep_going _ [] i _ s is = cc
+next-result keep_going _ (x ∷ ss) zero _ s is = grind arith
+next-result keep_going files (x ∷ ss) (suc i) st s is = grind (arith, next-result keep_going files ss i st s is)
 
 -- whether an answer comes with a warning
 abbrev pub marked : Answer → Bool
@@ -212,13 +240,19 @@ marked (done state printed mark) = mark
 marked (refused f mark) = mark
 
 -- the first step of what an answer makes, with the warning
-first_step : (n : Spent) (a : Answer) (line : ℕ) (go : State → RunResult) → (step : RunStep) × (others : List RunStep) × (ending : Ending) × (after_answer n a line go ≡ first_then step others ending) × (step.spent ≡ n)
-    × ((old new : Written) → AppendsPart old new (warning_line line (marked a)) → AppendsPart old new step.errors)
-first_step _ (done state printed mark) _ go = (_, (go state).steps, (go state).ending, refl, refl, λ _ _ part. part)
-first_step _ (refused f mark) _ _ = (_, [], fault, refl, refl, λ _ _ part. part_of _ _ _ _ part)
+first_step : (keep_going : Bool) (first : State) (n : Spent) (a : Answer) (line : ℕ) (go : State → RunResult) → (step : RunStep) × (others : List RunStep) × (ending : Ending) × (after_answer keep_going first n a line go ≡ first_then step others ending)
+    × (step.spent.fetches ≡ n.fetches) × ((old new : Written) → AppendsPart old new (warning_line line (marked a)) → AppendsPart old new step.errors)
+first_step _ _ _ (done state printed mark) _ go = (_, (go state).steps, (go state).ending, refl, refl, λ _ _ part. part)
+first_step keep_going first _ (refused f mark) _ go = (_, (after_fault keep_going (go first)).steps, (after_fault keep_going (go first)).ending, refl, refl, λ _ _ part. part_of _ _ _ _ part)
+
+-- what is so of the status of a write that failed is so of the error that it is
+pub err_is : {T : Type 0} (r : Result T Status) (P : Status → Type 0) (status : Status) → (status ≡ Output) ⊎ (status ≡ Memory) → IsErrAnd r (λ e. e ≡ status) → P status → IfErr r P
+err_is r P status _ is so =
+    let p = err_from_is_err_and r is in
+    rw (p.1, p.2) so
 
 -- there was no memory for the statement
-pub stops_memory : (contents : Option Contents) (answer : Contents → Reading Answer) (line : ℕ) (o : Outside) → IfSome contents (λ held. Stops (answer held) line Memory o o)
+pub stops_memory : (contents : Option Contents) (answer : Contents → Reading Answer) (line : ℕ) (first : State) (o : Outside) → IfSome contents (λ held. Stops (answer held) line first Memory o o)
 stops_memory = search (rules, some-told, early_none)
 
 module _ {files files' : FilesValue} {answer : Contents → Reading Answer} where
@@ -228,43 +262,60 @@ module _ {files files' : FilesValue} {answer : Contents → Reading Answer} wher
     told P = grind (arith, some-told, add-zero)
 
     -- the warning of a statement could not be written
-    pub stops_warning : (r : Result ⊤ Status) (line : ℕ) (status : Status) (old new : Outside) → IsErrAnd r (λ e. e ≡ status) → (status ≡ Output) ⊎ (status ≡ Memory) → new.out ≡ old.out → AppendsPart old.err new.err (warning_line line (marked a))
-        → IfErr r (λ status. IfSome files.contents (λ held. Stops (answer held) line status old new))
-    stops_warning r line status old new is why out part =
+    pub stops_warning : {T : Type 0} (r : Result T Status) (line : ℕ) (first : State) (status : Status) (old new : Outside) → IsErrAnd r (λ e. e ≡ status) → (status ≡ Output) ⊎ (status ≡ Memory) → new.out ≡ old.out → AppendsPart old.err new.err (warning_line line (marked a))
+        → IfErr r (λ status. IfSome files.contents (λ held. Stops (answer held) line first status old new))
+    stops_warning r line first status old new is why out part =
         let p = err_from_is_err_and r is in
-        rw (p.1, p.2) (told (λ r. Stops r line status old new) (λ n count go.
-        let f = first_step n a line go in
+        rw (p.1, p.2) (told (λ r. Stops r line first status old new) (λ n count keep_going go.
+        let f = first_step keep_going first n a line go in
         rw f.3 (stops_first old new f.0 f.1 f.2 status why out (f.5 _ _ part))))
 
   module _ {state : State} {printed : Text} {mark : Bool} (goes : (held : Contents) → Goes held files files' (answer held) (at_once (done state printed mark)))
-      (line : ℕ) (old new : Outside) (err : new.err ≡ appended old.err (warning_line line mark)) where
+      (line : ℕ) (first : State) (old new : Outside) (err : new.err ≡ appended old.err (warning_line line mark)) where
     -- the text of the statement could not be written
-    pub stops_showing : (status : Status) → status ≡ Output → AppendsFront old.out new.out printed → HasRisen old.out_faults new.out_faults → IfSome files.contents (λ held. Stops (answer held) line status old new)
-    stops_showing status is front risen = told goes (λ r. Stops r line status old new) (λ n count go. rw is (unwritten_output old new _ _ _ front err risen))
+    pub stops_showing : (status : Status) → status ≡ Output → AppendsFront old.out new.out printed → HasRisen old.out_faults new.out_faults → IfSome files.contents (λ held. Stops (answer held) line first status old new)
+    stops_showing status is front risen = told goes (λ r. Stops r line first status old new) (λ n count keep_going go. rw is (unwritten_output old new _ _ _ front err risen))
 
-  -- a refused statement, whose warning was written
-  pub stops_refused : {f : FaultValue} {mark : Bool} → ((held : Contents) → Goes held files files' (answer held) (at_once (refused f mark))) → (line : ℕ) (status : Status) (old new : Outside)
-      (mid : Written) → old.files.fetches ≡ files.fetches → new.files.fetches ≡ files'.fetches → new.out ≡ old.out → mid ≡ appended old.err (warning_line line mark) → EndsWithLine (line_about line (fault_text f)) Fault status mid new.err
-      → IfSome files.contents (λ held. Stops (answer held) line status old new)
-  stops_refused goes line status old new mid before after out wrote ends =
-      told goes (λ r. Stops r line status old new) (λ n count go. ends_with_lines old new _ n _ _ status mid out wrote (cc count) ends)
+  -- the line of its fault could not be written, behind its warning
+  pub stops_fault : {f : FaultValue} {mark : Bool} → ((held : Contents) → Goes held files files' (answer held) (at_once (refused f mark))) → (line : ℕ) (first : State) (status : Status) (old new : Outside) (mid : Written)
+      → (status ≡ Output) ⊎ (status ≡ Memory) → new.out ≡ old.out → mid ≡ appended old.err (warning_line line mark) → AppendsPart mid new.err (line_about line (fault_text f)) → IfSome files.contents (λ held. Stops (answer held) line first status old new)
+  stops_fault goes line first status old new mid why out wrote part =
+      told goes (λ r. Stops r line first status old new) (λ n count keep_going go. stops_first old new _ _ _ status why out (part_after _ _ _ _ _ wrote part))
 
   -- a file could not be read: where the contents are told, the last fetch is one of the statement
-  pub stops_input : (line : ℕ) (old new : Outside) → ((held : Contents) → Stuck held files files' (answer held))
+  pub stops_input : (line : ℕ) (first : State) (old new : Outside) → ((held : Contents) → Stuck held files files' (answer held))
       → old.files.fetches ≡ files.fetches → new.files.fetches ≡ files'.fetches → new.out ≡ old.out → AppendsFront old.err new.err (codes "input failed\n")
-      → (¬ (HasRisen old.err_faults new.err_faults) → new.err ≡ appended old.err (codes "input failed\n")) → IfSome files.contents (λ held. Stops (answer held) line Input old new)
-  stops_input line old new stuck before after out front whole = some-told files.contents (λ held. Stops (answer held) line Input old new) (λ held told go.
+      → (¬ (HasRisen old.err_faults new.err_faults) → new.err ≡ appended old.err (codes "input failed\n")) → IfSome files.contents (λ held. Stops (answer held) line first Input old new)
+  stops_input line first old new stuck before after out front whole = some-told files.contents (λ held. Stops (answer held) line first Input old new) (λ held told keep_going go.
       let s = stuck held in
-      let f = first_step (answer held).spent (answer held).answer line go in
+      let f = first_step keep_going first (answer held).spent (answer held).answer line go in
       unread_first old new _ _ refl f.0 f.1 (ap (λ r. r.steps) f.3) s.spent.fetches (grind arith) s.some (cc s.counted) out front whole)
+
+  -- the statement was refused, and its warning and the line of its fault were written
+  pub goes_refused : {f : FaultValue} {mark : Bool} → ((held : Contents) → Goes held files files' (answer held) (at_once (refused f mark))) → (line : ℕ) (first state : State) (before after : Tally) (old new : Outside) (mid : Written)
+      → state ≡ first → after.charge ≡ before.charge → before.peak ≤ after.peak → mid ≡ appended old.err (warning_line line mark) → new.err ≡ appended mid (line_about line (fault_text f))
+      → old.files.fetches ≡ files.fetches → new.files.fetches ≡ files'.fetches → new.out ≡ old.out → old.out_faults ≤ new.out_faults → old.err_faults ≤ new.err_faults
+      → IfSome files.contents (λ held. GoesOn (answer held) line true first state before after old new)
+  goes_refused {f} {mark} goes line first state before after old new mid same charge peak warned wrote from to out out_faults err_faults =
+      told goes (λ r. GoesOn r line true first state before after old new) (λ n count.
+      let errors = warning_line line mark ++ line_about line (fault_text f) in
+      record {
+        step = record { output = []; errors = errors; spent = record n { charge = 0 }; rows = 0 };
+        does = does_one _ old new (out ∙ sym (appended-nil old.out)) (wrote ∙ ap (λ w. appended w (line_about line (fault_text f))) warned ∙ appended-appended old.err (warning_line line mark) (line_about line (fault_text f)))
+            (to ∙ count ∙ ap (λ c. count_after c n.fetches) (sym from)) out_faults err_faults;
+        goes = λ keep_going go. ap (λ s. after_step (record { output = []; errors = errors; spent = record n { charge = 0 }; rows = 0 }) (after_fault keep_going (go s))) (sym same);
+        charge = charge;
+        rows = omega arith;
+        peak = peak;
+      })
 
 -- the statement was done, and its warning and its text were written
 pub goes_on : {before after : Meter} {answer : Contents → Reading Answer} {state : State} {printed : Text} {mark : Bool} → ((held : Contents) → Pays held before after (answer held) (at_once (done state printed mark)))
-    → (line peak peak' most : ℕ) → peak' ≡ max peak most → most_rows state ≤ most → (old new : Outside) → new.err ≡ appended old.err (warning_line line mark) → old.files.fetches ≡ before.files.fetches → new.files.fetches ≡ after.files.fetches → new.out ≡ appended old.out printed
+    → (line : ℕ) (s : State) (peak peak' most : ℕ) → peak' ≡ max peak most → most_rows state ≤ most → (old new : Outside) → new.err ≡ appended old.err (warning_line line mark) → old.files.fetches ≡ before.files.fetches → new.files.fetches ≡ after.files.fetches → new.out ≡ appended old.out printed
     → old.out_faults ≤ new.out_faults → old.err_faults ≤ new.err_faults
-    → IfSome before.files.contents (λ held. GoesOn (answer held) line state (record { charge = before.tab.charge; peak = peak }) (record { charge = after.tab.charge; peak = peak' }) old new)
-goes_on {before} {after} {answer} {state} {printed} {mark} pays line peak peak' _ top rows old new err first last out out_faults err_faults =
-    some-told before.files.contents (λ held. GoesOn (answer held) line state (record { charge = before.tab.charge; peak = peak }) (record { charge = after.tab.charge; peak = peak' }) old new) (λ held told.
+    → IfSome before.files.contents (λ held. GoesOn (answer held) line false s state (record { charge = before.tab.charge; peak = peak }) (record { charge = after.tab.charge; peak = peak' }) old new)
+goes_on {before} {after} {answer} {state} {printed} {mark} pays line s peak peak' _ top rows old new err first last out out_faults err_faults =
+    some-told before.files.contents (λ held. GoesOn (answer held) line false s state (record { charge = before.tab.charge; peak = peak }) (record { charge = after.tab.charge; peak = peak' }) old new) (λ held told.
     let p = pays held in
     let n = spent_sum p.goes.spent nothing_spent in
     let same : p.goes.spent ≡ n = sym (sum-nothing p.goes.spent) in
@@ -272,7 +323,7 @@ goes_on {before} {after} {answer} {state} {printed} {mark} pays line peak peak' 
     record {
       step = record { output = printed; errors = warning_line line mark; spent = n; rows = most_rows state };
       does = does_one _ old new out err (last ∙ p.goes.counted ∙ ap (λ (s : Spent). count_after before.files.fetches s.fetches) same ∙ ap (λ c. count_after c n.fetches) (sym first)) out_faults err_faults;
-      goes = λ go. ap (λ r. after_reading r line go) is;
+      goes = λ keep_going go. ap (λ r. after_reading keep_going s r line go) is;
       charge = p.costs.charge ∙ ap (λ (s : Spent). count_after before.tab.charge s.charge) same;
       rows = omega (arith, top, rows);
       peak = omega (arith, top);

@@ -1,8 +1,8 @@
 -- What the line of `--stats` adds to a run.
 use Rattle.{
-  script_session.{proofs.{script_state.laws.PaidLaws.{same_peak}, cells.Common.{◌≡◌, ℕ, zero, suc, ◌+◌, ◌≤◌, Bool, true, false, List, [], ◌∷◌, ◌++◌, map, refl, sym, ◌∙◌, ap, arith, append_assoc, append-nil, zero-add, map-append, subst, Text}}, specs.{script.{Spent.{Spent, nothing_spent, spent_sum}, Reading.{Reading}, State.{State, most_rows}, Statement.{Answer, done, refused}, Run.{RunStep, RunResult, Ending, finished, fault, usage, syntax, spent_of, after_step, after_answer, after_reading, fetched, with_line, warning_line, stats_line, told_charge, IsPeak, with_line_of, with_stats}}, script_state.{Reads.{count_after}, laws.Paid.{HasPeak}}}},
+  script_session.{proofs.{script_state.laws.PaidLaws.{same_peak}, cells.Common.{◌≡◌, ℕ, zero, suc, ◌+◌, ◌≤◌, Bool, true, false, List, [], ◌∷◌, ◌++◌, map, refl, sym, ◌∙◌, ap, arith, append_assoc, append-nil, zero-add, map-append, subst, Text}}, specs.{script.{Spent.{Spent, nothing_spent, spent_sum}, Reading.{Reading}, State.{State, most_rows}, Statement.{Answer, done, refused}, Run.{RunStep, RunResult, Ending, finished, fault, usage, syntax, spent_of, after_step, after_fault, after_answer, after_reading, fetched, with_line, warning_line, stats_line, told_charge, IsPeak, with_line_of, with_stats}}, script_state.{Reads.{count_after}, laws.Paid.{HasPeak}}}},
   meaning_run.specs.Result.{unfetched, without_fetches, Stated},
-  script_run.{specs.{Ends.{Outside, Ends, EndsWithLine, Is}, Steps.{Tally, ComesTo, Stops, after_steps}, declared.status.Status.{Status, TheVariants.{Done}}}, proofs.{DemoLaws.{Unfetched}, StepLaws.{spent_of-append}, RunLaws.{ends_come, ends_other, ends_with_line}}},
+  script_run.{specs.{Ends.{Outside, Ends, EndsWithLine, Is}, Steps.{Tally, ComesTo, Stops, after_steps, after_turn}, declared.status.Status.{Status, TheVariants.{Done, Fault}}}, proofs.{DemoLaws.{Unfetched}, StepLaws.{spent_of-append}, RunLaws.{ends_come, ends_fault, left_by, ends_other, ends_with_line}}},
 }
 
 -- the line, where steps with this charge come before
@@ -48,14 +48,24 @@ line_one fault peak base step more = refl
 line_one usage peak base step more = refl
 line_one syntax peak base step more = refl
 
--- a statement, and then what follows it
-stats_answer : (base : ℕ) (stats : Bool) (peak : ℕ) (n : Spent) (a : Answer) (line : ℕ) (go : State → RunResult) → stats_after base stats peak (after_answer n a line go) ≡ after_answer n a line (λ s. stats_after (base + n.charge) stats peak (go s))
-stats_answer base false peak n (done s printed mark) line go = refl
-stats_answer base false peak n (refused f mark) line go = refl
-stats_answer base true peak n (done s printed mark) line go =
+-- a statement, and then what follows it: again a statement, and then a run
+abbrev Again : Bool → State → Spent → Answer → ℕ → RunResult → Type 0
+Again keep_going first n a line result = (go : State → RunResult) × (result ≡ after_answer keep_going first n a line go)
+
+stats_answer : (base : ℕ) (stats : Bool) (peak : ℕ) (keep_going : Bool) (first : State) (n : Spent) (a : Answer) (line : ℕ) (go : State → RunResult) → Again keep_going first n a line (stats_after base stats peak (after_answer keep_going first n a line go))
+stats_answer base false peak keep_going first n a line go = (go, refl)
+stats_answer base true peak keep_going first n (done s printed mark) line go =
     let step : RunStep = record { output = printed; errors = warning_line line mark; spent = n; rows = most_rows s } in
-    λ i. record { steps = line_one (go s).ending peak base step (go s).steps i; ending = (go s).ending }
-stats_answer base true peak n (refused f mark) line go = refl
+    (λ s. stats_after (base + n.charge) true peak (go s), λ i. record { steps = line_one (go s).ending peak base step (go s).steps i; ending = (go s).ending })
+stats_answer base true peak false first n (refused f mark) line go = (go, refl)
+stats_answer base true peak true first n (refused f mark) line go = (go, refl)
+
+-- the same after a fault or none
+turn_answer : (faulted keep_going : Bool) (first : State) (n : Spent) (a : Answer) (line : ℕ) (go : State → RunResult) → Again keep_going first n a line (after_turn true faulted (after_answer keep_going first n a line go))
+turn_answer false keep_going first n a line go = (go, refl)
+turn_answer true keep_going first n (done s printed mark) line go = (λ s. after_fault true (go s), refl)
+turn_answer true false first n (refused f mark) line go = (go, refl)
+turn_answer true true first n (refused f mark) line go = (go, refl)
 
 -- with the line or without, from any peak that the run may have
 pub stated : (stats : Bool) (peak : ℕ) (means : RunResult → Type 0) (r : RunResult) → means r → IsPeak r.steps peak → Stated stats means (with_stats stats peak r)
@@ -126,18 +136,38 @@ stated_unfetched stats means status old new ends =
 -- ---- the statements of a run
 
 -- a run that ends at a statement
-pub stops_stated : (stats : Bool) (whole rest : RunResult) (tally : Tally) (answer : Reading Answer) (line : ℕ) (go : State → RunResult) (status : Status) (old mid new : Outside) → HasPeak whole → ComesTo whole rest tally old mid → rest ≡ after_reading answer line go
-    → Stops answer line status mid new → Ends (Stated stats (Is whole)) status old new
-stops_stated stats whole rest tally answer line go status old mid new bounds come is stops =
+pub stops_stated : (stats keep_going faulted : Bool) (whole rest : RunResult) (tally : Tally) (answer : Reading Answer) (line : ℕ) (first : State) (go : State → RunResult) (status : Status) (old mid new : Outside) → HasPeak whole → ComesTo whole (after_turn true faulted rest) tally old mid
+    → rest ≡ after_reading keep_going first answer line go → Stops answer line first status mid new → Ends (Stated stats (Is whole)) status old new
+stops_stated stats keep_going faulted whole rest tally answer line first go status old mid new bounds come is stops =
     let steps = come.steps in
     let peak = told_charge (spent_of whole.steps).charge in
     let base = 0 + (spent_of steps).charge in
-    let go' : State → RunResult = λ s. stats_after (base + answer.spent.charge) stats peak (go s) in
-    let end : RunResult = after_reading answer line go' in
+    let turned = turn_answer faulted keep_going first answer.spent answer.answer line go in
+    let told = stats_answer base stats peak keep_going first answer.spent answer.answer line turned.0 in
+    let end : RunResult = after_reading keep_going first answer line told.0 in
     let same : with_stats stats peak whole ≡ after_steps steps end =
-    stats_first stats peak whole ∙ ap (stats_after 0 stats peak) (come.is ∙ ap (after_steps steps) is) ∙ stats_steps 0 stats peak steps _
-    ∙ ap (after_steps steps) (stats_answer base stats peak answer.spent answer.answer line go) in
-    ends_other _ _ status old new (λ r same'. (peak, (whole, refl, bounds, same' ∙ sym same))) (ends_come (after_steps steps end) end status old mid new steps refl come.does (stops go'))
+    stats_first stats peak whole ∙ ap (stats_after 0 stats peak) (come.is ∙ ap (λ r. after_steps steps (after_turn true faulted r)) is ∙ ap (after_steps steps) turned.1) ∙ stats_steps 0 stats peak steps _
+    ∙ ap (after_steps steps) told.1 in
+    ends_other _ _ status old new (λ r same'. (peak, (whole, refl, bounds, same' ∙ sym same))) (ends_come (after_steps steps end) end status old mid new steps refl come.does (stops keep_going told.0))
+
+-- a run that ends with a fault, by which it has no line
+abbrev pub with_fault_left : RunResult
+with_fault_left = record { steps = []; ending = fault }
+
+pub cut_left : (keep_going faulted rejected : Bool) (rest : RunResult) → rejected ≡ true → keep_going ≡ false → left_by keep_going faulted rejected rest ≡ with_fault_left
+cut_left keep_going faulted rejected rest = grind arith
+
+no_line : (base : ℕ) (stats : Bool) (peak : ℕ) → stats_after base stats peak with_fault_left ≡ with_fault_left
+no_line base false peak = refl
+no_line base true peak = refl
+
+pub fault_stated : (stats : Bool) (whole : RunResult) (tally : Tally) (old new : Outside) → HasPeak whole → ComesTo whole with_fault_left tally old new → Ends (Stated stats (Is whole)) Fault old new
+fault_stated stats whole tally old new bounds come =
+    let steps = come.steps in
+    let peak = told_charge (spent_of whole.steps).charge in
+    let same : with_stats stats peak whole ≡ after_steps steps with_fault_left =
+    stats_first stats peak whole ∙ ap (stats_after 0 stats peak) come.is ∙ stats_steps 0 stats peak steps with_fault_left ∙ ap (after_steps steps) (no_line _ stats peak) in
+    ends_other _ _ Fault old new (λ r same'. (peak, (whole, refl, bounds, same' ∙ sym same))) (ends_come (after_steps steps with_fault_left) with_fault_left Fault old new new steps refl come.does (ends_fault new))
 
 told_is : (n : ℕ) → told_charge n ≡ count_after 0 n
 told_is zero = omega arith

@@ -41,6 +41,10 @@ status_of fault = Fault
 status_of usage = Usage
 status_of syntax = Syntax
 
+-- a run that doesn't end by its meaning: a read or a write failed, or memory was refused
+abbrev pub IsCutShort : Status → Type 0
+IsCutShort status = (status ≡ Input) ⊎ (status ≡ Output) ⊎ (status ≡ Memory)
+
 -- the run ends as a result that it may have, with all that it prints and with as many fetches
 abbrev pub EndsAs : (RunResult → Type 0) → Status → Outside → Outside → Type 0
 EndsAs means status old new =

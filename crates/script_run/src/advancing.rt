@@ -1,5 +1,5 @@
 // One statement of a run.
-ghost use Rattle.std.specs.Prelude.{◌≡◌, ◌≢◌, ◌⊎◌, ◌≤◌, IfErr, IfSome, OnErr, OnOk};
+ghost use Rattle.std.specs.Prelude.{◌≡◌, ◌⊎◌, ◌&&◌, ◌≤◌, IfErr, IfOk, IfSome, OnErr, OnOk, false, not};
 ghost use Rattle.outside_io.specs.Count.{HasRisen};
 ghost use Rattle.outside_io.specs.Files.{Serves};
 ghost use Rattle.outside_io.specs.Sink.{appended, AppendsPart};
@@ -10,11 +10,11 @@ ghost use Rattle.script_session.specs.script.Statement.{statement_result};
 ghost use Rattle.script_tree.specs.View.{action_of};
 ghost use Rattle.script_session.specs.script_state.Reads.{files_in, paths_of};
 ghost use Rattle.script_session.specs.Session.{state_of, IsWithinCharge};
-ghost use Rattle.script_run.specs.Errors.{StatementsLeave, Warns};
-ghost use Rattle.script_run.specs.Ends.{outside, EndsWith};
-ghost use Rattle.script_run.specs.Steps.{tally_of, GoesOn, Stops};
+ghost use Rattle.script_run.specs.Errors.{IsOfStatement, Reports, StatementsLeave};
+ghost use Rattle.script_run.specs.Ends.{outside, IsCutShort};
+ghost use Rattle.script_run.specs.Steps.{tally_of, was_refused, GoesOn, Stops};
 
-use crate::ending::{end_with, say_unread};
+use crate::ending::say_unread;
 use crate::status::Status;
 use cell_core::{Fault, TextDict};
 use outside_io::{Files, Sink, write_piece};
@@ -23,9 +23,36 @@ use script_session::{FileNames, Session, StepFault};
 use script_tree::Statement;
 use std::alloc::Global;
 
-/// Does the statement and writes its warning and what it prints. `Err` says how the run ends: by `Fault` once the
-/// line of the first fault is written after the warning, by `Input` where a file can't be read, by `Output` where a
-/// sink failed, or by `Memory`.
+/// What became of a statement after which a run may go on.
+#[derive(Clone, Copy, Debug, PartialEq, Eq)]
+pub enum Advanced {
+    /// It was done.
+    Done,
+    /// It was refused, and the line of its fault was written.
+    Refused,
+}
+
+impl Advanced {
+    /// Whether the statement was refused.
+    pub fn is_refused(self) -> bool
+        ensures { result ≡ was_refused self }
+    {
+        match self {
+            Advanced::Done => false,
+            Advanced::Refused => true,
+        }
+    }
+
+    /// Whether the run ends at the statement: it was refused, and the run isn't to keep going.
+    pub fn ends_run(self, keep_going: bool) -> bool
+        ensures { result ≡ was_refused self && not keep_going }
+    {
+        self.is_refused() & !keep_going
+    }
+}
+
+/// Does the statement and writes its warning and what it prints, or the line of its fault after the warning. `Err` says
+/// how the run ends: by `Input` where a file can't be read, by `Output` where a sink failed, or by `Memory`.
 #[tactic(auto, using(crate::proofs::Hints::advance))]
 pub fn advance<F: Files, O: Sink, E: Sink>(
     alloc: Global,
@@ -35,22 +62,24 @@ pub fn advance<F: Files, O: Sink, E: Sink>(
     statement: &Statement,
     out: &mut O,
     err: &mut E,
-) -> Result<(), Status>
+) -> Result<Advanced, Status>
     ensures on { let at = outside F.seen O.seen E.seen in
-        OnOk result (IfSome (F.seen files.old).contents (λ held. GoesOn
+        IfOk result (λ advanced. IfSome (F.seen files.old).contents (λ held. GoesOn
         (statement_result (files_in names.now held) (state_of session.old)
         (action_of statement.now.action))
-        statement.now.line (state_of session.new) (tally_of session.old) (tally_of session.new)
+        statement.now.line (was_refused advanced)
+        (state_of session.old) (state_of session.new) (tally_of session.old) (tally_of session.new)
         (at files.old out.old err.old) (at files.new out.new err.new))) }
     ensures stops { let at = outside F.seen O.seen E.seen in
         IfErr result (λ status. IfSome (F.seen files.old).contents (λ held. Stops
         (statement_result (files_in names.now held) (state_of session.old)
         (action_of statement.now.action))
-        statement.now.line status
+        statement.now.line (state_of session.old) status
         (at files.old out.old err.old) (at files.new out.new err.new))) }
 
-    ensures within { OnOk result (IsWithinCharge session.old → IsWithinCharge session.new) }
-    ensures ends { IfErr result (λ status. status ≢ Status.Done) }
+    ensures within { IfOk result (λ advanced. was_refused advanced ≡ false →
+        IsWithinCharge session.old → IsWithinCharge session.new) }
+    ensures ends { IfErr result IsCutShort }
     ensures input { IfErr result (λ status. status ≡ Status.Input →
         HasRisen (F.seen files.old).faults (F.seen files.new).faults) }
     ensures output { IfErr result (λ status. status ≡ Status.Output →
@@ -58,9 +87,11 @@ pub fn advance<F: Files, O: Sink, E: Sink>(
         ⊎ HasRisen (E.seen err.old).faults (E.seen err.new).faults) }
 
     // What it writes on the errors, whatever the files tell.
-    ensures warned { OnOk result (Warns (E.seen err.old).written (E.seen err.new).written) }
-    ensures errors { IfErr result (λ status.
-        StatementsLeave (paths_of names.now)
+    ensures lines { IfOk result (λ advanced. Reports (paths_of names.now)
+        (F.seen files.old).absences (F.seen files.new).absences
+        (IsOfStatement (was_refused advanced))
+        (E.seen err.old).written (E.seen err.new).written) }
+    ensures errors { IfErr result (λ status. StatementsLeave false (paths_of names.now)
         (F.seen files.old).absences (F.seen files.new).absences status
         (E.seen err.old).written (E.seen err.new).written) }
 
@@ -71,7 +102,8 @@ pub fn advance<F: Files, O: Sink, E: Sink>(
     match session.step(files, names, statement) {
         Ok(outcome) => {
             warn(alloc, statement.line, outcome.warned, err)?;
-            show(outcome.printed.as_str(), out)
+            show(outcome.printed.as_str(), out)?;
+            Ok(Advanced::Done)
         }
         Err(StepFault::Refused { code, warned }) => {
             warn(alloc, statement.line, warned, err)?;
@@ -79,7 +111,8 @@ pub fn advance<F: Files, O: Sink, E: Sink>(
                 line: statement.line,
                 code,
             };
-            Err(end_at_fault(alloc, session.texts(), &fault, err))
+            show_fault(alloc, session.texts(), &fault, err)?;
+            Ok(Advanced::Refused)
         }
         Err(StepFault::Input) => {
             say_unread(err);
@@ -126,14 +159,26 @@ fn warn<E: Sink>(alloc: Global, line: u64, warned: bool, err: &mut E) -> Result<
     show(text.as_str(), err)
 }
 
-// Writes the line of a fault, with which a run ends.
-fn end_at_fault<E: Sink>(alloc: Global, texts: &TextDict, fault: &Fault, err: &mut E) -> Status
-    ensures { EndsWith
-        (line_about fault.now.line (fault_text (fault_of texts.now fault.now.code)))
-        Status.Fault result (E.seen err.old) (E.seen err.new) }
+// Writes the line of a fault.
+fn show_fault<E: Sink>(
+    alloc: Global,
+    texts: &TextDict,
+    fault: &Fault,
+    err: &mut E,
+) -> Result<(), Status>
+    ensures shown { OnOk result ((E.seen err.new).written ≡ appended (E.seen err.old).written
+        (line_about fault.now.line (fault_text (fault_of texts.now fault.now.code)))) }
+    ensures part { OnErr result (AppendsPart (E.seen err.old).written (E.seen err.new).written
+        (line_about fault.now.line (fault_text (fault_of texts.now fault.now.code)))) }
+    ensures status { IfErr result (λ status. (status ≡ Status.Output) ⊎ (status ≡ Status.Memory)) }
+    ensures unbegun { IfErr result (λ status. status ≡ Status.Memory →
+        (E.seen err.new).written ≡ (E.seen err.old).written) }
+    ensures output { IfErr result (λ status. status ≡ Status.Output →
+        HasRisen (E.seen err.old).faults (E.seen err.new).faults) }
+    ensures faults { (E.seen err.old).faults ≤ (E.seen err.new).faults }
 {
-    match line_of_fault(alloc, texts, fault) {
-        Ok(text) => end_with(err, Status::Fault, text.as_str()),
-        Err(_) => Status::Memory,
-    }
+    let Ok(text) = line_of_fault(alloc, texts, fault) else {
+        return Err(Status::Memory);
+    };
+    show(text.as_str(), err)
 }

@@ -2,10 +2,11 @@
 //!
 //! [`run`] finds what they ask for (`words`): help, the demonstration, or a script by its path, with files that it may read,
 //! each as `NAME=PATH`. It does the statements of the script in order with a [`Session`], and writes what they print on one
-//! sink, warnings and the first fault on another.
+//! sink, warnings and faults on another.
 //!
 //! A run goes statement by statement: `advance` does one in the session, writes what it prints on the one sink and its
-//! warning or its fault on the other (`advancing`, `ending`), and says with which [`Status`] the run ends, if it ends.
+//! warning or its fault on the other (`advancing`, `ending`), and says whether it was done or refused, or with which
+//! [`Status`] the run ends. The first fault ends a run, unless it is to keep going.
 //!
 //! ```text
 //! let mut files = MemFiles::new(alloc);

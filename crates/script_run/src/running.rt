@@ -12,7 +12,8 @@ ghost use Rattle.script_tree.specs.ScriptView.{statements_of};
 ghost use Rattle.script_session.specs.Session.{charge_of, peak_of};
 ghost use Rattle.script_session.specs.script_state.Reads.{files_in, paths_of};
 ghost use Rattle.script_session.specs.script_state.laws.Paid.{HasPeak};
-ghost use Rattle.script_run.specs.Errors.{RunLeaves, StatementsLeave};
+ghost use Rattle.script_run.specs.Errors.{RunLeaves};
+ghost use Rattle.script_words.specs.CommandLine.{flags_of};
 ghost use Rattle.script_run.specs.Ends.{outside, Ends, EndsByMeaning, EndsWith, HasCause, Is};
 
 use crate::advancing::advance;
@@ -25,12 +26,14 @@ use script_demo::{DemoFiles, demo_script, orders_name};
 use script_faults::{line_of_absence, line_of_stats, line_of_syntax};
 use script_session::{FileNames, Session};
 use script_syntax::{ParseFault, Script, parse};
+use script_words::Flags;
 use std::alloc::Global;
 
 const MOST_BYTES: usize = 1 << 20;
 
 /// Runs what the words of a command line ask for, of which the first is the program's name: prints what the
-/// statements of a script print on `out`, and the line of its first fault on `err`.
+/// statements of a script print on `out`, and the line of its first fault on `err`, or with `--keep-going` those of all
+/// faults.
 ///
 /// The words are read from left to right, and the first that asks for help or is wrong decides:
 ///
@@ -39,6 +42,9 @@ const MOST_BYTES: usize = 1 << 20;
 ///   the status is `Done`: `peak P charge C`. P is the greatest number of cells that the blocks of all objects had after a
 ///   statement, and C what the expressions and settings of the statements cost in cells. P is at most C, and at least the
 ///   rows of each table with a column that a name stood for after a statement.
+/// - `--keep-going` is a flag, which stands once. With it a statement that is refused doesn't end the run: its line is
+///   written, names and tables stay as they were, and the next statement follows. At the end the status is `Fault`
+///   where a statement was refused.
 /// - `--demo N` or `--demo=N` asks for the demonstration with N orders: a script and a file that are the program's own.
 ///   It stands once, has a value, and no plain word stands beside it. N is one to six digits, from 1 to 100,000.
 /// - Behind `--` each word is plain.
@@ -51,10 +57,11 @@ const MOST_BYTES: usize = 1 << 20;
 /// The script is fetched once, before its first statement. A statement fetches the file of a name each
 /// time that it reads it, and no file is fetched before. Without a script `files` isn't called.
 ///
-/// The status is `Done` after the last statement and after help, and `Fault` at the first statement that is
-/// refused. It is `Usage` where the words are wrong, or the files don't hold the script, and `Syntax` where its
-/// bytes are no script. `Input` comes only where a count of failed reads rose, `Output` only where a count of
-/// failed writes did.
+/// The status is `Done` after the last statement, where none was refused, and after help. It is `Fault` at the first
+/// statement that is refused, or with `--keep-going` after the last statement, where one was refused. It is `Usage` where
+/// the words are wrong, or the files don't hold the script, and `Syntax` where its bytes are no script. `Input` comes only
+/// where a count of failed reads rose, `Output` only where a count of failed writes did; these and `Memory` end a run that
+/// keeps going too.
 ///
 /// Where the files tell what they hold, the run has one result ([`one_result`](crate::one_result)), in which the number P of
 /// `--stats` alone is left open within these bounds. With
@@ -67,12 +74,12 @@ const MOST_BYTES: usize = 1 << 20;
 /// Whatever the files tell, `err` gets by the end, where the words ask for a script:
 ///
 /// - `Done`: lines that warn of settings, or none, and with `--stats` its line; and nothing else;
-/// - `Memory`: lines that warn of settings, or none, and nothing else;
-/// - `Fault`: such lines, and then the line of a fault. Only where a count of absences rose may it be that
-///   the file of a given name isn't there;
+/// - `Memory`: lines that warn of settings, with `--keep-going` also those of faults, or none, and nothing else;
+/// - `Fault`: lines that warn, and then the line of a fault; with `--keep-going` lines that warn and lines of faults, at
+///   least one. Only where a count of absences rose may one say that the file of a given name isn't there;
 /// - `Usage`: the line that the script isn't there; and a count of absences rose;
 /// - `Syntax`: the line that the script is too large, or that of a syntax error;
-/// - `Input`: lines that warn, and then a front of the line `input failed`.
+/// - `Input`: lines as with `Memory`, and then a front of the line `input failed`.
 ///
 /// Of `Output` this says nothing. Where `err` doesn't tell what it took, as the error stream of a machine, nothing
 /// is said of its bytes.
@@ -109,7 +116,7 @@ pub fn run<F: Files, O: Sink, E: Sink>(
 
     // What a script leaves on the errors, whatever the files tell.
     ensures errors { IfScript (asked (map string_bytes words.now.items)) (λ run.
-        RunLeaves run.stats run.paths (F.seen files.old).absences (F.seen files.new).absences
+        RunLeaves run.flags run.paths (F.seen files.old).absences (F.seen files.new).absences
         result (E.seen err.old).written (E.seen err.new).written) }
 
     // The causes of the other answers.
@@ -126,9 +133,9 @@ pub fn run<F: Files, O: Sink, E: Sink>(
     match asks {
         Asked::Help => end_usage(out, Status::Done),
         Asked::Wrong => end_usage(err, Status::Usage),
-        Asked::Demo(stats, orders) => run_demo(alloc, stats, orders, out, err),
-        Asked::Script(stats, path, names) => {
-            run_file(alloc, stats, path, &names, files, out, err)
+        Asked::Demo(flags, orders) => run_demo(alloc, flags, orders, out, err),
+        Asked::Script(flags, path, names) => {
+            run_file(alloc, flags, path, &names, files, out, err)
         }
     }
 }
@@ -141,20 +148,20 @@ fn end_usage<S: Sink>(sink: &mut S, status: Status) -> Status
     end_with(
         sink,
         status,
-        "usage: pdscript [--stats] [--demo N | SCRIPT] [NAME=PATH ..]\n",
+        "usage: pdscript [--stats] [--keep-going] [--demo N | SCRIPT] [NAME=PATH ..]\n",
     )
 }
 
 // Runs the demonstration with so many orders. Its file is its own, so any other files are left alone.
 fn run_demo<O: Sink, E: Sink>(
     alloc: Global,
-    stats: bool,
+    flags: Flags,
     orders: u32,
     out: &mut O,
     err: &mut E,
 ) -> Status
     ensures told { (files : FilesValue) → let at = outside (λ (f : FilesValue). f) O.seen E.seen in
-        Ends (Stated stats (IsDemoResult orders)) result
+        Ends (Stated flags.stats (IsDemoResult flags.keep_going orders)) result
         (at files out.old err.old) (at files out.new err.new) }
     ensures cause { (files : FilesValue) → let at = outside (λ (f : FilesValue). f) O.seen E.seen in
         HasCause result (at files out.old err.old) (at files out.new err.new) }
@@ -166,7 +173,7 @@ fn run_demo<O: Sink, E: Sink>(
         return Status::Memory;
     };
     let script = demo_script().as_bytes();
-    run_bytes(alloc, stats, script, &names, &mut files, out, err)
+    run_bytes(alloc, flags, script, &names, &mut files, out, err)
 }
 
 // The name of the demonstration's file, with its path.
@@ -184,7 +191,7 @@ fn demo_names(alloc: Global) -> Result<FileNames, NoMemory>
 #[tactic(auto, using(crate::proofs::Hints::run_file))]
 fn run_file<F: Files, O: Sink, E: Sink>(
     alloc: Global,
-    stats: bool,
+    flags: Flags,
     path: &str,
     names: &FileNames,
     files: &mut F,
@@ -193,10 +200,11 @@ fn run_file<F: Files, O: Sink, E: Sink>(
 ) -> Status
     ensures told { let at = outside F.seen O.seen E.seen in
         IfSome (F.seen files.old).contents (λ held.
-        Ends (Stated stats (IsPathResult path.now (paths_of names.now) held)) result
+        Ends (Stated flags.stats
+        (IsPathResult flags.keep_going path.now (paths_of names.now) held)) result
         (at files.old out.old err.old) (at files.new out.new err.new)) }
 
-    ensures errors { RunLeaves stats (paths_of names.now)
+    ensures errors { RunLeaves (flags_of flags) (paths_of names.now)
         (F.seen files.old).absences (F.seen files.new).absences
         result (E.seen err.old).written (E.seen err.new).written }
     ensures usage { result ≡ Status.Usage →
@@ -206,7 +214,7 @@ fn run_file<F: Files, O: Sink, E: Sink>(
         HasCause result (at files.old out.old err.old) (at files.new out.new err.new) }
 {
     match read_whole(alloc, files, path, MOST_BYTES) {
-        Ok(bytes) => run_bytes(alloc, stats, bytes.as_slice(), names, files, out, err),
+        Ok(bytes) => run_bytes(alloc, flags, bytes.as_slice(), names, files, out, err),
         Err(ReadFault::Absent) => end_absent(alloc, path, err),
         Err(ReadFault::TooLong) => end_too_large(err),
         Err(ReadFault::Failed) => {
@@ -249,7 +257,7 @@ fn end_syntax<E: Sink>(alloc: Global, line: u64, err: &mut E) -> Status
 #[tactic(auto, using(crate::proofs::Hints::run_bytes))]
 fn run_bytes<F: Files, O: Sink, E: Sink>(
     alloc: Global,
-    stats: bool,
+    flags: Flags,
     bytes: &[u8],
     names: &FileNames,
     files: &mut F,
@@ -258,10 +266,11 @@ fn run_bytes<F: Files, O: Sink, E: Sink>(
 ) -> Status
     ensures told { let at = outside F.seen O.seen E.seen in
         IfSome (F.seen files.old).contents (λ held.
-        Ends (Stated stats (IsScriptResult (files_in names.now held) bytes.now)) result
+        Ends (Stated flags.stats
+        (IsScriptResult flags.keep_going (files_in names.now held) bytes.now)) result
         (at files.old out.old err.old) (at files.new out.new err.new)) }
 
-    ensures errors { RunLeaves stats (paths_of names.now)
+    ensures errors { RunLeaves (flags_of flags) (paths_of names.now)
         (F.seen files.old).absences (F.seen files.new).absences
         result (E.seen err.old).written (E.seen err.new).written }
     ensures usage { result ≢ Status.Usage }
@@ -269,18 +278,18 @@ fn run_bytes<F: Files, O: Sink, E: Sink>(
         HasCause result (at files.old out.old err.old) (at files.new out.new err.new) }
 {
     match parse(alloc, bytes) {
-        Ok(script) => run_script(alloc, stats, &script, names, files, out, err),
+        Ok(script) => run_script(alloc, flags, &script, names, files, out, err),
         Err(ParseFault::SyntaxAt(line)) => end_syntax(alloc, line, err),
         Err(ParseFault::TooLarge) => end_too_large(err),
         Err(ParseFault::NoMemory) => Status::Memory,
     }
 }
 
-// Does the statements in order, up to the first fault.
+// Does the statements in order, up to the first fault, or to the last one where the run keeps going.
 #[tactic(auto, using(crate::proofs::Hints::run_script))]
 fn run_script<F: Files, O: Sink, E: Sink>(
     alloc: Global,
-    stats: bool,
+    flags: Flags,
     script: &Script,
     names: &FileNames,
     files: &mut F,
@@ -289,12 +298,12 @@ fn run_script<F: Files, O: Sink, E: Sink>(
 ) -> Status
     ensures told { let at = outside F.seen O.seen E.seen in
         IfSome (F.seen files.old).contents (λ held.
-        let whole = statements_result (files_in names.now held) no_names
+        let whole = statements_result flags.keep_going (files_in names.now held) no_names
         (statements_of script.now) in
-        HasPeak whole → Ends (Stated stats (Is whole)) result
+        HasPeak whole → Ends (Stated flags.stats (Is whole)) result
         (at files.old out.old err.old) (at files.new out.new err.new)) }
 
-    ensures errors { RunLeaves stats (paths_of names.now)
+    ensures errors { RunLeaves (flags_of flags) (paths_of names.now)
         (F.seen files.old).absences (F.seen files.new).absences
         result (E.seen err.old).written (E.seen err.new).written }
     ensures usage { result ≢ Status.Usage }
@@ -302,14 +311,23 @@ fn run_script<F: Files, O: Sink, E: Sink>(
         HasCause result (at files.old out.old err.old) (at files.new out.new err.new) }
 {
     let mut session = Session::new(alloc);
+    let mut faulted = false;
     for i in 0..script.len() {
         let statement = script.statement(i);
         match advance(alloc, &mut session, files, names, statement, out, err) {
-            Ok(()) => {}
+            Ok(advanced) => {
+                if advanced.ends_run(flags.keep_going) {
+                    return Status::Fault;
+                }
+                faulted |= advanced.is_refused();
+            }
             Err(status) => return status,
         }
     }
-    if stats {
+    if faulted {
+        return Status::Fault;
+    }
+    if flags.stats {
         return end_stats(alloc, &session, err);
     }
     Status::Done

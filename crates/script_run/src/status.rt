@@ -5,9 +5,9 @@ ghost use Rattle.script_run.specs.Exit.{exit_number};
 /// How a run ends. The number of each, from 0 on, is the exit status of the program.
 #[derive(Clone, Copy, Debug, PartialEq, Eq)]
 pub enum Status {
-    /// The script was done to its last statement.
+    /// The script was done to its last statement, and none was refused.
     Done,
-    /// A statement was refused; its line was written on the error sink.
+    /// A statement was refused; the line of its fault was written on the error sink.
     Fault,
     /// The words are no run, or the script isn't there.
     Usage,

@@ -2,12 +2,13 @@
 ghost use Rattle.std.specs.Prelude.{◌≡◌, [], ◌∷◌, ◌++◌, true, false, None, Some, IfOk, IsErrOf, MatchOption, OnOk, map, option_map, string_bytes};
 ghost use Rattle.script_session.specs.script_state.Reads.{paths_of};
 ghost use Rattle.meaning_run.specs.Asked.{asked, is_named_path, may_follow, names_after, of_plain, of_words, pair_in};
+ghost use Rattle.script_words.specs.CommandLine.{flags_of};
 ghost use Rattle.script_run.specs.Words.{asked_of};
 
 use cell_core::{NoMemory, Words};
 use script_demo::demo_size;
 use script_session::FileNames;
-use script_words::{WordsRead, read_words};
+use script_words::{Flags, WordsRead, read_words};
 use std::alloc::Global;
 
 /// What the words of a command line ask for.
@@ -17,10 +18,10 @@ pub(crate) enum Asked<'a> {
     Help,
     /// Nothing, since they are wrong.
     Wrong,
-    /// The demonstration with so many orders, and whether with `--stats`.
-    Demo(bool, u32),
-    /// The script under a path, for which files have names, and whether with `--stats`.
-    Script(bool, &'a str, FileNames),
+    /// The demonstration with so many orders.
+    Demo(Flags, u32),
+    /// The script under a path, for which files have names.
+    Script(Flags, &'a str, FileNames),
 }
 
 /// Why words give no names of files.
@@ -50,42 +51,42 @@ pub(crate) fn asked_in(alloc: Global, words: &[String]) -> Result<Asked<'_>, NoM
     match read_words(alloc, words)? {
         WordsRead::Help => Ok(Asked::Help),
         WordsRead::Wrong => Ok(Asked::Wrong),
-        WordsRead::Words { stats, demo, plain } => asked_by(alloc, stats, demo, &plain),
+        WordsRead::Words { flags, demo, plain } => asked_by(alloc, flags, demo, &plain),
     }
 }
 
 // What the value of `--demo` and the plain words ask for.
 fn asked_by<'a>(
     alloc: Global,
-    stats: bool,
+    flags: Flags,
     demo: Option<&str>,
     plain: &[&'a str],
 ) -> Result<Asked<'a>, NoMemory>
     ensures { IfOk result (λ asks. asked_of asks ≡
-        of_words stats (option_map (λ value. value.now) demo.entry) (map (λ word. word.now) plain.now)) }
+        of_words (flags_of flags) (option_map (λ value. value.now) demo.entry) (map (λ word. word.now) plain.now)) }
 {
     match demo {
-        Some(value) => Ok(demo_asked(stats, value, plain)),
-        None => script_asked(alloc, stats, plain),
+        Some(value) => Ok(demo_asked(flags, value, plain)),
+        None => script_asked(alloc, flags, plain),
     }
 }
 
 // The demonstration, beside which no plain word stands.
-fn demo_asked<'a>(stats: bool, value: &str, plain: &[&'a str]) -> Asked<'a>
-    ensures { asked_of result ≡ of_words stats (Some value.now) (map (λ word. word.now) plain.now) }
+fn demo_asked<'a>(flags: Flags, value: &str, plain: &[&'a str]) -> Asked<'a>
+    ensures { asked_of result ≡ of_words (flags_of flags) (Some value.now) (map (λ word. word.now) plain.now) }
 {
     if !plain.is_empty() {
         return Asked::Wrong;
     }
     match demo_size(value) {
-        Some(orders) => Asked::Demo(stats, orders),
+        Some(orders) => Asked::Demo(flags, orders),
         None => Asked::Wrong,
     }
 }
 
 // The script under the first word, with the names in the others.
-fn script_asked<'a>(alloc: Global, stats: bool, plain: &[&'a str]) -> Result<Asked<'a>, NoMemory>
-    ensures { IfOk result (λ asks. asked_of asks ≡ of_plain stats (map (λ word. word.now) plain.now)) }
+fn script_asked<'a>(alloc: Global, flags: Flags, plain: &[&'a str]) -> Result<Asked<'a>, NoMemory>
+    ensures { IfOk result (λ asks. asked_of asks ≡ of_plain (flags_of flags) (map (λ word. word.now) plain.now)) }
 {
     let [path, more @ ..] = plain else {
         return Ok(Asked::Wrong);
@@ -94,7 +95,7 @@ fn script_asked<'a>(alloc: Global, stats: bool, plain: &[&'a str]) -> Result<Ask
         return Ok(Asked::Wrong);
     }
     match names_in(alloc, more) {
-        Ok(names) => Ok(Asked::Script(stats, *path, names)),
+        Ok(names) => Ok(Asked::Script(flags, *path, names)),
         Err(NamesFault::Wrong) => Ok(Asked::Wrong),
         Err(NamesFault::NoMemory) => Err(NoMemory),
     }

@@ -1,8 +1,8 @@
 -- What statements answer.
 use Rattle.{
-  script_state.{proofs.{cells.Common.{arith, ◌≡◌, ℕ, Bool, true, false, nat_eq, List, [], ◌∷◌, Option, Some, None, refl, sym, subst, ◌∙◌, ap, Contents, IsSome, if◌then◌else◌, Result, Ok, Err, IsErrAnd, ⊤, Text, same_text, FaultValue}, Bindings.{nat_same, nat_eq_self, true_false, same_congr, named_object}, States.{same_state, state_kept, state_swept, bind_state}, Worlds.{entry_seen, some_shown, set_failed, keeps_both}, Validity.{spent_state}, Rides.{serves_self, serves_both, caused_later, goes_both, stuck_both, spends_both, pays_value, pays_none, pays_by, pays_both, halts_first, goes_same, fault_uncaused, spends_none}, laws.SpentLaws.{sum-nothing}}, specs.{cells.Cell.{IsLonger}, tables.{Cost.{free}, Table.{Table}}, script.{State.{State}, Spent.{spent_for}, Reading.{Files, Reading, Reads, at_once}, Statement.{Answer, with_value, done, refused, then_answer, set_answer, is_chained}}, frame_set.Assigned.{without}, declared.{file_names.FileName.{FileName}, fault.EvalFault.{EvalFault}, work.Work.{Work}}, Evaluates.{Moment, meter_of, moment_of, Evaluates}, Reads.{Costs, Tab, Meter, metered, files_in, Pays, Halts}, Charges.{Charges}, Work.{names_in, tab_of, tables_in, world_of, state_in, SetsFrom}, Bindings.{Bindings, bound, value_at, is_named, state_over, IsOf, KeepNamed, AreGiven, AreNamed}, laws.FormFault.{HasFormFault}}},
+  script_state.{proofs.{cells.Common.{arith, ◌≡◌, ℕ, Bool, true, false, nat_eq, List, [], ◌∷◌, Option, Some, None, refl, sym, subst, ◌∙◌, ap, Contents, IsSome, if◌then◌else◌, Result, Ok, Err, IsErrAnd, ⊤, Text, same_text, FaultValue}, Bindings.{nat_same, nat_eq_self, true_false, same_congr, named_object}, States.{same_state, state_kept, state_swept, bind_state}, Worlds.{entry_seen, some_shown, set_failed, keeps_both, keeps_same, blocks_same, blocks_both}, Validity.{spent_state}, Rides.{serves_self, serves_both, caused_later, goes_both, stuck_both, spends_both, pays_value, pays_none, pays_by, pays_both, halts_first, goes_same, fault_uncaused, spends_none}, laws.SpentLaws.{sum-nothing}}, specs.{cells.Cell.{IsLonger}, tables.{Cost.{free}, Table.{Table}}, script.{State.{State}, Spent.{spent_for}, Reading.{Files, Reading, Reads, at_once}, Statement.{Answer, with_value, done, refused, then_answer, set_answer, is_chained}}, frame_set.Assigned.{without}, declared.{file_names.FileName.{FileName}, fault.EvalFault.{EvalFault}, work.Work.{Work}}, Evaluates.{Moment, meter_of, moment_of, Evaluates}, Reads.{Costs, Tab, Meter, metered, files_in, Pays, Halts}, Charges.{Charges}, Work.{names_in, tab_of, tables_in, world_of, state_in, SetsFrom}, Bindings.{Bindings, bound, value_at, is_named, state_over, IsOf, KeepNamed, AreGiven, AreNamed}, laws.FormFault.{HasFormFault}}},
   std.{specs.Prelude.{OnErr, OnOk, is_ok}, proofs.lemmas.Result.{on_err_weaker}},
-  frame_store.{specs.{Shown.{Changes, table_in}, declared.{object.ObjId.{ObjId}, arguments.{Value.{Value, TheVariants.{Object, Scalar}}, Argument.{Argument, TheVariants.{Nothing}}}, fault.OpFault.{OpFault}}, World.{World, IsSettledWorld, objects_of, entry_in, Keeps, SetsFor}}, proofs.Settling.{seen_later, longer_twice}},
+  frame_store.{specs.{Objects.{Tables, KeepBlocks, LieStill}, Shown.{Changes, table_in}, declared.{object.ObjId.{ObjId}, arguments.{Value.{Value, TheVariants.{Object, Scalar}}, Argument.{Argument, TheVariants.{Nothing}}}, fault.OpFault.{OpFault}}, World.{World, IsSettledWorld, objects_of, entry_in, changed_value, Keeps, SetsFor}}, proofs.Settling.{seen_later, longer_twice}},
   frame_store.specs.declared.fault.OpFault.TheVariants.{Refused as OpRefused, NoMemory as OpNoMemory},
   script_session.specs.{declared.fault.{Outcome.{Outcome}, StepFault.{StepFault, TheVariants.{Refused, Input, NoMemory}}}, Faults.{IsStepFault, Performs, Answers, step_fault, marked_fault}},
   outside_io.specs.Files.{FilesValue, Serves},
@@ -54,7 +54,7 @@ module _ {paths : List FileName} where
     -- the first fault refuses the statement
     pub fails : {old new : Moment} {f : EvalFault} {r : Result Outcome StepFault} → Evaluates paths known view first old new (Err f) → IsErrAnd r (λ e. e ≡ step_fault f) → Answers paths (λ files s. then_answer (first files s) (go files s)) old new r
     fails {r = Ok o} x is = absurd is
-    fails {old} {new} {f} {r = Err e} x is = record { answers = λ held. rw is (step_halts _ _ _ _ _ f (halts_first _ _ _ _ _ refusal _ f (x.reads held))); serves = x.serves; names = x.names; kept = x.kept; longer = x.kept.texts }
+    fails {old} {new} {f} {r = Err e} x is = record { answers = λ held. rw is (step_halts _ _ _ _ _ f (halts_first _ _ _ _ _ refusal _ f (x.reads held))); serves = x.serves; names = x.names; kept = x.kept; blocks = x.blocks; longer = x.kept.texts }
 
     -- a value goes on
     pub follows : {old mid new : Moment} {v : V} {r : Result Outcome StepFault} → Evaluates paths known view first old mid (Ok v) → Answers paths (λ files s. go files s (view (world_of mid.work) v)) mid new r → Answers paths (λ files s. then_answer (first files s) (go files s)) old new r
@@ -66,18 +66,21 @@ module _ {paths : List FileName} where
           serves = serves_both x.serves y.serves;
           names = on_err_weaker r (λ e. e ∙ x.names) y.names;
           kept = on_err_weaker r (keeps_both _ _ _ x.kept) y.kept;
+          blocks = on_err_weaker r (blocks_both old.work mid.work new.work x.kept x.blocks) y.blocks;
           longer = longer_twice _ _ _ x.kept.texts y.longer;
         }
 
   -- memory was refused
-  pub runs_out : {w u : Work} {s : FilesValue} {meant : Files → State → Reading Answer} {r : Result Outcome StepFault} → IsErrAnd r (λ e. e ≡ NoMemory) → names_in u ≡ names_in w → Keeps (world_of w) (world_of u) → Answers paths meant (moment_of w s) (moment_of u s) r
-  runs_out {r = Ok o} is names kept = absurd is
-  runs_out {s = s} {r = Err e} is names kept = record { answers = λ held. rw is spends_none; serves = serves_self s; names = names; kept = kept; longer = kept.texts }
+  pub runs_out : {w u : Work} {s : FilesValue} {meant : Files → State → Reading Answer} {r : Result Outcome StepFault} → IsErrAnd r (λ e. e ≡ NoMemory) → names_in u ≡ names_in w → world_of u ≡ world_of w → Answers paths meant (moment_of w s) (moment_of u s) r
+  runs_out {r = Ok o} is names same = absurd is
+  runs_out {w = w} {u} {s = s} {r = Err e} is names same =
+      let kept = keeps_same (world_of w) (world_of u) same in
+      record { answers = λ held. rw is spends_none; serves = serves_self s; names = names; kept = kept; blocks = blocks_same w u same; longer = kept.texts }
 
   -- a statement is done
   pub does : (u : Work) {w : Work} {s : FilesValue} (a : State → Answer) {printed : Text} {warned : Bool} {o : Outcome} → a (state_in w) ≡ done (state_in u) printed warned → o.printed ≡ printed → o.warned ≡ warned → IsLonger (world_of w).texts (world_of u).texts → Costs 0 (tab_of w) (tab_of u)
       → Answers paths (λ files t. at_once (a t)) (moment_of w s) (moment_of u s) (Ok o)
-  does u {s = s} a is first second longer costs = record { answers = λ held. pays_none costs (cc (is, first, second)); serves = serves_self s; names = tt; kept = tt; longer = longer }
+  does u {s = s} a is first second longer costs = record { answers = λ held. pays_none costs (cc (is, first, second)); serves = serves_self s; names = tt; kept = tt; blocks = tt; longer = longer }
 
 -- what a setting does, and costs
 abbrev pub set_whole : {A : Type 0} → (A → ℕ) → Result A FaultValue → Answer → Reading Answer
@@ -94,6 +97,11 @@ free_set (Err fault) answer = refl
 
 refused_is : (charge : Table → ℕ) (t : State) (o : Option Text) (meant : Result Table FaultValue) (fault : FaultValue) → meant ≡ Err fault → set_whole charge meant (set_answer t o meant) ≡ at_once (refused fault (is_chained o))
 refused_is charge t o meant fault is = rw is refl
+
+-- a setting that is refused changes the blocks of no object
+still_refused : (on : Value) (f : OpFault) (live live' : Tables) (before after : ℕ → List ℕ) → LieStill (changed_value {A = ⊤} on (Err f)) live live' before after → LieStill None live live' before after
+still_refused (Object id) f live live' before after still = still
+still_refused (Scalar c) f live live' before after still = still
 
 -- a setting, after which an object may end that no name stands for
 module _ (w u : Work) {value : Argument} {r : Result ⊤ OpFault} {on : Value} {charge : Table → ℕ} {meant : Result Table FaultValue} (e : SetsFrom value r on charge meant w u) where
@@ -123,6 +131,7 @@ module _ (w u : Work) {value : Argument} {r : Result ⊤ OpFault} {on : Value} {
         serves = serves_self s;
         names = tt;
         kept = tt;
+        blocks = tt;
         longer = set_longer;
       }
 
@@ -141,11 +150,12 @@ module _ (w u : Work) {value : Argument} {r : Result ⊤ OpFault} {on : Value} {
         serves = serves_self s;
         names = e.names;
         kept = set_failed _ _ (OpRefused code) on charge meant sets;
+        blocks = still_refused on (OpRefused code) (tables_in w) (tables_in u) (world_of w).holding.blocks (world_of u).holding.blocks sets.3.blocks;
         longer = e.sets.1;
       }
   set_refused {s = s} o OpNoMemory same form is marked =
       let sets = rw is at e.sets in
-      record { answers = λ held. rw marked spends_none; serves = serves_self s; names = e.names; kept = set_failed _ _ OpNoMemory on charge meant sets; longer = e.sets.1 }
+      record { answers = λ held. rw marked spends_none; serves = serves_self s; names = e.names; kept = set_failed _ _ OpNoMemory on charge meant sets; blocks = still_refused on OpNoMemory (tables_in w) (tables_in u) (world_of w).holding.blocks (world_of u).holding.blocks sets.3.blocks; longer = e.sets.1 }
 
 -- one after which none ends, and which costs nothing
 alone_charged : (r : Result ⊤ OpFault) (meant : Result Table FaultValue) (old new : ℕ) → new ≡ old → Charges r (spent_for (λ (t : Table). 0) meant).charge old new
@@ -197,3 +207,9 @@ module _ (r : Result Outcome StepFault) where
   pub live_refused : (bs bs1 bs2 : Bindings) (old w1 w2 : World) → OnErr r (bs1 ≡ bs) → OnErr r (Keeps old w1) → bs2 ≡ bs1 → w2.texts ≡ w1.texts → KeepNamed bs2 w1.tables w2.tables → AreNamed bs2 w2.tables → AreNamed bs old.tables
       → ((id : ℕ) → is_named bs id ≡ true → IsSome (old.tables id)) → OnErr r (objects_of w2 ≡ objects_of old)
   live_refused = grind (arith, some_shown)
+
+-- and each live object lies on the blocks on which it lay, also after a sweep
+pub lie_refused : (r : Result Outcome StepFault) (s w set u : Work) (left : ℕ) → OnErr r (Keeps (world_of s) (world_of w)) → OnErr r (KeepBlocks None s.store w.store) → set ≡ record w { charge = left } → KeepBlocks None set.store u.store
+    → OnErr r (KeepBlocks None s.store u.store)
+lie_refused (Ok o) s w set u left kept lie same swept = tt
+lie_refused (Err f) s w set u left kept lie same swept = blocks_both s w u kept lie (subst (λ (x : Work). KeepBlocks None x.store u.store) same swept)

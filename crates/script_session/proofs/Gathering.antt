@@ -1,9 +1,9 @@
 -- Lists whose parts are evaluated one after the other.
 use Rattle.{
-  script_state.{proofs.{cells.Common.{arith, ◌≡◌, ℕ, zero, suc, ◌+◌, ◌≤◌, List, [], ◌∷◌, Some, drop, length, slice_get, ◌∙◌, refl, sym, ap, Result, Ok, Err, IsErrAnd, Contents, FaultValue}, Rides.{serves_self, serves_both, pays_same, pays_by, pays_to, ahead, joined, loop_next, loop_fault, loop_end}, States.{state_kept}, Worlds.{keeps_both, keeps_same}, laws.SpentLaws.{sum-nothing}}, specs.{script.{Spent.{Spent}, Reading.{Files, Reads, gives}, State.{State}}, Evaluates.{Moment, meter_of, Evaluates}, Reads.{Pays, files_in}, Work.{names_in, world_of, state_in}, declared.{file_names.FileName.{FileName}, fault.EvalFault.{EvalFault}, work.Work.{Work}}}},
+  script_state.{proofs.{cells.Common.{arith, ◌≡◌, ℕ, zero, suc, ◌+◌, ◌≤◌, List, [], ◌∷◌, Some, drop, length, slice_get, None, ◌∙◌, refl, sym, ap, Result, Ok, Err, IsErrAnd, Contents, FaultValue}, Rides.{serves_self, serves_both, pays_same, pays_by, pays_to, ahead, joined, loop_next, loop_fault, loop_end}, States.{state_kept}, Worlds.{keeps_both, keeps_same, blocks_self, blocks_both}, laws.SpentLaws.{sum-nothing}}, specs.{script.{Spent.{Spent}, Reading.{Files, Reads, gives}, State.{State}}, Evaluates.{Moment, meter_of, Evaluates}, Reads.{Pays, files_in}, Work.{names_in, world_of, state_in}, declared.{file_names.FileName.{FileName}, fault.EvalFault.{EvalFault}, work.Work.{Work}}}},
   std.proofs.Common.{drop_of_length-le},
   outside_io.specs.Files.{Serves},
-  frame_store.specs.World.{World, Keeps},
+  frame_store.specs.{World.{World, Keeps}, Objects.{KeepBlocks}},
 }
 
 -- how the parts of a list are read, one after the other
@@ -15,6 +15,7 @@ pub record ReadsParts {X G L : Type 0} (read : Files → State → List X → Re
 pub record Gathers {X L : Type 0} (paths : List FileName) (join : L → L → L) (read : Files → State → List X → Reads L) (xs : List X) (i : ℕ) (so_far : L) (old new : Moment) : Type 0 where
   pub names : names_in new.work ≡ names_in old.work
   pub kept : Keeps (world_of old.work) (world_of new.work)
+  pub blocks : KeepBlocks None old.work.store new.work.store
   pub serves : Serves old.files new.files
   pub seen : (held : Contents) → Pays held (meter_of old) (meter_of new) (read (files_in paths held) (state_in old.work) xs) (joined join so_far (read (files_in paths held) (state_in old.work) (drop i xs)))
 
@@ -36,6 +37,7 @@ gathers_first {join = join} {so_far} {read} {paths} {xs} {at} law =
     record {
       names = refl;
       kept = keeps_same _ _ refl;
+      blocks = blocks_self at.work.store;
       serves = serves_self _;
       seen = λ held. let whole = read (files_in paths held) (state_in at.work) xs in pays_same refl (sym (joined_at join so_far law whole.spent whole.answer));
     }
@@ -46,7 +48,7 @@ module _ {X G L : Type 0} {read : Files → State → List X → Reads L} {part 
       → Evaluates paths known view (λ files s. read files s xs) old new (Ok v)
   gathered {view = view} {old} {new} {v} inv within law is =
       let rest_is : (files : Files) → read files (state_in old.work) (drop i xs) ≡ gives end = λ files. ap (read files (state_in old.work)) (drop_of_length-le xs within) ∙ reads.none files (state_in old.work) in
-      record { names = inv.names; kept = inv.kept; serves = inv.serves; reads = λ held. loop_end join join (read (files_in paths held) (state_in old.work) (drop i xs)) end (view (world_of new.work) v) (inv.seen held) (rest_is (files_in paths held)) law; found = is }
+      record { names = inv.names; kept = inv.kept; blocks = inv.blocks; serves = inv.serves; reads = λ held. loop_end join join (read (files_in paths held) (state_in old.work) (drop i xs)) end (view (world_of new.work) v) (inv.seen held) (rest_is (files_in paths held)) law; found = is }
 
   module _ {so_far : L} {old mid : Moment} (inv : Gathers paths join read xs i so_far old mid) {x : X} (at : slice_get xs i ≡ Some x) where
     before : (files : Files) → part files (state_in old.work) x ≡ part files (state_in mid.work) x
@@ -65,6 +67,7 @@ module _ {X G L : Type 0} {read : Files → State → List X → Reads L} {part 
           record {
             names = y.names ∙ inv.names;
             kept = search keeps_both;
+            blocks = blocks_both old.work mid.work new.work inv.kept inv.blocks y.blocks;
             serves = serves_both inv.serves y.serves;
             seen = λ held. loop_next (cons x) join inv.serves _ _ _ (seen_as held) (view (world_of new.work) v) _ (pays_by (before _) (y.reads held)) law;
           }
@@ -77,6 +80,7 @@ module _ {X G L : Type 0} {read : Files → State → List X → Reads L} {part 
           record {
             names = y.names ∙ inv.names;
             kept = search keeps_both;
+            blocks = blocks_both old.work mid.work new.work inv.kept inv.blocks y.blocks;
             serves = serves_both inv.serves y.serves;
             reads = λ held. rw same (loop_fault _ _ _ (cons x) join inv.serves _ _ so_far (seen_as held).goes f (rw (before (files_in paths held)) (y.reads held)));
             found = tt;

@@ -1,5 +1,5 @@
 -- What a refusal says of what a statement means.
-use Rattle.std.specs.Prelude.{◌≡◌, Bool, false, List, OnErr, Result, Ok, Err}
+use Rattle.std.specs.Prelude.{◌≡◌, Bool, false, List, None, OnErr, Result, Ok, Err}
 use Rattle.script_state.specs.cells.Cell.{IsLonger}
 use Rattle.script_state.specs.cells.Text.{Text, Contents}
 use Rattle.script_state.specs.cells.FaultOf.{fault_of}
@@ -8,6 +8,7 @@ use Rattle.script_state.specs.language.Tree as tree
 use Rattle.frame_store.specs.declared.fault.OpFault.{OpFault}
 use Rattle.frame_store.specs.declared.fault.OpFault.TheVariants.{Refused as OpRefused, NoMemory as OpNoMemory}
 use Rattle.frame_store.specs.World.{Keeps}
+use Rattle.frame_store.specs.Objects.{KeepBlocks}
 use Rattle.outside_io.specs.Files.{FilesValue, Serves}
 use Rattle.script_state.specs.script.Reading.{Files, Reading, at_once}
 use Rattle.script_state.specs.script.State.{State}
@@ -44,12 +45,13 @@ abbrev pub Performs : State → List Text → Files → Meter → Meter → Read
 Performs s texts files old new answer (Ok o) = Pays files.held old new answer (at_once (done s o.printed o.warned))
 Performs s texts files old new answer (Err fault) = IsStepFault texts files old.files new.files answer fault
 
--- What a statement does, with the files that it reads. Where it is refused the names stay, and what was live. Texts keep their numbers in any case.
+-- What a statement does, with the files that it reads. Where it is refused the names stay, and what was live, on the blocks on which it lay. Texts keep their numbers in any case.
 pub record Answers (paths : List FileName) (meant : Files → State → Reading Answer) (old new : Moment) (result : Result Outcome StepFault) : Type 0 where
   pub answers : (held : Contents) → Performs (state_in new.work) (world_of new.work).texts (files_in paths held) (meter_of old) (meter_of new) (meant (files_in paths held) (state_in old.work)) result
   pub serves : Serves old.files new.files
   pub names : OnErr result (names_in new.work ≡ names_in old.work)
   pub kept : OnErr result (Keeps (world_of old.work) (world_of new.work))
+  pub blocks : OnErr result (KeepBlocks None old.work.store new.work.store)
   pub longer : IsLonger (world_of old.work).texts (world_of new.work).texts
 
 abbrev pub Executes : List FileName → tree.Action → Moment → Moment → Result Outcome StepFault → Type 0

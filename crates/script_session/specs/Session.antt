@@ -1,7 +1,7 @@
 -- What a session stands for.
-use Rattle.std.specs.Prelude.{◌≡◌, ◌↔◌, ◌≤◌, ℕ, List, Some, IsSome}
+use Rattle.std.specs.Prelude.{◌≡◌, ◌↔◌, ◌≤◌, ℕ, List, Some, None, IsSome}
 use Rattle.script_state.specs.cells.Text.{Text}
-use Rattle.frame_store.specs.Objects.{held_of}
+use Rattle.frame_store.specs.Objects.{held_of, KeepBlocks}
 use Rattle.frame_store.specs.Shown.{Shown}
 use Rattle.frame_store.specs.declared.arguments.Value.TheVariants.{Object}
 use Rattle.frame_store.specs.declared.object.ObjId.{ObjId}
@@ -24,6 +24,10 @@ live_of s = objects_of (world_of s.work)
 -- the texts by number
 abbrev pub texts_of : Session → List Text
 texts_of s = s.work.dict
+
+-- each object that was live and still is lies on the blocks on which it lay
+abbrev pub LieStill : Session → Session → Type 0
+LieStill old new = KeepBlocks None old.work.store new.work.store
 
 -- the charge of the statements that were done, how many cells the live objects hold, and the most that they held after a statement
 abbrev pub charge_of : Session → ℕ

@@ -31,7 +31,7 @@ pub struct Session {
 
 impl Session {
     ghost use Rattle.std.specs.Prelude.{ℕ};
-    ghost use Rattle.script_session.specs.Session.{charge_of, held_in, live_of, meter_in, peak_of, state_of, texts_of, IsWithinCharge, LiveAreNamed};
+    ghost use Rattle.script_session.specs.Session.{charge_of, held_in, live_of, meter_in, peak_of, state_of, texts_of, IsWithinCharge, LieStill, LiveAreNamed};
     ghost use Rattle.outside_io.specs.Files.{Serves};
     ghost use Rattle.script_state.specs.Reads.{files_in};
     ghost use Rattle.script_session.specs.Faults.{Performs};
@@ -60,7 +60,7 @@ impl Session {
     ///
     /// The refusals are the first fault of the statement, with the mark of such a setting; [`StepFault::Input`], only
     /// where a call of `files` failed; and want of memory. After each of them names, tables and the charge are as they
-    /// were. A file isn't there (`NoFile`) only where its name isn't among `names`, or a fetch of this call found none. A
+    /// were, and each object lies on the blocks on which it lay. A file isn't there (`NoFile`) only where its name isn't among `names`, or a fetch of this call found none. A
     /// statement that is done adds its charge to that of the session, and raises what is held by its charge at most; so
     /// where none was refused, the peak is at most the charge. It is at least the rows of each table with a column that a
     /// name stands for.
@@ -83,6 +83,7 @@ impl Session {
         ensures serves { Serves (F.seen files.old) (F.seen files.new) }
         ensures same { OnErr result (state_of self.new ≡ state_of self.old) }
         ensures objects { OnErr result (live_of self.new ≡ live_of self.old) }
+        ensures blocks { OnErr result (LieStill self.old self.new) }
         ensures charge { OnErr result (charge_of self.new ≡ charge_of self.old) }
         ensures peak { peak_of self.new ≡ max (peak_of self.old) (held_in self.new) }
         ensures rows { most_rows (state_of self.new) ≤ held_in self.new }

@@ -85,6 +85,9 @@ noted_ended = grind (arith, nat_eq, contains_but_last)
 pub kept_ended : (bs : Bindings) (o : ObjId) (first old new : Tables) → KeepNamed bs first old → is_named bs o.0 ≡ false → new ≡ with_object old o.0 None → KeepNamed bs first new
 kept_ended = grind (arith, nat_eq, nat_same)
 
+pub ended_was : (id : ℕ) (old new : Tables) → new ≡ with_object old id None → (k : ℕ) → IsSome (new k) → IsSome (old k)
+ended_was = grind (arith, nat_eq)
+
 pub named_when_none_noted : (bs : Bindings) (tables : Tables) → AreNoted bs [] tables → AreNamed bs tables
 named_when_none_noted = grind arith
 

@@ -1,8 +1,8 @@
 -- Evaluations one after the other.
 use Rattle.{
   meaning_laws.{proofs.cells.Common.{rules, arith, ◌≡◌, ℕ, Bool, List, Some, None, refl, sym, ap, ◌∙◌, Result, Ok, Err, IfOk, IfErr, OnOk, IsErrAnd, Text, Contents, FaultValue}, specs.{tables.{Cost.{cost_of}, Value.{Entry, Given}}, script.{Reading.{Files, Reads, at_once, gives, costing, then_read}, State.{State}, Expression.{value_of_name, where_named}}, FormFault.{HasFormFault}}},
-  frame_store.specs.{declared.{arguments.{Value.{Value}, Argument.{Argument}}, fault.OpFault.{OpFault}}, Objects.{Tables}, World.{World, Keeps, IsKnown, IsKnownValue, IsKnownArgument, argument_in, entry_in}},
-  script_state.{specs.{Reads.{both_of, files_in, metered, Costs, Pays, Reaches}, Bindings.{value_at, IsOf}, Evaluates.{Moment, meter_of, moment_of, IsValue, Evaluates}, Faults.{IsNoAttribute, IsNoName, evaluated}, Work.{names_in, tab_of, world_of, state_in, FormsIn}, declared.{file_names.FileName.{FileName}, fault.EvalFault.{EvalFault, TheVariants.{NoMemory}}, work.Work.{Work}}}, proofs.{States.{form_unnamed, state_kept}, Rides.{serves_self, serves_both, both_then, then_after, then_gives, goes_spends, pays_same, pays_value, pays_both, halts_first, reaches_by, reaches_both, form_reads, evaluated_if, unknown_fault, unnamed_fault, made_reads}, Worlds.{OfObjects, of_argument, seen_kept, known_kept, keeps_both, keeps_same, form_keeps, form_known}}},
+  frame_store.specs.{declared.{arguments.{Value.{Value}, Argument.{Argument}}, fault.OpFault.{OpFault}}, Objects.{Tables, KeepBlocks}, World.{World, Keeps, IsKnown, IsKnownValue, IsKnownArgument, argument_in, entry_in}},
+  script_state.{specs.{Reads.{both_of, files_in, metered, Costs, Pays, Reaches}, Bindings.{value_at, IsOf}, Evaluates.{Moment, meter_of, moment_of, IsValue, Evaluates}, Faults.{IsNoAttribute, IsNoName, evaluated}, Work.{names_in, tab_of, world_of, state_in, FormsIn}, declared.{file_names.FileName.{FileName}, fault.EvalFault.{EvalFault, TheVariants.{NoMemory}}, work.Work.{Work}}}, proofs.{States.{form_unnamed, state_kept}, Rides.{serves_self, serves_both, both_then, then_after, then_gives, goes_spends, pays_same, pays_value, pays_both, halts_first, reaches_by, reaches_both, form_reads, evaluated_if, unknown_fault, unnamed_fault, made_reads}, Worlds.{OfObjects, of_argument, seen_kept, known_kept, keeps_both, keeps_same, blocks_self, blocks_both, form_keeps, form_known}}},
   outside_io.specs.Files.{FilesValue, Serves},
 }
 
@@ -30,7 +30,7 @@ module _ {paths : List FileName} where
     -- the same meaning in other words
     pub evaluates_by : {meant other : Files → State → Reads A} {old new : Moment} {r : Result V EvalFault} → Evaluates paths known view other old new r
         → ((files : Files) → meant files (state_in old.work) ≡ other files (state_in old.work)) → Evaluates paths known view meant old new r
-    evaluates_by {r = r} x is = record { names = x.names; kept = x.kept; serves = x.serves; reads = λ held. reaches_by _ _ _ _ _ r (is (files_in paths held)) (x.reads held); found = x.found }
+    evaluates_by {r = r} x is = record { names = x.names; kept = x.kept; blocks = x.blocks; serves = x.serves; reads = λ held. reaches_by _ _ _ _ _ r (is (files_in paths held)) (x.reads held); found = x.found }
 
     -- two parts that are read together
     pub apart : {B C : Type 0} (first : Files → State → Reads B) (second : Files → State → Reads C) (go : Files → State → B → C → Reads A) {old new : Moment} {r : Result V EvalFault}
@@ -44,11 +44,11 @@ module _ {paths : List FileName} where
 
     -- memory was refused behind a value
     pub spent : {meant : Files → State → Reads A} {old new : Moment} {v : V} → Evaluates paths known view meant old new (Ok v) → Evaluates paths known view meant old new (Err NoMemory)
-    spent x = record { names = x.names; kept = x.kept; serves = x.serves; reads = λ held. goes_spends (x.reads held).goes; found = tt }
+    spent x = record { names = x.names; kept = x.kept; blocks = x.blocks; serves = x.serves; reads = λ held. goes_spends (x.reads held).goes; found = tt }
 
     -- a value that is there
     pub stays : {at : Moment} (v : V) → known at.work v → Evaluates paths known view (λ files s. gives (view (world_of at.work) v)) at at (Ok v)
-    stays v is = record { names = refl; kept = keeps_same _ _ refl; serves = serves_self _; reads = λ held. pays_same refl refl; found = is }
+    stays {at} v is = record { names = refl; kept = keeps_same _ _ refl; blocks = blocks_self at.work.store; serves = serves_self _; reads = λ held. pays_same refl refl; found = is }
 
     module _ {meant : Files → State → Reads A} {old new : Moment} {r : Result V EvalFault} (x : Evaluates paths known view meant old new r) {X Y : Type 0} {alive : Tables → X → Type 0} {sight : Tables → List Text → X → Y} (of : OfObjects alive sight) {a : X}
         (here : IsKnown alive sight (world_of old.work) a) where
@@ -63,7 +63,7 @@ module _ {paths : List FileName} where
     -- the fault of the first is that of the whole
     pub stops : (go : Files → State → A → Reads A') {old new : Moment} {f : EvalFault} {r : Result V' EvalFault} → Evaluates paths known view first old new (Err f) → IsErrAnd r (λ e. e ≡ f) → Evaluates paths known' view' (λ files s. then_read (first files s) (go files s)) old new r
     stops _ {r = Ok v} x is = absurd is
-    stops _ {f = f} {r = Err e} x is = record { names = x.names; kept = x.kept; serves = x.serves; reads = λ held. rw is (halts_first _ _ _ _ _ Err _ f (x.reads held)); found = tt }
+    stops _ {f = f} {r = Err e} x is = record { names = x.names; kept = x.kept; blocks = x.blocks; serves = x.serves; reads = λ held. rw is (halts_first _ _ _ _ _ Err _ f (x.reads held)); found = tt }
 
     -- the value goes on
     pub goes_on : (go : Files → State → A → Reads A') {old mid new : Moment} {r : Result V' EvalFault} {v : V} → Evaluates paths known view first old mid (Ok v)
@@ -72,6 +72,7 @@ module _ {paths : List FileName} where
         record {
           names = y.names ∙ x.names;
           kept = search keeps_both;
+          blocks = blocks_both old.work mid.work new.work x.kept x.blocks y.blocks;
           serves = serves_both x.serves y.serves;
           reads = λ held. reaches_both _ _ _ (meter_of new) r x.serves
               (pays_value Err _ _ _ (x.reads held) (ap (λ s. go (files_in paths held) s (view (world_of mid.work) v)) (sym (state_kept old.work mid.work x.names x.kept))))
@@ -84,15 +85,16 @@ module _ {paths : List FileName} where
         → Evaluates paths known view first old new (Ok v) → known' new.work v' → view' (world_of new.work) v' ≡ f (view (world_of new.work) v)
         → Evaluates paths known' view' (λ files s. then_read (first files s) (λ a. gives (f a))) old new (Ok v')
     makes {old} {new} f {v} {v'} x is made =
-        record { names = x.names; kept = x.kept; serves = x.serves; reads = λ held. pays_value Err _ (view (world_of new.work) v) _ (x.reads held) (ap gives (sym made)); found = is }
+        record { names = x.names; kept = x.kept; blocks = x.blocks; serves = x.serves; reads = λ held. pays_value Err _ (view (world_of new.work) v) _ (x.reads held) (ap gives (sym made)); found = is }
 
   -- texts are added to behind an argument
-  pub adds : {meant : Files → State → Reads Given} {old : Moment} (w u : Work) {s : FilesValue} {a : Argument} → Evaluates paths (λ w a. IsKnownArgument (world_of w) a) argument_in meant old (moment_of w s) (Ok a) → names_in u ≡ names_in w → Keeps (world_of w) (world_of u) → tab_of u ≡ tab_of w
+  pub adds : {meant : Files → State → Reads Given} {old : Moment} (w u : Work) {s : FilesValue} {a : Argument} → Evaluates paths (λ w a. IsKnownArgument (world_of w) a) argument_in meant old (moment_of w s) (Ok a) → names_in u ≡ names_in w → Keeps (world_of w) (world_of u) → KeepBlocks None w.store u.store → tab_of u ≡ tab_of w
       → Evaluates paths (λ w a. IsKnownArgument (world_of w) a) argument_in meant old (moment_of u s) (Ok a)
-  adds w u {s} {a} x names kept same =
+  adds {old = old} w u {s} {a} x names kept blocks same =
       record {
         names = names ∙ x.names;
         kept = search keeps_both;
+        blocks = blocks_both old.work w u x.kept x.blocks blocks;
         serves = x.serves;
         reads = λ held. pays_both x.serves (x.reads held) (pays_same same (ap gives (sym (seen_kept (world_of w) (world_of u) w.settled u.settled kept of_argument x.found))));
         found = known_kept _ _ w.settled u.settled kept of_argument x.found;
@@ -105,6 +107,7 @@ module _ {paths : List FileName} where
       record {
         names = m.names;
         kept = form_keeps charge _ _ _ _ m.answers;
+        blocks = m.answers.3.blocks;
         serves = serves;
         reads = λ held. form_reads (world_of w) (world_of u) (files_in paths held) charge meant form serves (pays held) (tab_of u) r r' is m.answers (form_costs charge r meant w u m);
         found = value_if u r' (evaluated_if _ r r' is (form_known charge r _ _ _ u.settled m.answers))
@@ -119,13 +122,13 @@ module _ {paths : List FileName} where
   -- the name of a method or a function isn't there
   pub knows_none : {known : Work → Value → Type 0} (meant : Files → State → Reads Entry) {at : Moment} (f : EvalFault) (there : Bool) (n : Text) {r : Result Value EvalFault} → IsNoAttribute f n there → IsErrAnd r (λ e. e ≡ f) → Evaluates paths known entry_in (λ files s. where_named there n (meant files s)) at at r
   knows_none meant f there n {r = Ok v} none is = absurd is
-  knows_none meant {at} f there n {r = Err e} none is = search (rules, keeps_same, serves_self, unknown_fault)
+  knows_none meant {at} f there n {r = Err e} none is = search (rules, keeps_same, blocks_self, serves_self, unknown_fault)
 
   -- the value of a name, and one that is written out
   pub names_value : (w : Work) {s : FilesValue} (n : Text) (r : Result Value EvalFault) → IfOk r (IsValue (Some n) w) → IfErr r (λ f. IsNoName f n (value_at (names_in w) n))
       → Evaluates paths (IsValue (Some n)) entry_in (λ files t. at_once (value_of_name n (t.value n))) (moment_of w s) (moment_of w s) r
-  names_value w {s} = search (rules, keeps_same, serves_self, name_reads)
+  names_value w {s} = search (rules, keeps_same, blocks_self, serves_self, name_reads)
 
-  pub writes_out : (w u : Work) {s : FilesValue} (e : Entry) (r : Result Value EvalFault) → names_in u ≡ names_in w → Keeps (world_of w) (world_of u) → tab_of u ≡ tab_of w → IfOk r (λ v. entry_in (world_of u) v ≡ e) → IfOk r (IsValue None u) → IfErr r (λ f. f ≡ NoMemory)
+  pub writes_out : (w u : Work) {s : FilesValue} (e : Entry) (r : Result Value EvalFault) → names_in u ≡ names_in w → Keeps (world_of w) (world_of u) → KeepBlocks None w.store u.store → tab_of u ≡ tab_of w → IfOk r (λ v. entry_in (world_of u) v ≡ e) → IfOk r (IsValue None u) → IfErr r (λ f. f ≡ NoMemory)
       → Evaluates paths (IsValue None) entry_in (λ files t. gives e) (moment_of w s) (moment_of u s) r
-  writes_out w u {s} e r names kept same made found none = record { names = names; kept = kept; serves = serves_self s; reads = λ held. made_reads (files_in paths held) s (tab_of w) (tab_of u) (world_of u) e r same made none; found = found }
+  writes_out w u {s} e r names kept blocks same made found none = record { names = names; kept = kept; blocks = blocks; serves = serves_self s; reads = λ held. made_reads (files_in paths held) s (tab_of w) (tab_of u) (world_of u) e r same made none; found = found }

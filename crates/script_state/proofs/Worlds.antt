@@ -4,7 +4,8 @@ use Rattle.{
   frame_calls.proofs.frame_parts.Common.{arith, ◌≡◌, ℕ, List, [], ◌∷◌, refl, ap, IsSome, rules, ◌↔◌, Bool, true, false, nat_eq, ◌++◌, Option, None, sym, ◌∙◌, subst, if◌then◌else◌, ⊤, Result, Ok, Err, IfOk, IfSome, Label, Text, IsLonger, FaultValue, Tables, table_or, object_value, entry_of, item_of, items_row, items_of, argument_of, entries_of, arguments_of, subscript_of, IsLive, IsLiveItem, AreLiveItems, IsLiveArgument, AreLive as AreLiveArguments, ObjId, Value, Object, Scalar, Argument, One, Many, Item, Row' as RowItem', Row_of-Item, end_of-Item, more_of-Item, Named, Subscript, Key, OpFault, Refused, NoMemory, Shown, shown, with_shown, table_in, FormAnswers, Holding, World, objects_of, entry_in, argument_in, IsSettledWorld, Keeps, IsKnownValue, IsKnownArgument, FormsFor, SetsFor, settled_later, seen_later, longer_self, longer_twice, IsSettled, NumberedTable, Table, table_value, Entry},
   meaning_laws.proofs.cells.Common.{option_map},
   frame_store.specs.{Arguments.{entries_row, IsLiveRow, AreLiveEntries, AreLivePairs, IsLiveSubscript}, declared.arguments.{Argument.{Nothing, Row, Table', Row_of-Entries-pairs-2, end_of-Entries-pairs-2, more_of-Entries-pairs-2}, Item.{One as OneItem}, Subscript.TheVariants.{Span}}, Shown.{seen}, World.{IsKnown}},
-  script_state.{specs.Bindings.{Bindings, is_named, contains, noted, AreLive, AreGiven, AreNoted}, proofs.Bindings.{nat_same, contains_last, contains_more}},
+  frame_store.specs.{Objects.{KeepBlocks}, declared.store.Store.{Store}},
+  script_state.{specs.{Bindings.{Bindings, is_named, contains, noted, AreLive, AreGiven, AreNoted}, Work.{world_of}, declared.work.Work.{Work}}, proofs.Bindings.{nat_same, contains_last, contains_more}},
 }
 use Rattle.meaning_laws.specs.tables.Value as value
 use Rattle.meaning_laws.specs.tables.Value as value
@@ -80,6 +81,18 @@ keeps_both _ _ _ p q =
       objects = grind (arith, live_kept);
       texts = search longer_twice;
     }
+
+-- live objects lie on the blocks on which they lay
+pub blocks_self : (s : Store) → KeepBlocks None s s
+blocks_self s id live there apart = refl
+
+pub blocks_same : (old new : Work) → world_of new ≡ world_of old → KeepBlocks None old.store new.store
+blocks_same old new same id live there apart = ap (λ (w : World). w.holding.blocks id) same
+
+pub blocks_both : (first second third : Work) → Keeps (world_of first) (world_of second) → KeepBlocks None first.store second.store → KeepBlocks None second.store third.store → KeepBlocks None first.store third.store
+blocks_both first second third kept p q id live there apart =
+    let mid = live_kept (world_of first) (world_of second) kept id live in
+    q id mid there apart ∙ p id live mid apart
 
 -- live objects have the same tables, through all texts from the new ones on
 same_at : (texts : List Text) (t t' : Tables) (id : ObjId) → shown texts t' id.0 ≡ shown texts t id.0 → object_value t' texts id ≡ object_value t texts id

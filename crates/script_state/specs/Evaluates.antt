@@ -1,7 +1,8 @@
 -- What an evaluation does, with the files that it reads on the way.
-use Rattle.std.specs.Prelude.{◌≡◌, List, Option, Result, IfOk}
+use Rattle.std.specs.Prelude.{◌≡◌, List, Option, None, Result, IfOk}
 use Rattle.meaning_laws.specs.cells.Text.{Text, Contents}
 use Rattle.frame_store.specs.World.{World, Keeps, IsKnownValue}
+use Rattle.frame_store.specs.Objects.{KeepBlocks}
 use Rattle.frame_store.specs.declared.arguments.Value.{Value}
 use Rattle.outside_io.specs.Files.{FilesValue, Serves}
 use Rattle.meaning_laws.specs.script.Reading.{Files, Reads}
@@ -32,10 +33,11 @@ pub record IsValue (name : Option Text) (w : Work) (v : Value) : Type 0 where
   pub known : IsKnownValue (world_of w) v
   pub object : IsOf (names_in w) name v
 
--- The names stay, and what was live. The answer is what is meant, as it is seen, and it is known; or the evaluation halts.
+-- The names stay, and what was live, on the blocks on which it lay. The answer is what is meant, as it is seen, and it is known; or the evaluation halts.
 pub record Evaluates {V A : Type 0} (paths : List FileName) (known : Work → V → Type 0) (view : World → V → A) (meant : Files → State → Reads A) (old new : Moment) (result : Result V EvalFault) : Type 0 where
   pub names : names_in new.work ≡ names_in old.work
   pub kept : Keeps (world_of old.work) (world_of new.work)
+  pub blocks : KeepBlocks None old.work.store new.work.store
   pub serves : Serves old.files new.files
   pub reads : (held : Contents) → Reaches (view (world_of new.work)) (world_of new.work).texts (files_in paths held) (meter_of old) (meter_of new) (meant (files_in paths held) (state_in old.work)) result
   pub found : IfOk result (known new.work)

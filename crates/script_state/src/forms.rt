@@ -1,5 +1,5 @@
 // Forms on values. What they make is noted.
-ghost use Rattle.std.specs.Prelude.{◌≡◌, ◌<◌, List, Some, IfOk, IfErr, OnOk, IfSome, true, false, is_some, option_map, vec_len, vec_capacity};
+ghost use Rattle.std.specs.Prelude.{◌≡◌, ◌<◌, List, Some, None, IfOk, IfErr, OnOk, IfSome, true, false, is_some, option_map, vec_len, vec_capacity};
 ghost use Rattle.meaning_laws.specs.cells.Text.{Text as OneText};
 ghost use Rattle.meaning_laws.specs.cells.Cell.{label_datum};
 ghost use Rattle.meaning_laws.specs.cells.Operator.{cell_label};
@@ -48,6 +48,7 @@ use script_tree::{Literal, Unary};
 use std::alloc::Global;
 
 impl Work {
+    ghost use Rattle.frame_store.specs.Objects.{KeepBlocks};
     ghost use Rattle.script_state.specs.Evaluates.{IsValue};
     ghost use Rattle.script_state.specs.Work.{names_in, tab_of, tables_in, world_of, IsUnnamedValue, FormsIn, SetsFrom, SetsIn};
 
@@ -71,6 +72,7 @@ impl Work {
     pub fn literal(&mut self, literal: &Literal) -> Result<Value, EvalFault>
         ensures names { names_in self.new ≡ names_in self.old }
         ensures kept { Keeps (world_of self.old) (world_of self.new) }
+        ensures blocks { KeepBlocks None self.old.store self.new.store }
         ensures tab { tab_of self.new ≡ tab_of self.old }
         ensures value { IfOk result (λ v. entry_in (world_of self.new) v
             ≡ cell (cell_of (literal_of literal.now))) }
@@ -85,6 +87,7 @@ impl Work {
     pub fn key(&mut self, literal: &Literal) -> Result<Label, EvalFault>
         ensures names { names_in self.new ≡ names_in self.old }
         ensures kept { Keeps (world_of self.old) (world_of self.new) }
+        ensures blocks { KeepBlocks None self.old.store self.new.store }
         ensures tab { tab_of self.new ≡ tab_of self.old }
         ensures label { IfOk result (λ l. label_datum (world_of self.new).texts l
             ≡ cell_label (cell_of (literal_of literal.now))) }

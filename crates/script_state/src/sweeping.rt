@@ -1,5 +1,6 @@
 // The end of objects without names.
-ghost use Rattle.frame_store.specs.Objects.{tables, with_object, Raises, Turns};
+ghost use Rattle.std.specs.Prelude.{None};
+ghost use Rattle.frame_store.specs.Objects.{tables, with_object, KeepBlocks, Raises, Turns};
 ghost use Rattle.script_state.specs.Bindings.{bindings_of, released, AreNoted, AreNamed, KeepNamed};
 
 use crate::names::Names;
@@ -12,6 +13,7 @@ pub(crate) fn sweep(names: &Names, temps: &mut Vec<ObjId>, store: &mut Store)
     ensures kept { KeepNamed (bindings_of names.now.values.entries)
         (tables store.old) (tables store.new) }
     ensures held { Raises 0 store.old store.new }
+    ensures blocks { KeepBlocks None store.old store.new }
 {
     while let Some(id) = temps.pop() {
         if !names.has(id) {
@@ -37,6 +39,7 @@ pub(crate) fn release(names: &Names, store: &mut Store, left: Option<Value>)
 fn end(store: &mut Store, id: ObjId)
     ensures tables { Turns store.old store.new (λ live. with_object live id.0 None) }
     ensures held { Raises 0 store.old store.new }
+    ensures blocks { KeepBlocks None store.old store.new }
 {
     if store.contains(id) {
         store.drop_object(id);

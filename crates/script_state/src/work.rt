@@ -33,6 +33,7 @@ impl Work {
     ghost use Rattle.std.specs.Prelude.{[], None, OnOk, OnErr, is_some};
     ghost use Rattle.meaning_laws.specs.script.State.{most_rows, without_name};
     ghost use Rattle.frame_store.specs.World.{IsKnownValue};
+    ghost use Rattle.frame_store.specs.Objects.{KeepBlocks};
     ghost use Rattle.script_state.specs.Bindings.{bound, value_at, AreNamed, KeepNamed};
     ghost use Rattle.script_state.specs.Reads.{Costs};
     ghost use Rattle.script_state.specs.Work.{names_in, tab_of, tables_in, world_of, state_in};
@@ -124,6 +125,7 @@ impl Work {
         ensures texts { (world_of self.new).texts ≡ (world_of self.old).texts }
         ensures named { AreNamed (names_in self.new) (tables_in self.new) }
         ensures kept { KeepNamed (names_in self.new) (tables_in self.old) (tables_in self.new) }
+        ensures blocks { KeepBlocks None self.old.store self.new.store }
         ensures tab { Costs 0 (tab_of self.old) (tab_of self.new) }
     {
         sweep(&self.names, &mut self.temps, &mut self.store);

@@ -6,10 +6,11 @@ use Rattle.clap.specs.Faults.{settle_fault, walk_fault}
 use Rattle.clap.specs.Kinds.{Kinds, or_else}
 use Rattle.clap.specs.declared.error.kind.ErrorKind.{ErrorKind}
 use Rattle.clap.specs.declared.error.kind.ErrorKind.TheVariants.{DisplayHelp}
-use Rattle.script_words.specs.CommandLine.{demo_rule, plain_rule, stats_rule}
+use Rattle.meaning_words.specs.Words.{Flag, stats, keep_going}
+use Rattle.script_words.specs.CommandLine.{demo_rule, plain_rule, flag_rule}
 
-abbrev pub stats : Rule
-stats = filled stats_rule
+abbrev pub flag : Flag → Rule
+flag f = filled (flag_rule f)
 
 abbrev pub demo : Rule
 demo = filled demo_rule
@@ -21,7 +22,7 @@ abbrev pub help : Rule
 help = filled help_rule
 
 abbrev pub rules : List Rule
-rules = stats ∷ demo ∷ plain ∷ help ∷ []
+rules = flag stats ∷ flag keep_going ∷ demo ∷ plain ∷ help ∷ []
 
 -- the command line, built
 abbrev pub line : Shape

@@ -12,9 +12,9 @@ use Rattle.clap.specs.declared.error.kind.ErrorKind.TheVariants.{DisplayHelp, Ou
 use Rattle.clap.specs.declared.parser.matches.ArgMatches.{ArgMatches}
 use Rattle.clap.specs.declared.parser.matches.Found.{Found}
 use Rattle.clap.proofs.WalkLemmas.{first_value-rows, one_text-rows, raw_values-rows}
-use Rattle.meaning_words.specs.Words.{Words, WordsRead, words_read}
+use Rattle.meaning_words.specs.Words.{Flag, Flags, Words, WordsRead, has_flag, keep_going, stats, words_read}
 use Rattle.meaning_words.specs.Words as meaning
-use Rattle.script_words.specs.CommandLine.{command_line, demo_id, plain_id, plain_of, stats_id}
+use Rattle.script_words.specs.CommandLine.{command_line, demo_id, flag_name, plain_id, plain_of}
 use Rattle.script_words.proofs.Rows.{HoldsAll, flag_text}
 use Rattle.script_words.proofs.WalkRule.{AreTexts, TellsAll, tells}
 
@@ -34,27 +34,35 @@ are_texts (word ∷ more) = (IsUtf8-had _ word.ok, are_texts more)
 abbrev pub IsFlag : Option Text → Bool → Type 0
 IsFlag found b = (found ≡ Some (codes "true") → b ≡ true) × (found ≡ Some (codes "false") → b ≡ false)
 
-flag_is : (rows : List Row) (words : Words) (b : Bool) → HoldsAll rows words → IsFlag (one_of stats_id rows) b → b ≡ words.stats
-flag_is rows words b h is = go words.stats h.stats
+flag_is : (f : Flag) (rows : List Row) (words : Words) (b : Bool) → HoldsAll rows words → IsFlag (one_of (flag_name f) rows) b → b ≡ has_flag f words.flags
+flag_is f rows words b h is = go (has_flag f words.flags) (h.flags f)
   where
-    go : (c : Bool) → one_of stats_id rows ≡ Some (flag_text c) → b ≡ c
+    go : (c : Bool) → one_of (flag_name f) rows ≡ Some (flag_text c) → b ≡ c
     go true found = is.0 found
     go false found = is.1 found
 
-held_words : (rows : List Row) (words : Words) (b : Bool) → HoldsAll rows words → IsFlag (one_of stats_id rows) b → words ≡ record { stats = b; demo = first_of demo_id rows; plain = plain_of rows }
-held_words rows words b h is i = record { stats = sym (flag_is rows words b h is) i; demo = sym h.demo i; plain = sym h.plain i }
+-- both flags are read so
+abbrev pub AreFlags : List Row → Flags → Type 0
+AreFlags rows flags = (f : Flag) → IsFlag (one_of (flag_name f) rows) (has_flag f flags)
 
-read_of : (kinds : Kinds) (rows : List Row) (b : Bool) (what : WordsRead) → TellsAll kinds rows what → IsFlag (one_of stats_id rows) b → kinds ≡ []
-    → meaning.read (record { stats = b; demo = first_of demo_id rows; plain = plain_of rows }) ≡ what
-read_of kinds rows b meaning.help t is none = absurd (some_kind (sym t ∙ none))
+held_words : (rows : List Row) (words : Words) (flags : Flags) → HoldsAll rows words → AreFlags rows flags → words ≡ record { flags = flags; demo = first_of demo_id rows; plain = plain_of rows }
+held_words rows words flags h are i = record {
+  flags = record { stats = sym (flag_is stats rows words flags.stats h (are stats)) i; keep_going = sym (flag_is keep_going rows words flags.keep_going h (are keep_going)) i };
+  demo = sym h.demo i;
+  plain = sym h.plain i;
+}
+
+read_of : (kinds : Kinds) (rows : List Row) (flags : Flags) (what : WordsRead) → TellsAll kinds rows what → AreFlags rows flags → kinds ≡ []
+    → meaning.read (record { flags = flags; demo = first_of demo_id rows; plain = plain_of rows }) ≡ what
+read_of kinds rows flags meaning.help t are none = absurd (some_kind (sym t ∙ none))
   where
     some_kind : {k : ErrorKind} → k ∷ [] ≡ [] → ⊥
     some_kind e = cc
-read_of kinds rows b meaning.fault t is none = absurd (some_kind (sym t.1 ∙ none))
+read_of kinds rows flags meaning.fault t are none = absurd (some_kind (sym t.1 ∙ none))
   where
     some_kind : {k : ErrorKind} → k ∷ [] ≡ [] → ⊥
     some_kind e = cc
-read_of kinds rows b (meaning.read words) t is none = ap meaning.read (sym (held_words rows words b t.1 is))
+read_of kinds rows flags (meaning.read words) t are none = ap meaning.read (sym (held_words rows words flags t.1 are))
 
 -- the kind of an error among those of a telling
 kind_in : (kinds : Kinds) (k k' : ErrorKind) → kinds ≡ k' ∷ [] → IsAmong k kinds → k ≡ k'
@@ -72,18 +80,18 @@ fault_in kinds rows (meaning.read words) k t among other = absurd (subst (IsAmon
 
 -- ---- the two outcomes of a parse
 
-pub parsed : (app : App) (words : List Text) (m : ArgMatches) (b : Bool) → app ≡ command_line → AreTexts words → HasMatchesOf app words m
-    → (is_simple_and_free app ≡ true → fault_of app words ≡ []) → IsFlag (one_text (found_of m) stats_id) b
-    → meaning.read (record { stats = b; demo = first_value (found_of m) demo_id; plain = plain_of (rows_of (found_of m)) }) ≡ words_read words
-parsed app words m b is texts matches kinds flag =
+pub parsed : (app : App) (words : List Text) (m : ArgMatches) (flags : Flags) → app ≡ command_line → AreTexts words → HasMatchesOf app words m
+    → (is_simple_and_free app ≡ true → fault_of app words ≡ []) → ((f : Flag) → IsFlag (one_text (found_of m) (flag_name f)) (has_flag f flags))
+    → meaning.read (record { flags = flags; demo = first_value (found_of m) demo_id; plain = plain_of (rows_of (found_of m)) }) ≡ words_read words
+parsed app words m flags is texts matches kinds are =
     let rows : rows_of (found_of m) ≡ matches_of command_line words =
     (matches (ap is_simple is ∙ simple)).0 ∙ ap (λ (a : App). matches_of a words) is in
     let none : fault_of command_line words ≡ [] =
     ap (λ (a : App). fault_of a words) (sym is) ∙ kinds (ap is_simple_and_free is ∙ free) in
-    ap₂ (λ (d : Option Text) (p : List Text). meaning.read (record { stats = b; demo = d; plain = p }))
+    ap₂ (λ (d : Option Text) (p : List Text). meaning.read (record { flags = flags; demo = d; plain = p }))
     (first_value-rows (found_of m) demo_id ∙ ap (first_of demo_id) rows) (ap plain_of rows)
-    ∙ read_of (fault_of command_line words) (matches_of command_line words) b (words_read words) (tells words texts)
-    (subst (λ o. IsFlag o b) (one_text-rows (found_of m) stats_id ∙ ap (one_of stats_id) rows) flag) none
+    ∙ read_of (fault_of command_line words) (matches_of command_line words) flags (words_read words) (tells words texts)
+    (λ f. subst (λ o. IsFlag o (has_flag f flags)) (one_text-rows (found_of m) (flag_name f) ∙ ap (one_of (flag_name f)) rows) (are f)) none
 
 refused_by : (app : App) (words : List Text) (e : Error) → app ≡ command_line → (is_simple_and_free app ≡ true → HasKind (fault_of app words) e)
     → HasKind (fault_of command_line words) e

@@ -10,9 +10,10 @@ use Rattle.clap.specs.Faults.{bundle_fault, bundle_step_fault, flags_fault, long
 use Rattle.clap.specs.Lexer.{has_byte, long_of, short_of}
 use Rattle.clap.specs.Walk.{Held, Row, Text}
 use Rattle.clap.specs.declared.error.kind.ErrorKind.TheVariants as kind
-use Rattle.meaning_words.specs.Words.{WordSort, begins, is_option, sort_of}
+use Rattle.meaning_words.specs.Words.{WordSort, begins, is_option, keep_going, sort_of, stats}
 use Rattle.meaning_words.specs.Words as meaning
-use Rattle.script_words.proofs.Line.{IsWrong, Pending, demo, held, help, line, rules, stats}
+use Rattle.script_words.specs.CommandLine.{flag_name}
+use Rattle.script_words.proofs.Line.{IsWrong, Pending, demo, flag, held, help, line, rules}
 
 -- `clap` refuses the word
 abbrev pub IsRefused : Text → Type 0
@@ -27,7 +28,7 @@ pub record IsPlain (word : Text) : Type 0 where
 
 abbrev pub IsSpelled : WordSort → Text → Type 0
 IsSpelled meaning.asking word = (word ≡ codes "--help") ⊎ ((more : Text) × (word ≡ 45 ∷ 104 ∷ more))
-IsSpelled meaning.stats word = word ≡ codes "--stats"
+IsSpelled (meaning.flag f) word = word ≡ codes "--" ++ flag_name f
 IsSpelled meaning.demo word = word ≡ codes "--demo"
 IsSpelled (meaning.demo_with value) word = word ≡ codes "--demo=" ++ value
 IsSpelled meaning.dashes word = word ≡ codes "--"
@@ -103,23 +104,27 @@ named text name is = elim (cases_Bool (has_byte 61 text)) [
   | inr none ↦ inl (rw none at (parts text) ∙ append-nil _ ∙ is)
 ]
 
-long_refused : (has is_stats is_demo is_help : Bool) (value : Text) (h : Held) → (is_stats ≡ true → has ≡ true) → is_demo ≡ false → (is_help ≡ true → has ≡ true)
-    → IsWrong (long_fault rules false (cond (is_stats || false) (Some stats) (cond (is_demo || false) (Some demo) (cond (is_help || false) (Some help) None))) (cond has (Some value) None) h)
-long_refused true true is_demo is_help value h flagged other only = (kind.TooManyValues, refl, λ e. cc)
-long_refused false true is_demo is_help value h flagged other only = absurd (true≢false (sym (flagged refl)))
-long_refused has false true is_help value h flagged other only = absurd (true≢false other)
-long_refused has false false false value h flagged other only = (kind.UnknownArgument, refl, λ e. cc)
-long_refused true false false true value h flagged other only = (kind.TooManyValues, refl, λ e. cc)
-long_refused false false false true value h flagged other only = absurd (true≢false (sym (only refl)))
+-- What the name of an option is, of which the option for the value isn't one: a flag or the call for help, which then has a value, or none of them.
+long_refused : (has is_stats is_keep is_demo is_help : Bool) (value : Text) (h : Held) → (is_stats ≡ true → has ≡ true) → (is_keep ≡ true → has ≡ true) → is_demo ≡ false → (is_help ≡ true → has ≡ true)
+    → IsWrong (long_fault rules false (cond (is_stats || false) (Some (flag stats)) (cond (is_keep || false) (Some (flag keep_going)) (cond (is_demo || false) (Some demo) (cond (is_help || false) (Some help) None)))) (cond has (Some value) None) h)
+long_refused true true is_keep is_demo is_help value h flagged kept other only = (kind.TooManyValues, refl, λ e. cc)
+long_refused false true is_keep is_demo is_help value h flagged kept other only = absurd (true≢false (sym (flagged refl)))
+long_refused true false true is_demo is_help value h flagged kept other only = (kind.TooManyValues, refl, λ e. cc)
+long_refused false false true is_demo is_help value h flagged kept other only = absurd (true≢false (sym (kept refl)))
+long_refused has false false true is_help value h flagged kept other only = absurd (true≢false other)
+long_refused has false false false false value h flagged kept other only = (kind.UnknownArgument, refl, λ e. cc)
+long_refused true false false false true value h flagged kept other only = (kind.TooManyValues, refl, λ e. cc)
+long_refused false false false false true value h flagged kept other only = absurd (true≢false (sym (only refl)))
 
-unknown_long : (first : ℕ) (more : Text) → (first ∷ more ≡ codes "help" → ⊥) → (first ∷ more ≡ codes "stats" → ⊥) → (first ∷ more ≡ codes "demo" → ⊥)
+unknown_long : (first : ℕ) (more : Text) → (first ∷ more ≡ codes "help" → ⊥) → (first ∷ more ≡ codes "stats" → ⊥) → (first ∷ more ≡ codes "keep-going" → ⊥) → (first ∷ more ≡ codes "demo" → ⊥)
     → ((value : Text) → first ∷ more ≡ codes "demo=" ++ value → ⊥) → IsRefused (45 ∷ 45 ∷ first ∷ more)
-unknown_long first more help_not stats_not demo_not value_not rows p =
+unknown_long first more help_not stats_not keep_not demo_not value_not rows p =
     let text : Text = first ∷ more in
     let name : Text = before_first (λ x. x == 61) text in
     let value : Text = after_first (λ x. x == 61) text in
-    long_refused (has_byte 61 text) (str.bytes_eq (codes "stats") name) (str.bytes_eq (codes "demo") name) (str.bytes_eq (codes "help") name) value (held rows p)
+    long_refused (has_byte 61 text) (str.bytes_eq (codes "stats") name) (str.bytes_eq (codes "keep-going") name) (str.bytes_eq (codes "demo") name) (str.bytes_eq (codes "help") name) value (held rows p)
     (λ e. elim (named text (codes "stats") (sym (same_is _ _ e))) [ inl alone ↦ absurd (stats_not alone) | inr with ↦ with.0 ])
+    (λ e. elim (named text (codes "keep-going") (sym (same_is _ _ e))) [ inl alone ↦ absurd (keep_not alone) | inr with ↦ with.0 ])
     (false_from_ne_true _ (λ e. elim (named text (codes "demo") (sym (same_is _ _ e))) [ inl alone ↦ demo_not alone | inr with ↦ value_not value with.1 ]))
     (λ e. elim (named text (codes "help") (sym (same_is _ _ e))) [ inl alone ↦ absurd (help_not alone) | inr with ↦ with.0 ])
 
@@ -157,41 +162,43 @@ unknown_short first more dash_not help_not utf8 rows p =
 -- none of the other sorts
 abbrev IsRefusedBut : Text → Type 0
 IsRefusedBut word = IsUtf8 word → str.bytes_eq word (codes "--help") ≡ false → begins (codes "-h") word ≡ false
-    → str.bytes_eq word (codes "--stats") ≡ false → str.bytes_eq word (codes "--demo") ≡ false → begins (codes "--demo=") word ≡ false → str.bytes_eq word (codes "--") ≡ false
+    → str.bytes_eq word (codes "--stats") ≡ false → str.bytes_eq word (codes "--keep-going") ≡ false → str.bytes_eq word (codes "--demo") ≡ false → begins (codes "--demo=") word ≡ false → str.bytes_eq word (codes "--") ≡ false
     → is_option word ≡ true → IsRefused word
 
 after_two_dashes : (more : Text) → IsRefusedBut (45 ∷ 45 ∷ more)
-after_two_dashes [] utf8 not_help not_h not_stats not_demo not_with not_dashes is = absurd (true≢false not_dashes)
-after_two_dashes (first ∷ more) utf8 not_help not_h not_stats not_demo not_with not_dashes is =
+after_two_dashes [] utf8 not_help not_h not_stats not_keep not_demo not_with not_dashes is = absurd (true≢false not_dashes)
+after_two_dashes (first ∷ more) utf8 not_help not_h not_stats not_keep not_demo not_with not_dashes is =
     unknown_long first more
     (λ e. true≢false (sym ((bytes_eq-Decides _ (codes "--help")).1 (ap (λ t. 45 ∷ 45 ∷ t) e)) ∙ not_help))
     (λ e. true≢false (sym ((bytes_eq-Decides _ (codes "--stats")).1 (ap (λ t. 45 ∷ 45 ∷ t) e)) ∙ not_stats))
+    (λ e. true≢false (sym ((bytes_eq-Decides _ (codes "--keep-going")).1 (ap (λ t. 45 ∷ 45 ∷ t) e)) ∙ not_keep))
     (λ e. true≢false (sym ((bytes_eq-Decides _ (codes "--demo")).1 (ap (λ t. 45 ∷ 45 ∷ t) e)) ∙ not_demo))
     (λ value e. true≢false (sym (ap (λ t. begins (codes "--demo=") (45 ∷ 45 ∷ t)) e) ∙ not_with))
 
 after_dash : (more : Text) → IsRefusedBut (45 ∷ more)
-after_dash [] = λ utf8 not_help not_h not_stats not_demo not_with not_dashes is. absurd (true≢false (sym is))
+after_dash [] = λ utf8 not_help not_h not_stats not_keep not_demo not_with not_dashes is. absurd (true≢false (sym is))
 after_dash (second ∷ more) = elim (cases_eq second 45) [
   | inl dash ↦ subst (λ n. IsRefusedBut (45 ∷ n ∷ more)) (sym dash) (after_two_dashes more)
   | inr not_dash ↦ elim (cases_eq second 104) [
-    | inl letter ↦ subst (λ n. IsRefusedBut (45 ∷ n ∷ more)) (sym letter) (λ utf8 not_help not_h not_stats not_demo not_with not_dashes is. absurd (true≢false not_h))
-    | inr other ↦ λ utf8 not_help not_h not_stats not_demo not_with not_dashes is. unknown_short second more not_dash other utf8
+    | inl letter ↦ subst (λ n. IsRefusedBut (45 ∷ n ∷ more)) (sym letter) (λ utf8 not_help not_h not_stats not_keep not_demo not_with not_dashes is. absurd (true≢false not_h))
+    | inr other ↦ λ utf8 not_help not_h not_stats not_keep not_demo not_with not_dashes is. unknown_short second more not_dash other utf8
   ]
 ]
 
 refused_from : (word : Text) → IsRefusedBut word
-refused_from [] utf8 not_help not_h not_stats not_demo not_with not_dashes is = absurd (true≢false (sym is))
-refused_from (first ∷ more) utf8 not_help not_h not_stats not_demo not_with not_dashes is =
+refused_from [] utf8 not_help not_h not_stats not_keep not_demo not_with not_dashes is = absurd (true≢false (sym is))
+refused_from (first ∷ more) utf8 not_help not_h not_stats not_keep not_demo not_with not_dashes is =
     let whole = begins_is (codes "-") (first ∷ more) (and_parts _ _ is).0 in
-    subst IsRefusedBut (sym whole) (after_dash more) utf8 not_help not_h not_stats not_demo not_with not_dashes is
+    subst IsRefusedBut (sym whole) (after_dash more) utf8 not_help not_h not_stats not_keep not_demo not_with not_dashes is
 
 pub spelled : (word : Text) → IsUtf8 word → IsSpelled (sort_of word) word
 spelled word utf8 =
     let P = λ (s : WordSort). IsSpelled s word in
     cond_both _ meaning.asking _ P (λ e. inl (same_is word (codes "--help") e)) (λ not_help.
     cond_both _ meaning.asking _ P (λ e. inr (drop 2 word, begins_is (codes "-h") word e)) (λ not_h.
-    cond_both _ meaning.stats _ P (λ e. same_is word (codes "--stats") e) (λ not_stats.
+    cond_both _ (meaning.flag stats) _ P (λ e. same_is word (codes "--stats") e) (λ not_stats.
+    cond_both _ (meaning.flag keep_going) _ P (λ e. same_is word (codes "--keep-going") e) (λ not_keep.
     cond_both _ meaning.demo _ P (λ e. same_is word (codes "--demo") e) (λ not_demo.
     cond_both _ (meaning.demo_with (drop 7 word)) _ P (λ e. begins_is (codes "--demo=") word e) (λ not_with.
     cond_both _ meaning.dashes _ P (λ e. same_is word (codes "--") e) (λ not_dashes.
-    cond_both _ meaning.unknown meaning.plain P (λ e. (e, refused_from word utf8 not_help not_h not_stats not_demo not_with not_dashes e)) (λ never. plain_from word never)))))))
+    cond_both _ meaning.unknown meaning.plain P (λ e. (e, refused_from word utf8 not_help not_h not_stats not_keep not_demo not_with not_dashes e)) (λ never. plain_from word never))))))))

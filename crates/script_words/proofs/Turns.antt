@@ -5,11 +5,11 @@ use Rattle.clap.specs.Walk.{Held, Row, Step, Text, Waiting, Walk, after_step, op
 use Rattle.clap.specs.Faults.{flags_fault, other_fault, positional_fault, step_fault, turn_fault, use_fault}
 use Rattle.clap.specs.Kinds.{Kinds, or_else}
 use Rattle.clap.specs.declared.error.kind.ErrorKind.TheVariants as kind
-use Rattle.meaning_words.specs.Words.{WordSort}
+use Rattle.meaning_words.specs.Words.{Flag, WordSort, stats, keep_going}
 use Rattle.meaning_words.specs.Words as meaning
-use Rattle.script_words.specs.CommandLine.{demo_id, plain_id, stats_id}
+use Rattle.script_words.specs.CommandLine.{demo_id, flag_name, plain_id}
 use Rattle.clap.specs.Walk.{has_row}
-use Rattle.script_words.proofs.Line.{IsWrong, Pending, demo, held, line, nothing_after, plain, rules, settling, standing, stats, wrong_as, wrong_first}
+use Rattle.script_words.proofs.Line.{IsWrong, Pending, demo, flag, held, line, nothing_after, plain, rules, settling, standing, wrong_as, wrong_first}
 use Rattle.script_words.proofs.Spelling.{IsPlain, IsRefused, IsSpelled}
 
 abbrev pub turn : Walk → Text → Kinds
@@ -38,18 +38,18 @@ next_is rows p positional word = refl
 -- ---- what a word is refused for
 
 -- what an option comes to once what was pending is settled
-abbrev pub flag_kinds : WordSort → List Row → Kinds
-flag_kinds meaning.asking rows = kind.DisplayHelp ∷ []
-flag_kinds meaning.stats rows = use_fault false stats [] rows
-flag_kinds (meaning.demo_with given) rows = use_fault false demo (given ∷ []) rows
-flag_kinds _ rows = []
+abbrev pub known_kinds : WordSort → List Row → Kinds
+known_kinds meaning.asking rows = kind.DisplayHelp ∷ []
+known_kinds (meaning.flag f) rows = use_fault false (flag f) [] rows
+known_kinds (meaning.demo_with given) rows = use_fault false demo (given ∷ []) rows
+known_kinds _ rows = []
 
-abbrev pub is_flag : WordSort → Bool
-is_flag meaning.asking = true
-is_flag meaning.stats = true
-is_flag meaning.demo = true
-is_flag (meaning.demo_with given) = true
-is_flag _ = false
+abbrev pub is_known : WordSort → Bool
+is_known meaning.asking = true
+is_known (meaning.flag f) = true
+is_known meaning.demo = true
+is_known (meaning.demo_with given) = true
+is_known _ = false
 
 stops : (a b : Kinds) → or_else (or_else a (kind.DisplayHelp ∷ [])) b ≡ or_else a (kind.DisplayHelp ∷ [])
 stops [] b = refl
@@ -61,35 +61,36 @@ unfolding flags_fault str.chars
 settles_bundle [] rows p = stops (settling (held rows p)) _
 settles_bundle (second ∷ more) rows p = stops (settling (held rows p)) _
 
-settles : (s : WordSort) (word : Text) (rows : List Row) (p : Pending) → IsSpelled s word → is_flag s ≡ true
-    → other_fault line None word (held rows p) ≡ or_else (settling (held rows p)) (flag_kinds s (settled_rows rules p rows))
-settles meaning.asking word rows p (inl is) flag = ap (λ w. other_fault line None w (held rows p)) is
-settles meaning.asking word rows p (inr is) flag = ap (λ w. other_fault line None w (held rows p)) is.1 ∙ settles_bundle is.0 rows p
-settles meaning.stats word rows p is flag = ap (λ w. other_fault line None w (held rows p)) is
-settles meaning.demo word rows p is flag = ap (λ w. other_fault line None w (held rows p)) is ∙ sym (nothing_after (settling (held rows p)))
-settles (meaning.demo_with given) word rows p is flag = ap (λ w. other_fault line None w (held rows p)) is
-settles meaning.dashes word rows p is flag = absurd (true≢false (sym flag))
-settles meaning.unknown word rows p is flag = absurd (true≢false (sym flag))
-settles meaning.plain word rows p is flag = absurd (true≢false (sym flag))
+settles : (s : WordSort) (word : Text) (rows : List Row) (p : Pending) → IsSpelled s word → is_known s ≡ true
+    → other_fault line None word (held rows p) ≡ or_else (settling (held rows p)) (known_kinds s (settled_rows rules p rows))
+settles meaning.asking word rows p (inl is) known = ap (λ w. other_fault line None w (held rows p)) is
+settles meaning.asking word rows p (inr is) known = ap (λ w. other_fault line None w (held rows p)) is.1 ∙ settles_bundle is.0 rows p
+settles (meaning.flag stats) word rows p is known = ap (λ w. other_fault line None w (held rows p)) is
+settles (meaning.flag keep_going) word rows p is known = ap (λ w. other_fault line None w (held rows p)) is
+settles meaning.demo word rows p is known = ap (λ w. other_fault line None w (held rows p)) is ∙ sym (nothing_after (settling (held rows p)))
+settles (meaning.demo_with given) word rows p is known = ap (λ w. other_fault line None w (held rows p)) is
+settles meaning.dashes word rows p is known = absurd (true≢false (sym known))
+settles meaning.unknown word rows p is known = absurd (true≢false (sym known))
+settles meaning.plain word rows p is known = absurd (true≢false (sym known))
 
 -- an option where what is pending is wrong
-pub flag_in_wrong : (s : WordSort) (word : Text) (rows : List Row) (p : Pending) (waiting : Waiting) → IsSpelled s word → is_flag s ≡ true
+pub known_in_wrong : (s : WordSort) (word : Text) (rows : List Row) (p : Pending) (waiting : Waiting) → IsSpelled s word → is_known s ≡ true
     → IsWrong (settling (held rows p)) → IsWrong (turn (standing rows p waiting false) word)
-flag_in_wrong s word rows p waiting is flag wrong =
-    wrong_as _ _ (turn_is rows p waiting word) (wrong_first _ _ (wrong_as _ _ (settles s word rows p is flag) (wrong_first _ _ wrong)))
+known_in_wrong s word rows p waiting is known wrong =
+    wrong_as _ _ (turn_is rows p waiting word) (wrong_first _ _ (wrong_as _ _ (settles s word rows p is known) (wrong_first _ _ wrong)))
 
 pub refused_turn : (word : Text) (rows : List Row) (p : Pending) (waiting : Waiting) → IsRefused word → IsWrong (turn (standing rows p waiting false) word)
 refused_turn word rows p waiting refused = wrong_as _ _ (turn_is rows p waiting word) (wrong_first _ _ (refused rows p))
 
 -- an option where what is pending is right
-pub flag_turn : (s : WordSort) (word : Text) (rows : List Row) (p : Pending) (waiting : Waiting) → IsSpelled s word → is_flag s ≡ true
+pub known_turn : (s : WordSort) (word : Text) (rows : List Row) (p : Pending) (waiting : Waiting) → IsSpelled s word → is_known s ≡ true
     → settling (held rows p) ≡ []
     → turn (standing rows p waiting false) word
-    ≡ or_else (flag_kinds s (settled_rows rules p rows)) (step_fault line 1 (met rows p waiting word).0 (met rows p waiting word).1)
-flag_turn s word rows p waiting is flag right =
+    ≡ or_else (known_kinds s (settled_rows rules p rows)) (step_fault line 1 (met rows p waiting word).0 (met rows p waiting word).1)
+known_turn s word rows p waiting is known right =
     turn_is rows p waiting word
     ∙ ap (λ a. or_else a (step_fault line 1 (met rows p waiting word).0 (met rows p waiting word).1))
-    (settles s word rows p is flag ∙ ap (λ a. or_else a (flag_kinds s (settled_rows rules p rows))) right)
+    (settles s word rows p is known ∙ ap (λ a. or_else a (known_kinds s (settled_rows rules p rows))) right)
 
 -- ---- the words that pass
 
@@ -100,22 +101,29 @@ pub dashes_next : (word : Text) (rows : List Row) (p : Pending) (waiting : Waiti
     → next (standing rows p waiting false) word ≡ standing rows p waiting true
 dashes_next word rows p waiting is = ap (next (standing rows p waiting false)) is ∙ next_is rows p waiting (codes "--")
 
-pub stats_turn : (word : Text) (rows : List Row) (p : Pending) (waiting : Waiting) → word ≡ codes "--stats" → settling (held rows p) ≡ []
-    → turn (standing rows p waiting false) word ≡ use_fault false stats [] (settled_rows rules p rows)
-stats_turn word rows p waiting is right =
+pub flag_turn : (f : Flag) (word : Text) (rows : List Row) (p : Pending) (waiting : Waiting) → word ≡ codes "--" ++ flag_name f → settling (held rows p) ≡ []
+    → turn (standing rows p waiting false) word ≡ use_fault false (flag f) [] (settled_rows rules p rows)
+flag_turn stats word rows p waiting is right =
     ap (turn (standing rows p waiting false)) is ∙ turn_is rows p waiting (codes "--stats")
-    ∙ ap (λ a. or_else (or_else a (use_fault false stats [] (settled_rows rules p rows))) []) right
-    ∙ nothing_after (use_fault false stats [] (settled_rows rules p rows))
+    ∙ ap (λ a. or_else (or_else a (use_fault false (flag stats) [] (settled_rows rules p rows))) []) right
+    ∙ nothing_after (use_fault false (flag stats) [] (settled_rows rules p rows))
+flag_turn keep_going word rows p waiting is right =
+    ap (turn (standing rows p waiting false)) is ∙ turn_is rows p waiting (codes "--keep-going")
+    ∙ ap (λ a. or_else (or_else a (use_fault false (flag keep_going) [] (settled_rows rules p rows))) []) right
+    ∙ nothing_after (use_fault false (flag keep_going) [] (settled_rows rules p rows))
 
-pub stats_next : (word : Text) (rows : List Row) (p : Pending) (waiting : Waiting) → word ≡ codes "--stats"
-    → next (standing rows p waiting false) word ≡ standing (used stats [] (settled_rows rules p rows)) None idle false
-stats_next word rows p waiting is = ap (next (standing rows p waiting false)) is ∙ next_is rows p waiting (codes "--stats")
+pub flag_next : (f : Flag) (word : Text) (rows : List Row) (p : Pending) (waiting : Waiting) → word ≡ codes "--" ++ flag_name f
+    → next (standing rows p waiting false) word ≡ standing (used (flag f) [] (settled_rows rules p rows)) None idle false
+flag_next stats word rows p waiting is = ap (next (standing rows p waiting false)) is ∙ next_is rows p waiting (codes "--stats")
+flag_next keep_going word rows p waiting is = ap (next (standing rows p waiting false)) is ∙ next_is rows p waiting (codes "--keep-going")
 
-pub stats_fresh : (rows : List Row) → has_row stats_id rows ≡ false → use_fault false stats [] rows ≡ []
-stats_fresh rows none = rw none
+pub flag_fresh : (f : Flag) (rows : List Row) → has_row (flag_name f) rows ≡ false → use_fault false (flag f) [] rows ≡ []
+flag_fresh stats rows none = rw none
+flag_fresh keep_going rows none = rw none
 
-pub stats_twice : (rows : List Row) → has_row stats_id rows ≡ true → IsWrong (use_fault false stats [] rows)
-stats_twice rows has = (kind.ArgumentConflict, rw has, λ e. cc)
+pub flag_twice : (f : Flag) (rows : List Row) → has_row (flag_name f) rows ≡ true → IsWrong (use_fault false (flag f) [] rows)
+flag_twice stats rows has = (kind.ArgumentConflict, rw has, λ e. cc)
+flag_twice keep_going rows has = (kind.ArgumentConflict, rw has, λ e. cc)
 
 pub demo_turn : (word : Text) (rows : List Row) (p : Pending) (waiting : Waiting) → word ≡ codes "--demo" → settling (held rows p) ≡ []
     → turn (standing rows p waiting false) word ≡ []

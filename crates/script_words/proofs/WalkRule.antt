@@ -8,13 +8,13 @@ use Rattle.clap.specs.Faults.{defaults_fault, fault_of, given_default_fault, wal
 use Rattle.clap.specs.Simple.{App, entered, matches_of}
 use Rattle.clap.specs.Kinds.{Kinds, or_else}
 use Rattle.clap.specs.declared.error.kind.ErrorKind.TheVariants as kind
-use Rattle.meaning_words.specs.Words.{WordSort, Words, WordsRead, is_option, no_words, read_after, read_as, sort_of, words_read}
+use Rattle.meaning_words.specs.Words.{Flag, WordSort, Words, has_flag, keep_going, stats, with_flag, WordsRead, is_option, no_words, read_after, read_as, sort_of, words_read}
 use Rattle.meaning_words.specs.Words as meaning
-use Rattle.script_words.specs.CommandLine.{command_line, demo_id, plain_id, stats_id}
-use Rattle.script_words.proofs.Line.{IsWrong, Pending, demo, fault_from, held, help, line, nothing_after, plain, rows_from, rules, settling, standing, stats, wrong_as, wrong_first}
-use Rattle.script_words.proofs.Rows.{Holds, HoldsAll, adds_demo, adds_plain, adds_stats, has_demo, has_stats, with_flag}
+use Rattle.script_words.specs.CommandLine.{command_line, demo_id, flag_name, plain_id}
+use Rattle.script_words.proofs.Line.{IsWrong, Pending, demo, fault_from, flag, held, help, line, nothing_after, plain, rows_from, rules, settling, standing, wrong_as, wrong_first}
+use Rattle.script_words.proofs.Rows.{Holds, HoldsAll, adds_demo, adds_flag, adds_plain, has_demo, has_set, holds_none, with_defaults, with_flags}
 use Rattle.script_words.proofs.Spelling.{IsPlain, IsSpelled, plain_from, spelled}
-use Rattle.script_words.proofs.Turns.{IsFree, after_plain, awaiting, dashes_next, dashes_turn, demo_next, demo_turn, flag_in_wrong, flag_turn, next, plain_next, plain_turn, refused_turn, stats_fresh, stats_next, stats_turn, stats_twice, trailing_next, trailing_turn, turn, use_fresh, use_twice, value_next, value_turn, with_next, with_turn}
+use Rattle.script_words.proofs.Turns.{IsFree, after_plain, awaiting, dashes_next, dashes_turn, demo_next, demo_turn, flag_fresh, flag_next, flag_turn, flag_twice, known_in_wrong, known_turn, next, plain_next, plain_turn, refused_turn, trailing_next, trailing_turn, turn, use_fresh, use_twice, value_next, value_turn, with_next, with_turn}
 
 -- what the kinds and the rows at the end of a walk say
 abbrev pub Tells : Kinds → List Row → WordsRead → Type 0
@@ -66,11 +66,11 @@ lost_at_dashes word more rows p waiting is wrong =
 
 lost_at : (s : WordSort) (word : Text) (more : List Text) (rows : List Row) (p : Pending) (waiting : Waiting) → IsSpelled s word → IsWrong (settling (held rows p))
     → (IsPlain word → IsWrong (fault_from (standing rows p waiting false) (word ∷ more))) → IsWrong (fault_from (standing rows p waiting false) (word ∷ more))
-lost_at meaning.asking word more rows p waiting is wrong plainly = refuses (standing rows p waiting false) word more (flag_in_wrong meaning.asking word rows p waiting is refl wrong)
-lost_at meaning.stats word more rows p waiting is wrong plainly = refuses (standing rows p waiting false) word more (flag_in_wrong meaning.stats word rows p waiting is refl wrong)
-lost_at meaning.demo word more rows p waiting is wrong plainly = refuses (standing rows p waiting false) word more (flag_in_wrong meaning.demo word rows p waiting is refl wrong)
+lost_at meaning.asking word more rows p waiting is wrong plainly = refuses (standing rows p waiting false) word more (known_in_wrong meaning.asking word rows p waiting is refl wrong)
+lost_at (meaning.flag f) word more rows p waiting is wrong plainly = refuses (standing rows p waiting false) word more (known_in_wrong (meaning.flag f) word rows p waiting is refl wrong)
+lost_at meaning.demo word more rows p waiting is wrong plainly = refuses (standing rows p waiting false) word more (known_in_wrong meaning.demo word rows p waiting is refl wrong)
 lost_at (meaning.demo_with given) word more rows p waiting is wrong plainly =
-    refuses (standing rows p waiting false) word more (flag_in_wrong (meaning.demo_with given) word rows p waiting is refl wrong)
+    refuses (standing rows p waiting false) word more (known_in_wrong (meaning.demo_with given) word rows p waiting is refl wrong)
 lost_at meaning.dashes word more rows p waiting is wrong plainly = lost_at_dashes word more rows p waiting is wrong
 lost_at meaning.unknown word more rows p waiting is wrong plainly = refuses (standing rows p waiting false) word more (refused_turn word rows p waiting is.1)
 lost_at meaning.plain word more rows p waiting is wrong plainly = plainly is
@@ -104,7 +104,7 @@ trailing : (words : List Text) (before : Words) (rows : List Row) (p : Pending) 
     → TellsOf (standing rows p waiting true) words (meaning.read (record before { plain = before.plain ++ words }))
 trailing [] before rows p waiting right = (
   ends (standing rows p waiting true) ∙ right.0,
-  record { stats = right.1.stats; demo = right.1.demo; plain = right.1.plain ∙ sym (append-nil before.plain) },
+  record { flags = right.1.flags; demo = right.1.demo; plain = right.1.plain ∙ sym (append-nil before.plain) },
 )
 trailing (word ∷ more) before rows p waiting right =
     goes_on (standing rows p waiting true) (after_plain rows p word true) word more (meaning.read (record before { plain = before.plain ++ word ∷ more }))
@@ -125,16 +125,17 @@ module _ (word : Text) (more : List Text) (texts : AreTexts more) (on : ReadsOn 
   reads_word : (s : WordSort) → IsSpelled s word → (before : Words) (rows : List Row) (p : Pending) (waiting : Waiting) → IsFree waiting → IsRight rows p before
       → TellsOf (standing rows p waiting false) (word ∷ more) (read_as s before word more (λ before' awaited. read_after before' awaited more))
   reads_word meaning.asking is before rows p waiting free right =
-      helps (standing rows p waiting false) word more (flag_turn meaning.asking word rows p waiting is refl right.0)
-  reads_word meaning.stats is before rows p waiting free right =
-      let found = has_stats (settled_rows rules p rows) before right.1 in
-      cond_both before.stats meaning.fault (read_after (record before { stats = true }) false more) (TellsOf (standing rows p waiting false) (word ∷ more))
+      helps (standing rows p waiting false) word more (known_turn meaning.asking word rows p waiting is refl right.0)
+  reads_word (meaning.flag f) is before rows p waiting free right =
+      let found = has_set f (settled_rows rules p rows) before right.1 in
+      let after : Words = record before { flags = with_flag f before.flags } in
+      cond_both (has_flag f before.flags) meaning.fault (read_after after false more) (TellsOf (standing rows p waiting false) (word ∷ more))
       (λ again. refuses (standing rows p waiting false) word more
-      (wrong_as _ _ (stats_turn word rows p waiting is right.0) (stats_twice (settled_rows rules p rows) (found ∙ again))))
-      (λ first. goes_on (standing rows p waiting false) (standing (used stats [] (settled_rows rules p rows)) None idle false) word more (read_after (record before { stats = true }) false more)
-      (stats_turn word rows p waiting is right.0 ∙ stats_fresh (settled_rows rules p rows) (found ∙ first)) (stats_next word rows p waiting is)
-      (on (record before { stats = true }) (used stats [] (settled_rows rules p rows)) None idle tt
-      (refl, adds_stats (settled_rows rules p rows) before right.1 first)))
+      (wrong_as _ _ (flag_turn f word rows p waiting is right.0) (flag_twice f (settled_rows rules p rows) (found ∙ again))))
+      (λ first. goes_on (standing rows p waiting false) (standing (used (flag f) [] (settled_rows rules p rows)) None idle false) word more (read_after after false more)
+      (flag_turn f word rows p waiting is right.0 ∙ flag_fresh f (settled_rows rules p rows) (found ∙ first)) (flag_next f word rows p waiting is)
+      (on after (used (flag f) [] (settled_rows rules p rows)) None idle tt
+      (refl, adds_flag f (settled_rows rules p rows) before right.1 first)))
   reads_word meaning.demo is before rows p waiting free right =
       let found = has_demo (settled_rows rules p rows) before right.1 in
       cond_both (is_some before.demo) meaning.fault (read_after before true more) (TellsOf (standing rows p waiting false) (word ∷ more))
@@ -187,7 +188,7 @@ reads (word ∷ more) texts =
 
 -- ---- the whole of a parse
 
--- the arguments but for the flag have no default
+-- the arguments but for the flags have no default
 abbrev others : List Rule
 others = demo ∷ plain ∷ help ∷ []
 
@@ -215,13 +216,18 @@ kept_rows (d ∷ ds) rows none =
     ap (λ r. fold with_default r ds) (cond_both (has_row d.id rows) rows (default_rows d.id (reading_by d) d.defaults rows) (λ x. x ≡ rows) (λ _. refl)
     (λ _. no_default_rows d.id (reading_by d) d.defaults rows both.0)) ∙ kept_rows ds rows both.1
 
--- the default of the flag is no fault
-quiet_flag : (rows : List Row) → default_fault rows stats ≡ []
-quiet_flag rows = cond_both (has_row stats_id rows || is_empty stats.defaults) [] (given_default_fault stats stats.defaults) (λ x. x ≡ []) (λ _. refl) (λ _. refl)
+-- the default of a flag is no fault
+quiet_flag : (f : Flag) (rows : List Row) → default_fault rows (flag f) ≡ []
+quiet_flag stats rows = cond_both (has_row (flag_name stats) rows || is_empty (flag stats).defaults) [] (given_default_fault (flag stats) (flag stats).defaults) (λ x. x ≡ []) (λ _. refl) (λ _. refl)
+quiet_flag keep_going rows =
+    cond_both (has_row (flag_name keep_going) rows || is_empty (flag keep_going).defaults) [] (given_default_fault (flag keep_going) (flag keep_going).defaults) (λ x. x ≡ []) (λ _. refl) (λ _. refl)
 
 quiet_rules : (rows : List Row) → defaults_fault rows rules ≡ []
 unfolding defaults_fault
-quiet_rules rows = ap (λ k. or_else k (defaults_fault (with_default rows stats) others)) (quiet_flag rows) ∙ quiet_defaults others (with_default rows stats) refl
+quiet_rules rows =
+    ap (λ k. or_else k (defaults_fault (with_default rows (flag stats)) (flag keep_going ∷ others))) (quiet_flag stats rows)
+    ∙ ap (λ k. or_else k (defaults_fault (with_defaults rows) others)) (quiet_flag keep_going (with_default rows (flag stats)))
+    ∙ quiet_defaults others (with_defaults rows) refl
 
 abbrev start : Walk
 start = standing [] None idle false
@@ -243,27 +249,24 @@ level_is words =
 fault_is : (words : List Text) → fault_of command_line words ≡ fault_from start (drop 1 words)
 fault_is words = no_level_below (walk rules [] nothing_held (drop 1 words)).stopped (drop 1 words) ∙ level_is (drop 1 words)
 
-rows_are : (words : List Text) → matches_of command_line words ≡ with_default (rows_from start (drop 1 words)) stats
-rows_are words = kept_rows others (with_default (rows_from start (drop 1 words)) stats) refl
+rows_are : (words : List Text) → matches_of command_line words ≡ with_defaults (rows_from start (drop 1 words))
+rows_are words = kept_rows others (with_defaults (rows_from start (drop 1 words))) refl
 
--- the same once the flag has its default
+-- the same once the flags have their defaults
 abbrev pub TellsAll : Kinds → List Row → WordsRead → Type 0
 TellsAll kinds rows meaning.help = kinds ≡ kind.DisplayHelp ∷ []
 TellsAll kinds rows meaning.fault = IsWrong kinds
 TellsAll kinds rows (meaning.read words) = (kinds ≡ []) × HoldsAll rows words
 
-all_told : (kinds : Kinds) (rows : List Row) (what : WordsRead) → Tells kinds rows what → TellsAll kinds (with_default rows stats) what
+all_told : (kinds : Kinds) (rows : List Row) (what : WordsRead) → Tells kinds rows what → TellsAll kinds (with_defaults rows) what
 all_told kinds rows meaning.help t = t
 all_told kinds rows meaning.fault t = t
-all_told kinds rows (meaning.read words) t = (t.0, with_flag rows words t.1)
+all_told kinds rows (meaning.read words) t = (t.0, with_flags rows words t.1)
 
 told : (words : List Text) (what : WordsRead) → TellsOf start (drop 1 words) what → TellsAll (fault_of command_line words) (matches_of command_line words) what
 told words what h = subst₂ (λ k rows. TellsAll k rows what) (sym (fault_is words)) (sym (rows_are words)) (all_told _ _ what h)
 
-none_yet : Holds [] no_words
-none_yet = record { stats = refl; demo = refl; plain = refl }
-
 -- what the parse comes to is what the rule says of the words
 pub tells : (words : List Text) → AreTexts words → TellsAll (fault_of command_line words) (matches_of command_line words) (words_read words)
-tells [] texts = told [] (words_read []) ((reads [] tt).0 no_words [] None idle tt (refl, none_yet))
-tells (program ∷ more) texts = told (program ∷ more) (words_read (program ∷ more)) ((reads more texts.1).0 no_words [] None idle tt (refl, none_yet))
+tells [] texts = told [] (words_read []) ((reads [] tt).0 no_words [] None idle tt (refl, holds_none))
+tells (program ∷ more) texts = told (program ∷ more) (words_read (program ∷ more)) ((reads more texts.1).0 no_words [] None idle tt (refl, holds_none))

@@ -2,12 +2,16 @@
 use Rattle.std.specs.Prelude.{codes, map, option_map, Some, List, unwrap_or, []}
 use Rattle.clap.specs.Words.{App, Rule, Row, Text, all_of, new_app, new_rule, with_rule}
 use Rattle.clap.specs.declared.builder.action.ArgAction.TheVariants.{Append, Set, SetTrue}
+use Rattle.meaning_words.specs.Words.{Flag, stats, keep_going}
 use Rattle.meaning_words.specs.Words as meaning
+use Rattle.script_words.specs.declared.reading.Flags.{Flags}
 use Rattle.script_words.specs.declared.reading.WordsRead.{WordsRead}
 use Rattle.script_words.specs.declared.reading.WordsRead.TheVariants.{Help, Wrong, Words}
 
-abbrev pub stats_id : Text
-stats_id = codes "stats"
+-- the name of a flag, behind its two dashes
+abbrev pub flag_name : Flag → Text
+flag_name stats = codes "stats"
+flag_name keep_going = codes "keep-going"
 
 abbrev pub demo_id : Text
 demo_id = codes "demo"
@@ -15,9 +19,12 @@ demo_id = codes "demo"
 abbrev pub plain_id : Text
 plain_id = codes "plain"
 
--- the flag `--stats`
-abbrev pub stats_rule : Rule
-stats_rule = record (new_rule stats_id) { long = Some (codes "stats"); action = Some SetTrue }
+-- a flag, which its name stands for
+abbrev pub rule_named : Text → Rule
+rule_named name = record (new_rule name) { long = Some name; action = Some SetTrue }
+
+abbrev pub flag_rule : Flag → Rule
+flag_rule flag = rule_named (flag_name flag)
 
 -- the option `--demo`, which takes a value
 abbrev pub demo_rule : Rule
@@ -27,8 +34,11 @@ demo_rule = record (new_rule demo_id) { long = Some (codes "demo"); action = Som
 abbrev pub plain_rule : Rule
 plain_rule = record (new_rule plain_id) { action = Some Append }
 
+abbrev pub with_flags : App
+with_flags = with_rule (with_rule (new_app (codes "pdscript")) (flag_rule stats)) (flag_rule keep_going)
+
 abbrev pub with_options : App
-with_options = with_rule (with_rule (new_app (codes "pdscript")) stats_rule) demo_rule
+with_options = with_rule with_flags demo_rule
 
 abbrev pub command_line : App
 command_line = with_rule with_options plain_rule
@@ -37,7 +47,10 @@ command_line = with_rule with_options plain_rule
 abbrev pub plain_of : List Row → List Text
 plain_of rows = unwrap_or (all_of plain_id rows) []
 
+abbrev pub flags_of : Flags → meaning.Flags
+flags_of flags = record { stats = flags.stats; keep_going = flags.keep_going }
+
 abbrev pub words_of : WordsRead → meaning.WordsRead
 words_of Help = meaning.help
 words_of Wrong = meaning.fault
-words_of (Words stats demo plain) = meaning.read (record { stats = stats; demo = option_map (λ s. s.now) demo; plain = map (λ s. s.now) plain.items })
+words_of (Words flags demo plain) = meaning.read (record { flags = flags_of flags; demo = option_map (λ s. s.now) demo; plain = map (λ s. s.now) plain.items })

@@ -1,12 +1,13 @@
 // The command line, as `clap` is told of it.
-ghost use Rattle.std.specs.Prelude.{◌≡◌, IfOk};
-ghost use Rattle.clap.specs.Words.{app_of};
-ghost use Rattle.script_words.specs.CommandLine.{command_line, with_options};
+ghost use Rattle.std.specs.Prelude.{◌≡◌, IfOk, false};
+ghost use Rattle.clap.specs.Words.{app_of, rule_of};
+ghost use Rattle.script_words.specs.CommandLine.{command_line, rule_named, with_flags, with_options};
 
 use clap::{Arg, ArgAction, Command};
 use std::alloc::{AllocError, Global};
 
-// A flag `--stats`, an option `--demo` with a value, and any number of plain words; `clap` adds the flag for help.
+// The flags `--stats` and `--keep-going`, an option `--demo` with a value, and any number of plain words; `clap` adds the
+// flag for help.
 pub(crate) fn command<'a>(alloc: Global) -> Result<Command<'a>, AllocError>
     ensures { IfOk result (λ c. app_of c ≡ command_line) }
 {
@@ -18,9 +19,23 @@ pub(crate) fn command<'a>(alloc: Global) -> Result<Command<'a>, AllocError>
 fn options<'a>(alloc: Global) -> Result<Command<'a>, AllocError>
     ensures { IfOk result (λ c. app_of c ≡ with_options) }
 {
-    let stats = Arg::new(alloc, "stats")
-        .long("stats")
-        .action(ArgAction::SetTrue);
     let demo = Arg::new(alloc, "demo").long("demo").action(ArgAction::Set);
-    Command::new(alloc, "pdscript").arg(stats)?.arg(demo)
+    flags(alloc)?.arg(demo)
+}
+
+// The flags alone.
+fn flags<'a>(alloc: Global) -> Result<Command<'a>, AllocError>
+    ensures { IfOk result (λ c. app_of c ≡ with_flags) }
+{
+    Command::new(alloc, "pdscript")
+        .arg(flag(alloc, "stats"))?
+        .arg(flag(alloc, "keep-going"))
+}
+
+// A flag, which its name stands for.
+fn flag<'a>(alloc: Global, name: &'a str) -> Arg<'a>
+    ensures rule { rule_of result ≡ rule_named name.entry.now }
+    ensures local { result.global ≡ false }
+{
+    Arg::new(alloc, name).long(name).action(ArgAction::SetTrue)
 }

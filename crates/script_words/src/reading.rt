@@ -10,16 +10,25 @@ use clap::ArgMatches;
 use clap::error::ErrorKind;
 use std::alloc::{AllocError, Global};
 
+/// Which flags are given.
+#[derive(Clone, Copy, Debug, PartialEq, Eq)]
+pub struct Flags {
+    /// `--stats`, by which a run without a fault ends with a line on what it cost.
+    pub stats: bool,
+    /// `--keep-going`, by which a run goes on after a statement that is refused.
+    pub keep_going: bool,
+}
+
 /// What the words of a command line are.
 #[derive(Drop)]
 pub enum WordsRead<'a> {
     /// They ask for help: by `--help`, or by a word that begins with `-h`.
     Help,
-    /// They are wrong: an option that there isn't, a second `--stats` or `--demo`, or a `--demo` with no value.
+    /// They are wrong: an option that there isn't, a flag or `--demo` for a second time, or a `--demo` with no value.
     Wrong,
-    /// Whether `--stats` is given, the value of `--demo`, where it is, and the plain words in order.
+    /// The flags, the value of `--demo`, where it is given, and the plain words in order.
     Words {
-        stats: bool,
+        flags: Flags,
         demo: Option<&'a str>,
         plain: Vec<&'a str>,
     },
@@ -36,7 +45,10 @@ pub fn read_words<'a>(alloc: Global, words: &'a [String]) -> Result<WordsRead<'a
 {
     match command(alloc)?.try_get_matches_from(words) {
         Ok(matches) => Ok(WordsRead::Words {
-            stats: matches.get_flag("stats"),
+            flags: Flags {
+                stats: matches.get_flag("stats"),
+                keep_going: matches.get_flag("keep-going"),
+            },
             demo: matches.get_str("demo"),
             plain: plain_words(alloc, &matches)?,
         }),

@@ -53,10 +53,22 @@ pub fn leaves<F: Files>(
     rooms: Rooms,
     left: Left<'_>,
 ) -> Result<bool, NoMemory> {
-    let words = words_of(alloc, words)?;
     let mut output = MemSink::with_room(alloc, rooms.output)?;
     let mut errors = MemSink::with_room(alloc, rooms.errors)?;
-    let status = run(alloc, &words, files, &mut output, &mut errors);
+    leaves_on(alloc, words, files, &mut output, &mut errors, left)
+}
+
+/// Whether the words leave this, over these files, on these empty sinks.
+pub fn leaves_on<F: Files>(
+    alloc: Global,
+    words: &[&str],
+    files: &mut F,
+    output: &mut MemSink,
+    errors: &mut MemSink,
+    left: Left<'_>,
+) -> Result<bool, NoMemory> {
+    let words = words_of(alloc, words)?;
+    let status = run(alloc, &words, files, output, errors);
     Ok(status == left.status && output.written() == left.output && errors.written() == left.errors)
 }
 
@@ -67,10 +79,11 @@ fn hold_files(files: &mut MemFiles, script: &[u8], call: u64) -> Result<(), NoMe
     files.fail_at(call)
 }
 
-/// Whether the script leaves this. It has a file of two rows by the name `t` and one of three by `u`, and the call of the
-/// files with this number fails.
-pub fn script_leaves(
+/// Whether the script `s` leaves this with these words. It may have a file of two rows by the path `t` and one of three by
+/// `u`, and the call of the files with this number fails.
+pub fn words_leave(
     alloc: Global,
+    words: &[&str],
     script: &[u8],
     call: u64,
     rooms: Rooms,
@@ -80,6 +93,17 @@ pub fn script_leaves(
     if hold_files(&mut files, script, call).is_err() {
         return false;
     }
+    leaves(alloc, words, &mut files, rooms, left) == Ok(true)
+}
+
+/// The same with the two files by the names `t` and `u`, and no flag.
+pub fn script_leaves(
+    alloc: Global,
+    script: &[u8],
+    call: u64,
+    rooms: Rooms,
+    left: Left<'_>,
+) -> bool {
     let words = ["pdscript", "s", "t=t", "u=u"];
-    leaves(alloc, &words, &mut files, rooms, left) == Ok(true)
+    words_leave(alloc, &words, script, call, rooms, left)
 }

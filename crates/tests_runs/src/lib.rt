@@ -3,9 +3,13 @@
 #![tactic(auto)]
 
 #[cfg(test)]
+mod absent;
+#[cfg(test)]
 mod changing;
 #[cfg(test)]
 mod fronts;
+#[cfg(test)]
+mod going;
 #[cfg(test)]
 mod harness;
 #[cfg(test)]

@@ -221,7 +221,7 @@ fn no_word_is_no_run(rt: HostRuntime) {
     let left = Left {
         status: Status::Usage,
         output: b"",
-        errors: b"usage: pdscript [--stats] [--demo N | SCRIPT] [NAME=PATH ..]\n",
+        errors: b"usage: pdscript [--stats] [--keep-going] [--demo N | SCRIPT] [NAME=PATH ..]\n",
     };
     assert!(rt; leaves(rt.alloc(), &[], &mut files, BOTH_AMPLE, left) == Ok(true));
 }

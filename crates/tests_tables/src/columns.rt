@@ -17,7 +17,7 @@ fn numbers(alloc: Global) -> Result<Column, NoMemory> {
     Ok(made)
 }
 
-fn has_cells(column: ColRef<'_>, wanted: &[Cell]) -> bool {
+pub(crate) fn has_cells(column: ColRef<'_>, wanted: &[Cell]) -> bool {
     if column.len() != wanted.len() {
         return false;
     }

@@ -1,5 +1,5 @@
-//! Tests of cells, columns, axes and sorts, of the pool and the store, and of printed frames: what no clause says, and
-//! what no script reaches.
+//! Tests of cells, columns, methods of texts, axes and sorts, of the pool and the store, and of printed frames: what no
+//! clause says, and what no script reaches.
 #![tactic(auto)]
 
 #[cfg(test)]
@@ -18,3 +18,5 @@ mod printed;
 mod sorts;
 #[cfg(test)]
 mod store;
+#[cfg(test)]
+mod texts;

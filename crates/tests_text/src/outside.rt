@@ -112,6 +112,46 @@ fn writes_what_fits(rt: HostRuntime) -> Result<(), NoMemory> {
     Ok(())
 }
 
+// Whether two reads of at most two bytes, and the whole of the next file, find these.
+fn reads_two_at_a_time(alloc: Global) -> Result<bool, NoMemory> {
+    let mut files = MemFiles::new(alloc);
+    hold_files(&mut files)?;
+    files.limit_read(2);
+    let fetched = files.fetch("orders");
+    let mut piece = [0u8; 8];
+    let first = files.read(&mut piece);
+    let second = files.read(&mut piece[..1]);
+    Ok(
+        fetched == Fetch::Fetched
+            && first == Got::Bytes(2)
+            && second == Got::Bytes(1)
+            && reads(alloc, &mut files, "orders", 9, Ok(b"id,price\n".as_slice())),
+    )
+}
+
+#[test]
+fn gives_no_more_than_the_limit(rt: HostRuntime) {
+    assert!(rt; reads_two_at_a_time(rt.alloc()) == Ok(true));
+}
+
+fn writes_around_the_second_put(sink: &mut MemSink) -> bool {
+    sink.put(b"id,") == Put::Took(2)
+        && sink.put(b",") == Put::Failed
+        && sink.put(b",p") == Put::Took(2)
+        && write_piece(sink, b"rice\n") == Ok(())
+        && sink.written() == b"id,price\n".as_slice()
+}
+
+// A put takes two bytes at most, and the second one fails.
+#[test]
+fn takes_no_more_than_the_limit(rt: HostRuntime) -> Result<(), NoMemory> {
+    let mut sink = MemSink::with_room(rt.alloc(), 16)?;
+    sink.limit_put(2);
+    sink.fail_at(1)?;
+    assert!(rt; writes_around_the_second_put(&mut sink));
+    Ok(())
+}
+
 const PATH: &str = "outside_io_test.txt";
 
 #[test]

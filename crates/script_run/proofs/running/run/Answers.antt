@@ -1,5 +1,6 @@
 use Rattle.{
   script_session.{proofs.cells.Common.{map, refl, inl, inr, string_bytes}, specs.{script.Run.{finished, usage}}},
+  script_words.specs.CommandLine.{flags_of},
   meaning_run.specs.Asked.{usage_help, wrong_words, demonstration, asked},
   script_run.{specs.{Ends.{outside}}, proofs.{RunLaws.{ends_with_line, ends_with_output}, Options.{some-always}, FileLaws.{complete_run, ends_unbegun, not_unread}, OneResult.{some_asked}, AskedLaws.{ends_any, fixed_ends, fixed_told, fixed_unbegun, script_here, script_told}}},
 }
@@ -54,10 +55,10 @@ returns-in-Wrong-clause-complete g c =
 
 -- the demonstration
 pub returns-in-Demo-clause-words : goal.returns-in-Demo-clause-words
-returns-in-Demo-clause-words g c = fixed_ends _ (demonstration c.in-Demo.stats c.in-Demo.orders) (rw (c.in-Demo.is, c.deref.ensures.value) at c.in-Ok.ensures) _ _ _ (c.run_demo.ensures.told (g.F.Files.seen c.args.files.now))
+returns-in-Demo-clause-words g c = fixed_ends _ (demonstration (flags_of c.in-Demo.flags) c.in-Demo.orders) (rw (c.in-Demo.is, c.deref.ensures.value) at c.in-Ok.ensures) _ _ _ (c.run_demo.ensures.told (g.F.Files.seen c.args.files.now))
 
 pub returns-in-Demo-clause-told : goal.returns-in-Demo-clause-told
-returns-in-Demo-clause-told g c = fixed_told _ (demonstration c.in-Demo.stats c.in-Demo.orders) (rw (c.in-Demo.is, c.deref.ensures.value) at c.in-Ok.ensures) _ _ _ (c.run_demo.ensures.told (g.F.Files.seen c.args.files.now)) _
+returns-in-Demo-clause-told g c = fixed_told _ (demonstration (flags_of c.in-Demo.flags) c.in-Demo.orders) (rw (c.in-Demo.is, c.deref.ensures.value) at c.in-Ok.ensures) _ _ _ (c.run_demo.ensures.told (g.F.Files.seen c.args.files.now)) _
 
 pub returns-in-Demo-clause-cause : goal.returns-in-Demo-clause-cause
 returns-in-Demo-clause-cause g c = c.run_demo.ensures.cause (g.F.Files.seen c.args.files.now)

@@ -14,7 +14,7 @@ evaluate-returns-in-Name g t c = rw c.in-Name.is (names_value _ _ _ c.named.ensu
 pub evaluate-returns-in-Literal : goal.evaluate-returns-in-Literal
 evaluate-returns-in-Literal g t c =
     let x = c.literal.ensures in
-    rw c.in-Literal.is (writes_out c.args.work.now _ _ _ x.names x.kept x.tab x.value x.found x.memory)
+    rw c.in-Literal.is (writes_out c.args.work.now _ _ _ x.names x.kept x.blocks x.tab x.value x.found x.memory)
 
 pub evaluate-returns-in-Paren : goal.evaluate-returns-in-Paren
 evaluate-returns-in-Paren g t c = rw (c.in-Paren.is, ← c.deref-in-Paren.ensures) c.evaluate-in-Paren.ensures
@@ -428,19 +428,19 @@ entries-returns-in_err-value g t c = gathers_none reads_pairs c.loop-i.invariant
 pub entries-returns-in_err-label : goal.entries-returns-in_err-label
 entries-returns-in_err-label g t c =
     let e = c.in_err-label.ensures in
-    gathers_none reads_pairs c.loop-i.invariant.gathers c.at.ensures (spent (adds c.given.new.work c.key.new.self c.in_ok-value.ensures e.names e.kept e.tab)) (grind arith)
+    gathers_none reads_pairs c.loop-i.invariant.gathers c.at.ensures (spent (adds c.given.new.work c.key.new.self c.in_ok-value.ensures e.names e.kept e.blocks e.tab)) (grind arith)
 
 pub entries-returns-in_err-push : goal.entries-returns-in_err-push
 entries-returns-in_err-push g t c =
     let e = c.in_ok-label.ensures in
-    gathers_none reads_pairs c.loop-i.invariant.gathers c.at.ensures (spent (adds c.given.new.work c.key.new.self c.in_ok-value.ensures e.names e.kept e.tab)) (search)
+    gathers_none reads_pairs c.loop-i.invariant.gathers c.at.ensures (spent (adds c.given.new.work c.key.new.self c.in_ok-value.ensures e.names e.kept e.blocks e.tab)) (search)
 
 pub entries-loop-i-preserved : goal.entries-loop-i-preserved
 entries-loop-i-preserved g t c =
     let inv = c.loop-i.invariant in
     let u = c.key.new.self in
     let y = c.in_ok-label.ensures in
-    let x = adds c.given.new.work u c.in_ok-value.ensures y.names y.kept y.tab in
+    let x = adds c.given.new.work u c.in_ok-value.ensures y.names y.kept y.blocks y.tab in
     let pairs = c.loop-i.entries.pairs.items in
     let push = c.in_ok-push.ensures.ok in
     record {

@@ -8,7 +8,7 @@ pub returns-in_err-value : goal.returns-in_err-value
 returns-in_err-value g c = fails _ c.in_err-value.ensures (search)
 
 pub returns-in_err-set_name : goal.returns-in_err-set_name
-returns-in_err-set_name g c = follows _ c.in_ok-value.ensures (runs_out (search) c.in_err-set_name.ensures.err (keeps_same _ _ c.set_name.ensures.world))
+returns-in_err-set_name g c = follows _ c.in_ok-value.ensures (runs_out (search) c.in_err-set_name.ensures.err c.set_name.ensures.world)
 
 pub returns : goal.returns
 returns g c =

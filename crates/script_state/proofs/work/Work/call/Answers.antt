@@ -1,7 +1,7 @@
 use Rattle.{
   frame_calls.proofs.frame_parts.Common.{rules, refl, ◌≡◌, ◌∙◌, true, false, ap, sym, err_from_is_err_and, Some, None, arguments_of},
   meaning_laws.{specs.{charge.Charge.{answer_charge}, method.Readers.{reads_file}, script.Reading.{costing}}, proofs.CallFaults.{made_named_fault}},
-  script_state.{specs.Work.{world_of}, proofs.{Calls.{made_plain, made_reading, read, reading, reads_by}, Evaluations.{evaluates_by, forms, forms_behind}, Rides.{pays_to}, Worlds.{keeps_same}}},
+  script_state.{specs.Work.{world_of}, proofs.{Calls.{made_plain, made_reading, read, reading, reads_by}, Evaluations.{evaluates_by, forms, forms_behind}, Rides.{pays_to}, Worlds.{keeps_same, blocks_self}}},
 }
 use Rattle.script_state.proofs.work.Work.call.Goals as goal
 
@@ -19,7 +19,7 @@ returns-in_err-bytes g c = λ name named.
     let p = err_from_is_err_and c.from_residual.result c.from_residual.ensures.1 in
     let reads : reads_file (Some f) ≡ true = search rules in
     let e = c.in_err-bytes.ensures in
-    rw (p.1, p.2) (evaluates_by {other = λ fs s. reading fs given} record { names = refl; kept = search keeps_same; serves = e.serves; reads = e.reads; found = tt } (λ fs. made_reading fs name f given named reads))
+    rw (p.1, p.2) (evaluates_by {other = λ fs s. reading fs given} record { names = refl; kept = search keeps_same; blocks = blocks_self c.args.self.now.store; serves = e.serves; reads = e.reads; found = tt } (λ fs. made_reading fs name f given named reads))
 
 pub returns : goal.returns
 returns g c = λ name named.
