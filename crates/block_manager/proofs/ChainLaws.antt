@@ -1,5 +1,15 @@
 -- Changes of a pool one after another.
-use Rattle.{std.proofs.Common.{◌≡◌, ◌≢◌, ℕ, ◌+◌, ◌≤◌, List, [], ◌∷◌, ◌++◌, refl, ap, ap₂, sym, ◌∙◌, subst, arith, Option, Some, None, IsSome, inl, inr}, std.proofs.lemmas.{Bool.{cases_eq}, List.Sums.{sum_by_push}}, std.specs.{FinMap.{FinMap, get, insert, remove}, Ordering.{nat_cmp}}, column_core.specs.Blocks.{CellBlock}, block_pool.{specs.Pools.{PoolValue, ViewValue, Ends, Owns, Shares, IsFree, IsLive, IsSole, cells_of, grid_at, block_at, live_count, total_of, view_or}, proofs.{ChangeLaws.{gone-put, put-again, get-put, get-put_other, count-put, live_not_free, grid_is, block_is, live_is, shares_view, shares_other, shares_not_sole_itself, ends_count, ends_other, ends_sole, block_kept}, HeldLaws.{ends_held}, TotalLaws.{total-insert}}}, block_manager.{specs.{Managed.{times, AreLive, Stays}, Changes.{Copies, Grows, EndsEach}}, proofs.TimesLaws.{same, same_one, times-cons, live_some}}}
+use Rattle.{
+  std.proofs.Common.{◌≡◌, ◌≢◌, ℕ, ◌+◌, ◌≤◌, List, [], ◌∷◌, ◌++◌, refl, ap, ap₂, sym, ◌∙◌, subst, arith, Option, Some, None, IsSome, inl, inr},
+  std.proofs.lemmas.{Bool.{cases_eq}, List.Sums.{sum_by_push}},
+  std.specs.{FinMap.{FinMap, get, insert, remove}, Ordering.{nat_cmp}},
+  column_core.specs.Blocks.{CellBlock},
+  block_pool.{
+    specs.Pools.{PoolValue, ViewValue, Ends, Owns, Shares, IsFree, IsLive, IsSole, cells_of, grid_at, block_at, live_count, total_of, full_view, view_or},
+    proofs.{ChangeLaws.{gone-put, put-again, get-put, get-put_other, count-put, live_not_free, grid_is, block_is, live_is, shares_view, shares_other, shares_not_sole_itself, ends_count, ends_other, ends_sole, block_kept}, HeldLaws.{ends_held}, TotalLaws.{total-insert}},
+  },
+  block_manager.{specs.{Managed.{times, AreLive, Stays}, Changes.{Copies, EndsEach}}, proofs.TimesLaws.{same, same_one, times-cons, live_some}},
+}
 
 -- the pool as it is seen, whatever is spare
 pub stays_self : (pool : PoolValue) → Stays pool pool
@@ -20,7 +30,7 @@ stays_copies old mid new id grid s c = record {
     unknown = ap (λ (m : FinMap nat_cmp ℕ). get m c.block) (sym s.blocks) ∙ c.new_block.unknown;
     unused = λ q view there. c.new_block.unused q view (ap (λ (m : FinMap nat_cmp ViewValue). get m q) s.views ∙ there);
   };
-  views = c.views ∙ ap (λ (m : FinMap nat_cmp ViewValue). insert m id record { block = c.block; grid = grid }) s.views;
+  views = c.views ∙ ap (λ (m : FinMap nat_cmp ViewValue). insert m id (full_view c.block grid)) s.views;
   blocks = c.blocks ∙ ap (λ (m : FinMap nat_cmp ℕ). insert m c.block (cells_of grid)) s.blocks;
 }
 
@@ -44,7 +54,7 @@ module _ (old mid new : PoolValue) (id from : ℕ) (grid : CellBlock) (free : Is
           unknown = sym (ap (λ (m : FinMap nat_cmp ℕ). get m owns.block) shares.blocks) ∙ owns.new_block.unknown;
           unused = λ q view there. owns.new_block.unused q view (shares_other old mid id from grid shares q (λ e. (let none : Some view ≡ None = sym there ∙ ap (get old.views) e ∙ free in cc)) ∙ there);
         };
-        views = owns.views ∙ ap₂ (λ (m : FinMap nat_cmp ViewValue) (g : CellBlock). insert m id record { block = owns.block; grid = g }) shares.views same ∙ put-again old.views id _ _;
+        views = owns.views ∙ ap₂ (λ (m : FinMap nat_cmp ViewValue) (g : CellBlock). insert m id (full_view owns.block g)) shares.views same ∙ put-again old.views id _ _;
         blocks = owns.blocks ∙ ap₂ (λ (m : FinMap nat_cmp ℕ) (g : CellBlock). insert m owns.block (cells_of g)) shares.blocks same;
       }
 
@@ -56,7 +66,7 @@ module _ (old mid new : PoolValue) (id from : ℕ) (grid : CellBlock) (free : Is
 
 -- a copy
 module _ (old new : PoolValue) (id : ℕ) (grid : CellBlock) (copies : Copies old new id grid) where
-  pub copies_view : get new.views id ≡ Some record { block = copies.block; grid = grid }
+  pub copies_view : get new.views id ≡ Some (full_view copies.block grid)
   copies_view = ap (λ (m : FinMap nat_cmp ViewValue). get m id) copies.views ∙ get-put old.views id _
 
   pub copies_other : (q : ℕ) → q ≢ id → get new.views q ≡ get old.views q
@@ -72,7 +82,7 @@ module _ (old new : PoolValue) (id : ℕ) (grid : CellBlock) (copies : Copies ol
   pub copies_sole : (q : ℕ) → q ≢ id → IsLive old q → IsSole old q → IsSole new q
   copies_sole q ne live sole other view there apart same = elim (cases_eq other id) [
     | inl e ↦
-        let new_view : Some view ≡ Some record { block = copies.block; grid = grid } = sym there ∙ ap (get new.views) e ∙ copies_view in
+        let new_view : Some view ≡ Some (full_view copies.block grid) = sym there ∙ ap (get new.views) e ∙ copies_view in
         on_new (get old.views q) refl live
         (sym (block_kept old new q (copies_other q ne)) ∙ sym same ∙ ap (λ (o : Option ViewValue). (view_or o).block) new_view)
     | inr n ↦ sole other view (sym (copies_other other n) ∙ there) apart (same ∙ block_kept old new q (copies_other q ne))
@@ -94,33 +104,6 @@ module _ (old new : PoolValue) (id : ℕ) (grid : CellBlock) (copies : Copies ol
         views = ends.views ∙ ap (λ (m : FinMap nat_cmp ViewValue). remove m id) (s.views ∙ copies.views) ∙ gone-put old.views id _ free;
         blocks = ends.sole sole ∙ ap₂ (λ (m : FinMap nat_cmp ℕ) (b : ℕ). remove m b) (s.blocks ∙ copies.blocks) block ∙ gone-put old.blocks copies.block _ copies.new_block.unknown;
       }
-
--- one copy more, and what is seen alike
-pub grows_same : (old : PoolValue) (made : List ℕ) (mid new : PoolValue) → Grows old made mid → Stays mid new → Grows old made new
-grows_same old [] mid new g s = stays_twice old mid new g s
-grows_same old (id ∷ made) mid new g s = (g.0, g.1, g.2, g.3, grows_same g.1 made mid new g.4 s)
-
-pub grows_more : (old : PoolValue) (made : List ℕ) (mid new : PoolValue) (id : ℕ) (grid : CellBlock) → Grows old made mid → IsFree mid id → Copies mid new id grid → Grows old (made ++ id ∷ []) new
-grows_more old [] mid new id grid g free c =
-    (grid, new, ap (λ (m : FinMap nat_cmp ViewValue). get m id) (sym g.views) ∙ free, stays_copies old mid new id grid g c, stays_self new)
-grows_more old (first ∷ made) mid new id grid g free c = (g.0, g.1, g.2, g.3, grows_more g.1 made mid new id grid g.4 free c)
-
-pub grows_count : (old : PoolValue) (made : List ℕ) (new : PoolValue) → Grows old made new → (q : ℕ) → live_count new q ≡ live_count old q + times q made
-grows_count old [] new g q = (let e : live_count new q ≡ live_count old q = ap (λ (m : FinMap nat_cmp ViewValue). live_count (record old { views = m }) q) g.views in omega (arith, e))
-grows_count old (id ∷ made) new g q =
-    omega (arith, grows_count g.1 made new g.4 q, copies_count old g.1 id g.0 g.3 g.2 q, times-cons q id made)
-
--- each view that was live is as it was
-pub grows_kept : (old : PoolValue) (made : List ℕ) (new : PoolValue) → Grows old made new → (q : ℕ) → IsLive old q → get new.views q ≡ get old.views q
-grows_kept old [] new g q live = ap (λ (m : FinMap nat_cmp ViewValue). get m q) g.views
-grows_kept old (id ∷ made) new g q live =
-    let first = copies_other old g.1 id g.0 g.3 q (live_not_free old id q g.2 live) in
-    grows_kept g.1 made new g.4 q (subst IsSome (sym first) live) ∙ first
-
--- all copies are taken back
-pub all_gone : (old : PoolValue) (made : List ℕ) (new final : PoolValue) → Grows old made new → EndsEach new made final → Stays old final
-all_gone old [] new final g ends = subst (Stays old) (sym ends) g
-all_gone old (id ∷ made) new final g ends = copy_gone old g.1 id g.0 g.3 ends.0 final g.2 (all_gone g.1 made new ends.0 g.4 ends.1) ends.2
 
 -- a view ended before others
 pub ends_last : (views : List ℕ) (id : ℕ) (old mid new : PoolValue) → Ends old mid id → EndsEach mid views new → EndsEach old (views ++ id ∷ []) new
@@ -153,30 +136,6 @@ module _ (old : PoolValue) where
       let ne : q ≢ id = λ e. omega (arith, none, times-cons q id views, same_one q id (sym e)) in
       let before = ends_each_sole views ends.0 ends.1 q (omega (arith, none, times-cons q id views)) sole in
       ends_sole ends.0 new id ends.2 q ne (λ other view there apart other_apart. before other view there apart)
-
--- a share of a view that is made where room for it was made first
-module _ (old spared mid : PoolValue) (n id from : ℕ) (e : spared ≡ record old { spare = n }) (live : IsLive old from) (free : IsFree spared id) (shares : Shares spared mid id from (grid_at spared from)) where
-  same_pool : Stays old spared
-  same_pool = record { views = ap (λ (p : PoolValue). p.views) e; blocks = ap (λ (p : PoolValue). p.blocks) e }
-
-  live_still : IsLive spared from
-  live_still = subst (λ (p : PoolValue). IsLive p from) (sym e) live
-
-  pub one_live : IsLive mid id
-  one_live = share_live spared mid mid id from (grid_at spared from) free live_still shares
-
-  pub one_free : IsFree old id
-  one_free = subst (λ (p : PoolValue). IsFree p id) e free
-
-  pub one_copied : (new : PoolValue) → (¬ IsSole mid id → Owns mid new id) → Copies old new id (grid_at old from)
-  one_copied new owns =
-      subst (λ (g : CellBlock). Copies old new id g) (ap (λ (p : PoolValue). grid_at p from) e)
-      (stays_copies old spared new id (grid_at spared from) same_pool
-      (copied spared mid new id from (grid_at spared from) free live_still shares (owns (share_not_sole spared mid mid id from (grid_at spared from) free live_still shares))))
-
-  pub one_taken : (failed new : PoolValue) → failed ≡ mid → Ends failed new id → Stays old new
-  one_taken failed new same ends =
-      stays_twice old spared new same_pool (taken_back spared mid new id from (grid_at spared from) free live_still shares (subst (λ (p : PoolValue). Ends p new id) same ends))
 
 -- the last of these views ends
 pub last_live : (pool : PoolValue) (views : List ℕ) (id : ℕ) → AreLive pool (views ++ id ∷ []) → IsLive pool id

@@ -1,5 +1,12 @@
--- The grids of views, and the views of a manager after a change.
-use Rattle.{std.proofs.Common.{◌≡◌, ℕ, zero, suc, ◌<◌, List, [], ◌∷◌, ◌++◌, map, length, refl, ap, sym, ◌∙◌, subst, arith, get_or, All}, std.proofs.lemmas.{List.{length-map, get_or-map, map-set, map-append}, List.Elements.{All-map}}, std.specs.{Prelude.{slice_index_or, slice_index, slice_set, remove}, FinMap.{get}}, column_core.specs.Blocks.{CellBlock}, block_pool.{specs.{declared.views.ViewId.{ViewId}, Pools.{PoolValue, grid_at}}, proofs.ChangeLaws.{grid_kept}}, block_manager.{specs.{Parts.{IsSingle}, Managed.{AreLive, Exchanges}, Changes.{grids_of, AreSingles, numbers_of}}}}
+-- The grids of views, and the numbers of views.
+use Rattle.{
+  std.proofs.Common.{◌≡◌, ℕ, zero, suc, ◌<◌, List, [], ◌∷◌, ◌++◌, map, length, refl, ap, sym, ◌∙◌, arith, get_or},
+  std.proofs.lemmas.{List.{length-map, get_or-map, map-set, map-append}},
+  std.specs.{Prelude.{slice_index_or, slice_index, slice_set, remove}, FinMap.{get}},
+  column_core.specs.Blocks.{CellBlock},
+  block_pool.{specs.{declared.views.ViewId.{ViewId}, Pools.{PoolValue, grid_at}}, proofs.ChangeLaws.{grid_kept}},
+  block_manager.specs.Changes.{grids_of, numbers_of},
+}
 
 -- views that are as they were have the grids that they had
 pub grids_kept : (old new : PoolValue) (views : List ℕ) → ((k : ℕ) → k < length views → get new.views (get_or views k 0) ≡ get old.views (get_or views k 0)) → grids_of new views ≡ grids_of old views
@@ -19,20 +26,6 @@ grids_long pool views = length-map views (grid_at pool)
 -- another list of views has as many, where it has these grids
 pub as_long : (old new : PoolValue) (before after : List ℕ) → grids_of new after ≡ grids_of old before → length after ≡ length before
 as_long old new before after e = sym (grids_long new after) ∙ ap length e ∙ grids_long old before
-
-module _ (pool : PoolValue) (views : List ℕ) where
-  pub all_single : AreSingles pool views → All IsSingle (grids_of pool views)
-  all_single s = All-map IsSingle (grid_at pool) views s.single
-
-  pub singles_by : AreLive pool views → All IsSingle (grids_of pool views) → AreSingles pool views
-  singles_by live single = record {
-    live = live;
-    single = λ k d lt. subst IsSingle (get_or-map (grid_at pool) views k d (grid_at pool d) lt) (single k (grid_at pool d) (omega (arith, grids_long pool views, lt)));
-  }
-
--- views that were exchanged are live, and each stands there once
-pub live_after : (old new : PoolValue) (before after : List ℕ) → AreLive old before → Exchanges old new before after → AreLive new after
-live_after old new before after live e q = omega (arith, live q, e q)
 
 pub map-remove : {X Y : Type 0} (f : X → Y) (xs : List X) (i : ℕ) → map f (remove xs i) ≡ remove (map f xs) i
 map-remove f [] zero = refl

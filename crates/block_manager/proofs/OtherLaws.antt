@@ -2,7 +2,7 @@
 use Rattle.{std.proofs.Common.{◌≡◌, ℕ, suc, ◌<◌, List, [], ◌∷◌, map, length, refl, ap, arith, All, inl, inr}, std.proofs.lemmas.Bool.{cases_lt}, std.specs.{Prelude.{slice_index_or}, FinMap.{get}}, column_core.specs.Blocks.{CellBlock}, block_pool.{specs.Pools.{PoolValue, grid_at}, proofs.ChangeLaws.{grid_kept}}, block_manager.{specs.Managed.{Place, ManagerValue, placed_column, columns_on, times, StandsOn, Keeps, grid_column}, proofs.TimesLaws.{live_once, live_same}}}
 
 -- two functions that agree on the items of a list
-map_by_all : {X Y : Type 0} (f g : X → Y) (xs : List X) → All (λ x. f x ≡ g x) xs → map f xs ≡ map g xs
+pub map_by_all : {X Y : Type 0} (f g : X → Y) (xs : List X) → All (λ x. f x ≡ g x) xs → map f xs ≡ map g xs
 map_by_all f g [] all = refl
 map_by_all f g (x ∷ xs) all =
     let first : f x ≡ g x = all 0 x (omega arith) in

@@ -1,5 +1,5 @@
 -- How often views stand in lists, and how often they are live.
-use Rattle.{std.proofs.Common.{◌≡◌, ◌≢◌, ℕ, zero, suc, ◌+◌, ◌<◌, ◌≤◌, List, [], ◌∷◌, length, refl, ap, arith, Option, Some, None, IsSome, cond, get_or, eq-eqb, inl, inr}, std.proofs.lemmas.{Bool.{cases_eq, ne_eqb, false≢true}, List.Sums.{sum_by-cons, get_or-le-sum_by}}, std.specs.{Prelude.{is_some, ◌==◌}, FinMap.{get}}, block_pool.specs.Pools.{PoolValue, ViewValue, live_count, IsLive, IsFree}, block_manager.specs.Managed.{times, AreLive}}
+use Rattle.{std.proofs.Common.{◌≡◌, ◌≢◌, ℕ, zero, suc, ◌+◌, ◌<◌, ◌≤◌, List, [], ◌∷◌, length, refl, ap, arith, Option, Some, None, IsSome, cond, get_or, eq-eqb, inl, inr}, std.proofs.lemmas.{Bool.{cases_eq, ne_eqb, false≢true}, List.Sums.{sum_by-cons, get_or-le-sum_by}}, std.specs.{Prelude.{is_some, ◌==◌}, FinMap.{get}}, block_pool.specs.Pools.{PoolValue, ViewValue, live_count, view_at, view_or, IsLive, IsFree}, block_manager.specs.Managed.{times, AreLive}}
 
 -- 1 for the view itself, and else 0
 abbrev pub same : ℕ → ℕ → ℕ
@@ -68,3 +68,11 @@ live_in pool views i d live lt =
 -- a view that is the same is as live
 pub live_same : (old new : PoolValue) (q : ℕ) → get new.views q ≡ get old.views q → live_count new q ≡ live_count old q
 live_same old new q same = ap (λ (o : Option ViewValue). cond {A = ℕ} (is_some o) 1 0) same
+
+-- a live view is what is seen of it
+pub live_view : (pool : PoolValue) (q : ℕ) → IsLive pool q → get pool.views q ≡ Some (view_at pool q)
+live_view pool q live = at (get pool.views q) live
+  where
+    at : (o : Option ViewValue) → IsSome o → o ≡ Some (view_or o)
+    at None live = absurd (false≢true live)
+    at (Some v) live = refl

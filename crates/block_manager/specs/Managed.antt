@@ -5,7 +5,7 @@ use Rattle.cell_core.specs.declared.cell.Cell.{Cell}
 use Rattle.column_core.specs.Blocks.{CellBlock}
 use Rattle.meaning_tables.specs.cells.Reduce.{distinct}
 use Rattle.meaning_tables.specs.Table.{ColumnOf, column_at}
-use Rattle.block_pool.specs.Pools.{PoolValue, grid_at, block_at, live_count, total_of, IsSole}
+use Rattle.block_pool.specs.Pools.{PoolValue, ViewValue, grid_at, view_at, live_count, total_of, IsSole}
 
 -- where a column stands: a view, and the column of its grid
 pub record Place : Type 0 where
@@ -18,10 +18,6 @@ pub record ManagerValue : Type 0 where
 
 abbrev pub no_columns : ManagerValue
 no_columns = record { views = []; places = [] }
-
--- a manager whose views show one column each
-abbrev pub one_each : List ℕ → ManagerValue
-one_each views = record { views = views; places = map (λ view. record { view = view; column = 0 }) views }
 
 -- the column of a grid, and the one at a place
 abbrev pub grid_column : CellBlock → ℕ → ColumnOf Cell
@@ -70,10 +66,21 @@ pub record Stays (old new : PoolValue) : Type 0 where
   pub views : new.views ≡ old.views
   pub blocks : new.blocks ≡ old.blocks
 
+-- the block on which a view lies: its name, and how many cells it has
+pub record BlockValue : Type 0 where
+  pub name : ℕ
+  pub cells : ℕ
+
+abbrev pub under : ViewValue → BlockValue
+under view = record { name = view.block; cells = view.cells }
+
+abbrev pub block_under : PoolValue → ℕ → BlockValue
+block_under pool id = under (view_at pool id)
+
 -- the same blocks, and each view on the one on which it lay
 pub record StayOnBlocks (old new : PoolValue) : Type 0 where
   pub blocks : new.blocks ≡ old.blocks
-  pub lies : (id : ℕ) → block_at new id ≡ block_at old id
+  pub lies : (id : ℕ) → block_under new id ≡ block_under old id
 
 -- at most so many cells more are held
 abbrev pub RaisesBy : ℕ → PoolValue → PoolValue → Type 0
@@ -90,3 +97,11 @@ AreSole pool m columns = All (λ column. IsSole pool (view_of m column)) columns
 -- how many cells the columns at these places have, each counted once
 abbrev pub cells_named : List (ColumnOf Cell) → List ℕ → ℕ
 cells_named columns places = sum (map (λ place. length (column_at columns place).cells) (distinct ◌==◌ places))
+
+-- how many rows the first column has
+abbrev pub rows_of : List (ColumnOf Cell) → ℕ
+rows_of columns = length (column_at columns 0).cells
+
+-- columns of one kind are on one view
+abbrev pub AreJoined : PoolValue → ManagerValue → Type 0
+AreJoined pool m = All (λ p. All (λ q. (placed_column pool q).kind ≡ (placed_column pool p).kind → q.view ≡ p.view) m.places) m.places

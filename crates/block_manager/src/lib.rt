@@ -1,9 +1,10 @@
 //! Lists of columns on the views of a pool.
 //!
-//! A [`Manager`] is a list of columns, each of which stands on a view of a pool. Its rows or columns
-//! may be taken as another manager that shares their cells; setting cells then separates what is
-//! shared, so that no other manager sees it. Contracts see the views and the places of the columns
-//! on them, and the columns themselves in the value of the pool.
+//! A [`Manager`] is a list of columns, each of which stands on a view of a pool, where several
+//! columns of one kind may stand side by side. Its rows or columns may be taken as another manager
+//! that shares their cells; setting cells then separates what is shared, so that no other manager
+//! sees it. Contracts see the views and the places of the columns on them, and the columns
+//! themselves in the value of the pool.
 //!
 //! ```text
 //! let mut manager = Manager::new(alloc);
@@ -15,9 +16,12 @@
 //! ```
 #![tactic(auto)]
 
+mod groups;
+mod layout;
 mod manager;
-mod parted;
+mod planning;
 mod setting;
+mod spots;
 mod views;
 
 pub use manager::Manager;

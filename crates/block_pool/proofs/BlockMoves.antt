@@ -1,15 +1,5 @@
 -- Blocks that are new to a pool, and a cell of a block that is set.
-use Rattle.{
-  std.proofs.Common.{◌≡◌, ◌≢◌, ℕ, zero, suc, ◌+◌, ◌-◌, ◌*◌, ◌<◌, ◌≤◌, ◌^◌, Bool, true, false, List, [], ◌∷◌, map, length, refl, ap, ap₂, sym, ◌∙◌, subst, arith, Option, Some, None, IsSome, slice_index_or, inl, inr, sum_by, count_by},
-  std.proofs.lemmas.{Bool.{false≢true, cases_eq}, Option.{same_Some}},
-  std.specs.{Prelude.{is_some}, Option.{option_map}, FinMap.{FinMap, get, insert}, Ordering.{nat_cmp}},
-  column_core.proofs.cells.Common.{Cell},
-  column_core.{specs.{Blocks.{CellBlock}, Lanes.{lane_place}}},
-  block_pool.{
-    specs.{declared.{views.View.{View}, lots.Lot.{Lot}}, Pools.{ViewValue, PoolValue, view_at, block_at, grid_at, cells_of, IsSole, Adds, Owns, with_grid, grid_with}, Placed.{slot, Puts, shown_grid, block_of, size_of, users_of, lot_cells, left, seen_over, pool_value, lies_on, IsEven, IsPlaced, IsPool}},
-    proofs.{Slots.{inserted, unchanged, sum_put, puts_again}, PoolLaws.{on, one_if_some, on_same, on_other, some_user, live_lot, two_users, users_from_sole, block_is, grid_is, seen_is, block_new}, LotLaws.{seen_kept}, ShowLaws.{whole_view, shown_whole, whole_placed, block_with_cell, set_length, set_even, set_placed, set_shown}},
-  },
-}
+use Rattle.{std.proofs.Common.{◌≡◌, ◌≢◌, ℕ, ◌+◌, ◌*◌, ◌<◌, ◌≤◌, List, length, refl, ap, ap₂, sym, ◌∙◌, subst, arith, Option, Some, None, IsSome, inl, inr, count_by}, std.proofs.lemmas.{Bool.{cases_eq}, Option.{same_Some}}, std.specs.{Prelude.{is_some}, Option.{option_map}, FinMap.{FinMap, insert}, Ordering.{nat_cmp}}, column_core.proofs.cells.Common.{Cell}, column_core.{specs.{Blocks.{CellBlock}, Lanes.{lane_place}}}, block_pool.{specs.{declared.{views.View.{View}, lots.Lot.{Lot}}, Pools.{ViewValue, PoolValue, full_view, view_at, view_with, grid_at, cells_of, IsSole, Adds, with_grid, grid_with}, Placed.{slot, Puts, shown_grid, block_of, size_of, users_of, lot_cells, view_on, seen_over, pool_value, IsEven, IsPlaced, IsPool}}, proofs.{Slots.{inserted, unchanged, sum_put}, PoolLaws.{on, on_same, on_other, some_user, two_users, users_from_sole, block_is, grid_is, size_is, block_new}, LotLaws.{seen_kept}, ShowLaws.{whole_view, shown_whole, whole_placed, block_with_cell, set_length, set_even, set_placed, set_shown}}}}
 
 abbrev pub new_lot : CellBlock → Lot
 new_lot g = record { block = g; users = 1 }
@@ -62,9 +52,9 @@ module _ (lots lots' : List (Option Lot)) (views views' : List (Option View)) (s
 
   pub adds : (pool : PoolValue) → pool_value lots views spare ≡ pool → Adds pool (pool_value lots' views' spare) key g
   adds pool e =
-      let seen : ViewValue = record { block = name; grid = g } in
-      let here : seen_over lots' (whole_view name g) ≡ seen =
-      ap (λ (grid : CellBlock). record { block = name; grid = grid }) (ap (λ (o : Option Lot). shown_grid (block_of o) (whole_view name g)) put_lot.changed ∙ shown_whole g name even) in
+      let here : seen_over lots' (whole_view name g) ≡ full_view name g =
+      ap (λ (o : Option Lot). view_on (block_of o) (whole_view name g)) put_lot.changed
+      ∙ ap (view_with (full_view name g)) (shown_whole g name even) in
       record {
         block = name;
         new_block = block_new lots views spare capacity held ok pool e name fresh;
@@ -127,8 +117,11 @@ module _ (lots lots' : List (Option Lot)) (views : List (Option View)) (spare ca
       let single = users_from_sole lots views spare capacity held ok pool e id v is sole in
       let apart : (q : ℕ) (w : View) → q ≢ id → slot views q ≡ Some w → w.block ≢ v.block = λ q w ne is_w same. omega (arith, two_users lots views spare capacity held ok pool e id v is q w ne is_w same, single) in
       let grid : CellBlock = shown_grid (block_of (slot lots v.block)) v in
-      let here : seen_over lots' v ≡ record { block = block_at pool id; grid = grid_with (grid_at pool id) column row cell } =
-      ap₂ (λ (b : ℕ) (g : CellBlock). record { block = b; grid = g }) (sym (block_is lots views spare pool e id v is))
+      let size : cells_of (block_of (slot lots' v.block)) ≡ (view_at pool id).cells =
+      ap (λ (o : Option Lot). cells_of (block_of o)) put_lot.changed ∙ sizes ∙ ap (λ (o : Option Lot). cells_of (block_of o)) (sym there) ∙ sym (size_is lots views spare pool e id v is) in
+      let here : seen_over lots' v ≡ view_with (view_at pool id) (grid_with (grid_at pool id) column row cell) =
+      ap₂ (λ (b n : ℕ). record { block = b; cells = n; grid = shown_grid (block_of (slot lots' v.block)) v }) (sym (block_is lots views spare pool e id v is)) size
+      ∙ ap (view_with (view_at pool id))
       (ap (λ (o : Option Lot). shown_grid (block_of o) v) put_lot.changed
       ∙ set_shown lot.block v column row cell even placed lt below
       ∙ ap (λ (o : Option Lot). grid_with (shown_grid (block_of o) v) column row cell) (sym there)
@@ -137,4 +130,4 @@ module _ (lots lots' : List (Option Lot)) (views : List (Option View)) (spare ca
       ∙ ap₂ (λ (p : PoolValue) (s : ViewValue). insert p.views id s) e here in
       let all_blocks = unchanged lot_cells lot_cells lots lots' v.block (λ q w ne is_w. refl) _ put_lot (ap Some sizes ∙ ap (option_map lot_cells) (sym there)) ∙ ap (λ (p : PoolValue). p.blocks) e in
       ap₂ (λ (m : FinMap nat_cmp ViewValue) (b : FinMap nat_cmp ℕ). record { views = m; blocks = b; spare = spare }) all_views all_blocks
-      ∙ ap (λ (p : PoolValue). record { views = insert pool.views id record { block = block_at pool id; grid = grid_with (grid_at pool id) column row cell }; blocks = pool.blocks; spare = p.spare }) e
+      ∙ ap (λ (p : PoolValue). record { views = insert pool.views id (view_with (view_at pool id) (grid_with (grid_at pool id) column row cell)); blocks = pool.blocks; spare = p.spare }) e

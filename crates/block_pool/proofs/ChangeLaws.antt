@@ -4,7 +4,7 @@ use Rattle.{
   std.proofs.lemmas.Bool.{false≢true, cases_eq, ne_eqb},
   std.specs.{Prelude.{is_some, ◌==◌}, Cmp.{nat_cmp_total}, FinMap.{FinMap, get, insert, remove, get-insert, get-remove, same_map, nat_cmp-IsAntisymmetric}, Ordering.{nat_cmp}},
   column_core.specs.Blocks.{CellBlock},
-  block_pool.{specs.Pools.{PoolValue, ViewValue, view_or, view_at, grid_at, block_at, live_count, IsLive, IsFree, IsSole, Adds, Shares, Owns, Ends, with_grid}, proofs.Slots.{tied, apart_keys}},
+  block_pool.{specs.Pools.{PoolValue, ViewValue, full_view, view_or, view_at, view_with, grid_at, block_at, live_count, IsLive, IsFree, IsSole, Adds, Shares, Owns, Ends, with_grid}, proofs.Slots.{tied, apart_keys}},
 }
 
 module _ {X : Type 0} (m : FinMap nat_cmp X) (id : ℕ) where
@@ -81,7 +81,7 @@ module _ (old new : PoolValue) (id : ℕ) (same : get new.views id ≡ get old.v
   block_kept = ap (λ (v : ViewValue). v.block) view_kept
 
 -- a view that is known
-module _ (pool : PoolValue) (id block : ℕ) (grid : CellBlock) (is : get pool.views id ≡ Some record { block = block; grid = grid }) where
+module _ (pool : PoolValue) (id block : ℕ) {cells : ℕ} (grid : CellBlock) (is : get pool.views id ≡ Some record { block = block; cells = cells; grid = grid }) where
   pub live_is : IsLive pool id
   live_is = subst IsSome (sym is) refl
 
@@ -93,7 +93,7 @@ module _ (pool : PoolValue) (id block : ℕ) (grid : CellBlock) (is : get pool.v
 
 -- a view on a new block
 module _ (old new : PoolValue) (id : ℕ) (grid : CellBlock) (adds : Adds old new id grid) where
-  pub adds_view : get new.views id ≡ Some record { block = adds.block; grid = grid }
+  pub adds_view : get new.views id ≡ Some (full_view adds.block grid)
   adds_view = ap (λ (m : FinMap nat_cmp ViewValue). get m id) adds.views ∙ get-put old.views id _
 
   pub adds_count : IsFree old id → (q : ℕ) → live_count new q ≡ live_count old q + cond {A = ℕ} (id == q) 1 0
@@ -110,7 +110,7 @@ module _ (old new : PoolValue) (id : ℕ) (grid : CellBlock) (adds : Adds old ne
   pub adds_sole : (q : ℕ) → q ≢ id → IsLive old q → IsSole old q → IsSole new q
   adds_sole q ne live sole other view there apart same = elim (cases_eq other id) [
     | inl e ↦
-        let new_view : Some view ≡ Some record { block = adds.block; grid = grid } = sym there ∙ ap (get new.views) e ∙ adds_view in
+        let new_view : Some view ≡ Some (full_view adds.block grid) = sym there ∙ ap (get new.views) e ∙ adds_view in
         on_new (get old.views q) refl live
         (sym (block_kept old new q (adds_other q ne)) ∙ sym same ∙ ap (λ (o : Option ViewValue). (view_or o).block) new_view)
     | inr n ↦ sole other view (sym (adds_other other n) ∙ there) apart (same ∙ block_kept old new q (adds_other q ne))
@@ -122,7 +122,7 @@ module _ (old new : PoolValue) (id : ℕ) (grid : CellBlock) (adds : Adds old ne
 
 -- a view more on the block of another
 module _ (old new : PoolValue) (id from : ℕ) (grid : CellBlock) (shares : Shares old new id from grid) where
-  pub shares_view : get new.views id ≡ Some record { block = block_at old from; grid = grid }
+  pub shares_view : get new.views id ≡ Some (view_with (view_at old from) grid)
   shares_view = ap (λ (m : FinMap nat_cmp ViewValue). get m id) shares.views ∙ get-put old.views id _
 
   pub shares_count : IsFree old id → (q : ℕ) → live_count new q ≡ live_count old q + cond {A = ℕ} (id == q) 1 0
@@ -148,14 +148,14 @@ module _ (old new : PoolValue) (id from : ℕ) (grid : CellBlock) (shares : Shar
   pub shares_sole : (q : ℕ) → q ≢ id → block_at old q ≢ block_at old from → IsSole old q → IsSole new q
   shares_sole q ne elsewhere sole other view there apart same = elim (cases_eq other id) [
     | inl e ↦
-        let new_view : Some view ≡ Some record { block = block_at old from; grid = grid } = sym there ∙ ap (get new.views) e ∙ shares_view in
+        let new_view : Some view ≡ Some (view_with (view_at old from) grid) = sym there ∙ ap (get new.views) e ∙ shares_view in
         elsewhere (sym (block_kept old new q (shares_other q ne)) ∙ sym same ∙ ap (λ (o : Option ViewValue). (view_or o).block) new_view)
     | inr n ↦ sole other view (sym (shares_other other n) ∙ there) apart (same ∙ block_kept old new q (shares_other q ne))
   ]
 
 -- a view that moved to a block of its own
 module _ (old new : PoolValue) (id : ℕ) (owns : Owns old new id) where
-  pub owns_view : get new.views id ≡ Some record { block = owns.block; grid = grid_at old id }
+  pub owns_view : get new.views id ≡ Some (full_view owns.block (grid_at old id))
   owns_view = ap (λ (m : FinMap nat_cmp ViewValue). get m id) owns.views ∙ get-put old.views id _
 
   pub owns_count : IsLive old id → (q : ℕ) → live_count new q ≡ live_count old q
@@ -182,7 +182,7 @@ module _ (old new : PoolValue) (id : ℕ) (owns : Owns old new id) where
   pub owns_sole : (q : ℕ) → q ≢ id → IsLive old q → ((other : ℕ) (view : ViewValue) → get old.views other ≡ Some view → other ≢ q → other ≢ id → view.block ≢ block_at old q) → IsSole new q
   owns_sole q ne live alone other view there apart same = elim (cases_eq other id) [
     | inl e ↦
-        let new_view : Some view ≡ Some record { block = owns.block; grid = grid_at old id } = sym there ∙ ap (get new.views) e ∙ owns_view in
+        let new_view : Some view ≡ Some (full_view owns.block (grid_at old id)) = sym there ∙ ap (get new.views) e ∙ owns_view in
         on_new (get old.views q) refl live
         (sym (block_kept old new q (owns_other q ne)) ∙ sym same ∙ ap (λ (o : Option ViewValue). (view_or o).block) new_view)
     | inr n ↦ alone other view (sym (owns_other other n) ∙ there) apart n (same ∙ block_kept old new q (owns_other q ne))
@@ -212,7 +212,7 @@ module _ (old new : PoolValue) (id : ℕ) (ends : Ends old new id) where
 
 -- a view with another grid
 module _ (pool : PoolValue) (id : ℕ) (grid : CellBlock) where
-  pub with_grid_view : get (with_grid pool id grid).views id ≡ Some record { block = block_at pool id; grid = grid }
+  pub with_grid_view : get (with_grid pool id grid).views id ≡ Some (view_with (view_at pool id) grid)
   with_grid_view = get-put pool.views id _
 
   pub with_grid_count : IsLive pool id → (q : ℕ) → live_count (with_grid pool id grid) q ≡ live_count pool q

@@ -1,11 +1,5 @@
 -- Columns that are shown, and copies that are made cell by cell.
-use Rattle.{
-  column_core.proofs.cells.Common.{◌≡◌, ◌≢◌, ℕ, zero, suc, ◌+◌, ◌-◌, ◌*◌, ◌<◌, ◌≤◌, ◌^◌, ℤ, pos, negsuc, Bool, true, false, List, [], ◌∷◌, ◌++◌, length, take, drop, replicate, slice_set, slice_get, slice_index_or, refl, sym, ap, ◌∙◌, subst, arith, Option, Some, None, add-one, length-append, length-set, length-replicate, get_or-set_same, Cell, Na, Rows, place_from, AreRowsBelow, tabulate, with_cell},
-  std.proofs.{Common.{ap₂}, lemmas.List.{get_or-replicate, set-set}},
-  column_core.specs.cells.Block.{strided, filled_with},
-  column_core.{specs.{Lanes.{LaneFits, lane_place}, Blocks.{CellBlock}}, proofs.{ColumnLaws.{length-tabulate, get-tabulate}, CellRows.{range-same}}},
-  block_pool.specs.{declared.views.View.{View}, Placed.{step_of, shown_cell, shown_column, shown_grid}},
-}
+use Rattle.{column_core.proofs.cells.Common.{◌≡◌, ℕ, zero, suc, ◌+◌, ◌-◌, ◌<◌, ◌≤◌, Bool, true, false, List, [], ◌∷◌, ◌++◌, length, take, drop, replicate, slice_set, slice_get, slice_index_or, refl, sym, ap, ◌∙◌, arith, Some, add-one, length-replicate, get_or-set_same, Cell, Na, place_from, tabulate, with_cell}, std.proofs.{Common.{ap₂, map}, Math.Seq.{take-append_seam, drop-append_seam}, lemmas.{List.{get_or-replicate, set-set, length-map, length-drop, length-take-le, get_or-map}, Option.{slice_get-get_or}}}, column_core.specs.cells.Block.{strided, filled_with}, column_core.{specs.{Lanes.{lane_place}, Blocks.{CellBlock}}, proofs.{ColumnLaws.{length-tabulate, get-tabulate}, CellRows.{range-same}}}, block_pool.specs.{declared.views.View.{View}, Placed.{step_of, shown_cell, shown_column, shown_grid}}}
 
 -- a place by the step of a view's rows
 pub place_step : (start stride : ℕ) (back : Bool) (row : ℕ) → place_from start (step_of stride back) row ≡ lane_place start stride back row
@@ -94,3 +88,49 @@ pub one_column : (block : CellBlock) (v : View) (cells : List Cell) → v.column
 one_column block v cells one is =
     ap₂ (λ (n : ℕ) (columns : List (List Cell)). record { kind = block.kind; rows = n; columns = columns }) (ap length is ∙ length-tabulate v.count _)
     (ap (λ (l : List Cell). l ∷ []) is ∙ ap (λ n. tabulate n (shown_column block v)) (sym one))
+
+-- a list behind another one, of which one item is set
+set_behind : {X : Type 0} (front xs : List X) (i : ℕ) (x : X) → slice_set (front ++ xs) (length front + i) x ≡ front ++ slice_set xs i x
+set_behind [] xs i x = (let e : zero + i ≡ i = omega arith in ap (λ k. slice_set xs k x) e)
+set_behind (y ∷ front) xs i x = (let e : suc (length front) + i ≡ suc (length front + i) = omega arith in ap (λ k. slice_set (y ∷ (front ++ xs)) k x) e ∙ ap (λ l. y ∷ l) (set_behind front xs i x))
+
+behind_at : {X : Type 0} (front xs : List X) (i : ℕ) (d : X) → slice_index_or (front ++ xs) (length front + i) d ≡ slice_index_or xs i d
+behind_at [] xs i d = (let e : zero + i ≡ i = omega arith in ap (λ k. slice_index_or xs k d) e)
+behind_at (y ∷ front) xs i d = (let e : suc (length front) + i ≡ suc (length front + i) = omega arith in ap (λ k. slice_index_or (y ∷ (front ++ xs)) k d) e ∙ behind_at front xs i d)
+
+-- items behind others are changed
+pub changed_behind : {X : Type 0} (f : X → X) (list xs : List X) (from : ℕ) → from ≡ length list → take from (list ++ xs) ++ map f (drop from (list ++ xs)) ≡ list ++ map f xs
+changed_behind f list xs from e =
+    ap (λ n. take n (list ++ xs) ++ map f (drop n (list ++ xs))) e
+    ∙ ap₂ (λ a b. a ++ map f b) (take-append_seam list xs) (drop-append_seam list xs)
+
+-- one more of the items from a place on is changed
+module _ {X : Type 0} (f : X → X) (old : List X) (from k : ℕ) (le : from ≤ k) (lt : k < length old) (now : List X) (so_far : now ≡ take from old ++ (take (k - from) (map f (drop from old)) ++ drop (k - from) (drop from old))) where
+  abbrev rest : List X
+  rest = drop from old
+
+  front_long : length (take from old) ≡ from
+  front_long = length-take-le from old (omega (arith, le, lt))
+
+  rest_long : k - from < length rest
+  rest_long = omega (arith, length-drop from old, le, lt)
+
+  place : length (take from old) + (k - from) ≡ k
+  place = omega (arith, front_long, le)
+
+  pub changed_next : (d : X) → slice_index_or now k d ≡ slice_index_or rest (k - from) d
+  changed_next d =
+      ap (λ l. slice_index_or l k d) so_far
+      ∙ ap (λ i. slice_index_or (take from old ++ (take (k - from) (map f rest) ++ drop (k - from) rest)) i d) (sym place)
+      ∙ behind_at (take from old) (take (k - from) (map f rest) ++ drop (k - from) rest) (k - from) d
+      ∙ mixed_next (map f rest) rest (k - from) d (omega (arith, rest_long, length-map rest f))
+
+  pub changed_more : (x : X) → x ≡ f (slice_index_or now k x) → slice_set now k x ≡ take from old ++ (take (k + 1 - from) (map f rest) ++ drop (k + 1 - from) rest)
+  changed_more x is =
+      let there : slice_get (map f rest) (k - from) ≡ Some x = slice_get-get_or (map f rest) (k - from) x (omega (arith, rest_long, length-map rest f)) ∙ ap Some (get_or-map f rest (k - from) x x rest_long ∙ ap f (sym (changed_next x)) ∙ sym is) in
+      let next : k - from + 1 ≡ k + 1 - from = omega (arith, le) in
+      ap (λ l. slice_set l k x) so_far
+      ∙ ap (λ i. slice_set (take from old ++ (take (k - from) (map f rest) ++ drop (k - from) rest)) i x) (sym place)
+      ∙ set_behind (take from old) (take (k - from) (map f rest) ++ drop (k - from) rest) (k - from) x
+      ∙ ap (λ l. take from old ++ l) (mixed_more (map f rest) rest (k - from) x there rest_long)
+      ∙ ap (λ n. take from old ++ (take n (map f rest) ++ drop n rest)) next

@@ -1,11 +1,5 @@
 -- How many cells more a pool holds after a change. These laws are for callers.
-use Rattle.{
-  std.proofs.Common.{◌≡◌, ℕ, ◌+◌, ◌≤◌, ◌∙◌, refl, ap, sym, arith, List, map, Option, Some, None, inl, inr, cond},
-  std.proofs.lemmas.{Bool.{cases_eq, cases_lt}, List.{nil_from_length}},
-  std.specs.{Prelude.{sum}, Cmp.{nat_cmp_total}, FinMap.{FinMap, get, insert, remove, empty, entries, values, get-empty, get-remove, len-empty, len-entries, same_map, nat_cmp-IsAntisymmetric}, Ordering.{nat_cmp}},
-  column_core.specs.Blocks.{CellBlock},
-  block_pool.{specs.Pools.{PoolValue, Adds, Shares, Owns, Ends, IsFree, IsSole, KeepsBlocks, total_of, cells_of, grid_at, block_at}, proofs.{TotalLaws.{total-insert, total-remove}, Slots.{tied, apart_keys}}},
-}
+use Rattle.{std.proofs.Common.{◌≡◌, ℕ, ◌+◌, ◌≤◌, ◌∙◌, refl, ap, sym, arith, List, map, Option, Some, None, inl, inr, cond}, std.proofs.lemmas.{Bool.{cases_eq, cases_lt}, List.{nil_from_length}}, std.specs.{Prelude.{sum}, Cmp.{nat_cmp_total}, FinMap.{FinMap, get, remove, empty, entries, values, get-empty, get-remove, len-empty, len-entries, same_map, nat_cmp-IsAntisymmetric}, Ordering.{nat_cmp}}, column_core.specs.Blocks.{CellBlock}, block_pool.{specs.Pools.{PoolValue, Adds, Shares, Owns, Ends, IsFree, IsSole, KeepsBlocks, total_of, cells_of, grid_at, block_at}, proofs.{TotalLaws.{total-insert, total-remove}, Slots.{tied, apart_keys}}}}
 
 abbrev total : FinMap nat_cmp ℕ → ℕ
 total m = sum (values m)

@@ -4,6 +4,8 @@ pub mod CopyLaws
 pub mod PoolLaws
 pub mod LotLaws
 pub mod ShowLaws
+pub mod FullLaws
+pub mod JoinLaws
 pub mod LyingLaws
 pub mod BlockMoves
 pub mod OwnLaws

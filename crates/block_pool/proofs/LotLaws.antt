@@ -1,11 +1,5 @@
 -- Lots with one view more or less, and views that are laid on them or end.
-use Rattle.{
-  std.proofs.Common.{◌≡◌, ◌≢◌, ℕ, zero, suc, ◌+◌, ◌-◌, ◌*◌, ◌<◌, ◌≤◌, ◌^◌, Bool, true, false, List, [], ◌∷◌, map, length, refl, ap, ap₂, sym, ◌∙◌, subst, arith, Option, Some, None, IsSome, slice_index_or, cond, inl, inr, sum_by, count_by, eq-eqb},
-  std.proofs.lemmas.{Bool.{false≢true, eqb-true, cases_eq, ne_eqb}, Option.{same_Some}},
-  std.specs.{Prelude.{is_some, ◌==◌}, Option.{option_map}, FinMap.{FinMap, get, insert, remove}, Ordering.{nat_cmp}},
-  column_core.specs.Blocks.{CellBlock},
-  block_pool.{specs.{declared.{views.View.{View}, lots.Lot.{Lot}}, Pools.{ViewValue, PoolValue, block_at, grid_at, IsSole, Shares, Ends}, Placed.{slot, Puts, shown_grid, block_of, size_of, users_of, lot_cells, entered, left, seen_over, pool_value, lies_on, IsEven, IsPlaced, IsPool}}, proofs.{Slots.{inserted, removed, unchanged, sum_put}, PoolLaws.{on, one_if_some, on_same, on_other, some_user, live_lot, two_users, users_from_sole, shared_users, no_block_even, block_is}}},
-}
+use Rattle.{std.proofs.Common.{◌≡◌, ◌≢◌, ℕ, ◌+◌, ◌<◌, List, refl, ap, ap₂, sym, ◌∙◌, subst, arith, Option, Some, None, IsSome, inl, inr, eq-eqb}, std.proofs.lemmas.{Bool.{false≢true, cases_eq, ne_eqb}, Option.{same_Some}}, std.specs.{Option.{option_map}, FinMap.{insert, remove}}, column_core.specs.Blocks.{CellBlock}, block_pool.{specs.{declared.{views.View.{View}, lots.Lot.{Lot}}, Pools.{ViewValue, PoolValue, view_at, view_with, block_at, cells_of, Shares, Ends}, Placed.{slot, Puts, shown_grid, block_of, size_of, users_of, lot_cells, entered, left, view_on, seen_over, pool_value, IsEven, IsPlaced, IsPool}}, proofs.{Slots.{inserted, removed, unchanged, sum_put}, PoolLaws.{on, one_if_some, on_same, on_other, some_user, two_users, users_from_sole, shared_users, no_block_even, block_is}}}}
 
 -- a lot with one view more
 pub entered_block : (o : Option Lot) → block_of (entered o) ≡ block_of o
@@ -71,7 +65,7 @@ kept_blocks lots lots' b o puts same c = elim (cases_eq c b) [
 
 -- a view over a block that stays
 pub seen_kept : (lots lots' : List (Option Lot)) (w : View) → block_of (slot lots' w.block) ≡ block_of (slot lots w.block) → seen_over lots' w ≡ seen_over lots w
-seen_kept lots lots' w kept = ap (λ (g : CellBlock). record { block = w.block; grid = shown_grid g w }) kept
+seen_kept lots lots' w kept = ap (λ (g : CellBlock). view_on g w) kept
 
 -- a view is laid on a block
 module _ (lots lots' : List (Option Lot)) (views views' : List (Option View)) (spare spare' capacity held key : ℕ) (v : View)
@@ -105,10 +99,13 @@ module _ (lots lots' : List (Option Lot)) (views views' : List (Option View)) (s
     cells = (let more = sum_put size_of refl lots lots' v.block _ put_lot in omega (arith, more, entered_size (slot lots v.block), ok.cells));
   }
 
-  pub laid_shares : (pool : PoolValue) → pool_value lots views spare ≡ pool → (from : ℕ) (grid : CellBlock) → block_at pool from ≡ v.block → shown_grid (block_of (slot lots v.block)) v ≡ grid → Shares pool (pool_value lots' views' spare') key from grid
-  laid_shares pool e from grid at shows =
-      let seen : ViewValue = record { block = block_at pool from; grid = grid } in
-      let here : seen_over lots' v ≡ seen = ap₂ (λ (b : ℕ) (g : CellBlock). record { block = b; grid = g }) (sym at) (ap (λ (g : CellBlock). shown_grid g v) (laid_blocks v.block) ∙ shows) in
+  pub laid_shares : (pool : PoolValue) → pool_value lots views spare ≡ pool → (from : ℕ) (grid : CellBlock) → block_at pool from ≡ v.block → (view_at pool from).cells ≡ cells_of (block_of (slot lots v.block)) → shown_grid (block_of (slot lots v.block)) v ≡ grid → Shares pool (pool_value lots' views' spare') key from grid
+  laid_shares pool e from grid at size shows =
+      let seen : ViewValue = view_with (view_at pool from) grid in
+      let here : seen_over lots' v ≡ seen =
+      ap (λ (g : CellBlock). view_on g v) (laid_blocks v.block)
+      ∙ ap₂ (λ (b n : ℕ). record { block = b; cells = n; grid = shown_grid (block_of (slot lots v.block)) v }) (sym at) (sym size)
+      ∙ ap (view_with (view_at pool from)) shows in
       record {
         views = inserted (seen_over lots) (seen_over lots') views views' key (λ q w ne is. seen_kept lots lots' w (laid_blocks w.block)) v put_view
             ∙ ap₂ (λ (p : PoolValue) (s : ViewValue). insert p.views key s) e here;

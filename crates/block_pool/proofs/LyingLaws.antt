@@ -1,12 +1,5 @@
 -- A live view over its lot, and what is seen of it.
-use Rattle.{
-  std.proofs.Common.{◌≡◌, ℕ, List, length, refl, ap, ◌∙◌, Option, Some},
-  column_core.specs.Blocks.{CellBlock},
-  block_pool.{
-    specs.{declared.{views.View.{View}, lots.Lot.{Lot}}, Pools.{PoolValue, grid_at}, Placed.{slot, shown_grid, pool_value, IsEven, IsPlaced, IsPool}},
-    proofs.{PoolLaws.{grid_on, placed_on, even_on}, ShowLaws.{columns_of}},
-  },
-}
+use Rattle.{std.proofs.Common.{◌≡◌, ℕ, List, length, ap, ◌∙◌, Option, Some}, column_core.specs.Blocks.{CellBlock}, block_pool.{specs.{declared.{views.View.{View}, lots.Lot.{Lot}}, Pools.{PoolValue, grid_at}, Placed.{slot, shown_grid, pool_value, IsEven, IsPlaced, IsPool}}, proofs.{PoolLaws.{grid_on, placed_on, even_on}, ShowLaws.{columns_of}}}}
 
 -- the view lies on the lot's block, and its grid is what it shows of the block
 pub record Lies (pool : PoolValue) (id : ℕ) (v : View) (lot : Lot) : Type 0 where

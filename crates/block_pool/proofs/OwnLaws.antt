@@ -1,14 +1,5 @@
 -- A view that moves to a block of its own.
-use Rattle.{
-  std.proofs.Common.{◌≡◌, ◌≢◌, ℕ, ◌+◌, ◌-◌, ◌*◌, ◌<◌, ◌≤◌, List, refl, ap, ap₂, sym, ◌∙◌, subst, arith, Option, Some, None, IsSome, inl, inr, sum_by, count_by},
-  std.proofs.lemmas.{Bool.{cases_eq}, Option.{same_Some}},
-  std.specs.{Option.{option_map}, FinMap.{FinMap, get, insert}, Ordering.{nat_cmp}},
-  column_core.specs.Blocks.{CellBlock},
-  block_pool.{
-    specs.{declared.{views.View.{View}, lots.Lot.{Lot}}, Pools.{ViewValue, PoolValue, grid_at, cells_of, IsSole, Owns}, Placed.{slot, Puts, shown_grid, block_of, size_of, users_of, lot_cells, left, seen_over, pool_value, IsEven, IsPlaced, IsPool}},
-    proofs.{Slots.{inserted, unchanged, sum_put}, PoolLaws.{on, one_if_some, on_same, on_other, some_user, grid_is, block_new, sole_from_users}, LotLaws.{seen_kept, left_users, left_block, left_cells}, ShowLaws.{whole_view, shown_whole, whole_placed}, BlockMoves.{new_lot}},
-  },
-}
+use Rattle.{std.proofs.Common.{◌≡◌, ◌≢◌, ℕ, ◌+◌, ◌<◌, List, refl, ap, ap₂, sym, ◌∙◌, subst, arith, Option, Some, None, IsSome, inl, inr}, std.proofs.lemmas.{Bool.{cases_eq}, Option.{same_Some}}, std.specs.{FinMap.{insert}}, column_core.specs.Blocks.{CellBlock}, block_pool.{specs.{declared.{views.View.{View}, lots.Lot.{Lot}}, Pools.{ViewValue, PoolValue, full_view, view_with, grid_at, cells_of, IsSole, Owns}, Placed.{slot, Puts, block_of, size_of, users_of, lot_cells, left, view_on, seen_over, pool_value, IsEven, IsPlaced, IsPool}}, proofs.{Slots.{inserted, unchanged, sum_put}, PoolLaws.{on, one_if_some, on_same, on_other, some_user, block_new, sole_from_users}, LotLaws.{seen_kept, left_users, left_block, left_cells}, ShowLaws.{whole_view, shown_whole, whole_placed}, BlockMoves.{new_lot}}}}
 
 module _ (lots lots' lots'' : List (Option Lot)) (views views' : List (Option View)) (spare capacity held held' name id : ℕ) (v : View) (g : CellBlock)
     (ok : IsPool lots views spare capacity held) (is : slot views id ≡ Some v) (many : 1 < users_of (slot lots v.block)) (even : IsEven g) (fresh : slot lots name ≡ None)
@@ -87,9 +78,10 @@ module _ (lots lots' lots'' : List (Option Lot)) (views views' : List (Option Vi
 
   pub owns : (pool : PoolValue) → pool_value lots views spare ≡ pool → g ≡ grid_at pool id → Owns pool (pool_value lots'' views' spare) id
   owns pool e same =
-      let seen : ViewValue = record { block = name; grid = grid_at pool id } in
-      let here : seen_over lots'' (whole_view name g) ≡ seen =
-      ap (λ (grid : CellBlock). record { block = name; grid = grid }) (ap (λ (o : Option Lot). shown_grid (block_of o) (whole_view name g)) at_new ∙ shown_whole g name even ∙ same) in
+      let here : seen_over lots'' (whole_view name g) ≡ full_view name (grid_at pool id) =
+      ap (λ (o : Option Lot). view_on (block_of o) (whole_view name g)) at_new
+      ∙ ap (view_with (full_view name g)) (shown_whole g name even)
+      ∙ ap (full_view name) same in
       let before : users_of (slot lots' v.block) ≡ users_of (slot lots v.block) = ap users_of (put_new.others v.block apart) in
       let more : 1 < users_of (slot lots' v.block) = omega (arith, before, many) in
       record {

@@ -1,12 +1,5 @@
 -- What is seen of a pool, and which views are alone on their blocks.
-use Rattle.{
-  std.proofs.Common.{◌≡◌, ◌≢◌, ℕ, zero, suc, ◌+◌, ◌-◌, ◌*◌, ◌<◌, ◌≤◌, ◌^◌, Bool, true, false, List, [], ◌∷◌, map, length, refl, ap, ap₂, sym, ◌∙◌, subst, arith, Option, Some, None, IsSome, slice_index_or, cond, inl, inr, sum_by, count_by, eq-eqb, get_or-set_other},
-  std.proofs.lemmas.{Bool.{false≢true, eqb-true, cases_eq, ne_eqb}, List.{length-set}, List.Sums.{sum_by-cons, sum_by-set, get_or-le-sum_by}},
-  std.specs.{Prelude.{sum, is_some, slice_set, ◌==◌}, Option.{option_map}, FinMap.{FinMap, get, values, same_map, get-empty, nat_cmp-IsAntisymmetric}, Cmp.{nat_cmp_total}, Ordering.{nat_cmp}},
-  std.proofs.Common.{set},
-  column_core.specs.Blocks.{CellBlock},
-  block_pool.{specs.{declared.{views.View.{View}, lots.Lot.{Lot}}, Pools.{ViewValue, PoolValue, view_or, view_at, grid_at, block_at, IsLive, IsFree, IsSole, IsNewBlock, empty_pool, total_of, held_of}, Placed.{slot, Puts, shown_grid, block_of, size_of, users_of, lot_cells, seen_over, pool_value, lies_on, IsEven, IsPlaced, IsPool}}, proofs.Slots.{get-slots_map, sum-mapped, get-mapped, size_within, sum_put}},
-}
+use Rattle.{std.proofs.Common.{◌≡◌, ◌≢◌, ℕ, zero, suc, ◌+◌, ◌<◌, ◌≤◌, ◌^◌, Bool, true, false, List, [], ◌∷◌, length, refl, ap, ap₂, sym, ◌∙◌, subst, arith, Option, Some, None, IsSome, slice_index_or, cond, sum_by, count_by, eq-eqb, get_or-set_other}, std.proofs.lemmas.{Bool.{false≢true, eqb-true, ne_eqb}, List.{length-set}, List.Sums.{sum_by-cons, sum_by-set, get_or-le-sum_by}}, std.specs.{Prelude.{sum, is_some, ◌==◌}, Option.{option_map}, FinMap.{FinMap, get, values, same_map, get-empty, nat_cmp-IsAntisymmetric}, Cmp.{nat_cmp_total}, Ordering.{nat_cmp}}, std.proofs.Common.{set}, block_pool.{specs.{declared.{views.View.{View}, lots.Lot.{Lot}}, Pools.{ViewValue, PoolValue, view_or, view_at, grid_at, block_at, cells_of, IsLive, IsFree, IsSole, IsNewBlock, empty_pool, total_of, held_of}, Placed.{slot, shown_grid, block_of, size_of, users_of, lot_cells, seen_over, pool_value, lies_on, IsEven, IsPlaced, IsPool}}, proofs.Slots.{get-slots_map, sum-mapped, get-mapped, size_within}}}
 
 -- one where a view lies on the block, and none else
 abbrev pub on : ℕ → Option View → ℕ
@@ -66,6 +59,9 @@ module _ (lots : List (Option Lot)) (views : List (Option View)) (spare : ℕ) w
 
   pub block_is : (pool : PoolValue) → seen_pool ≡ pool → (id : ℕ) (v : View) → slot views id ≡ Some v → block_at pool id ≡ v.block
   block_is pool e id v is = ap (λ (s : ViewValue). s.block) (seen_is pool e id v is)
+
+  pub size_is : (pool : PoolValue) → seen_pool ≡ pool → (id : ℕ) (v : View) → slot views id ≡ Some v → (view_at pool id).cells ≡ cells_of (block_of (slot lots v.block))
+  size_is pool e id v is = ap (λ (s : ViewValue). s.cells) (seen_is pool e id v is)
 
   pub spare_is : (pool : PoolValue) → seen_pool ≡ pool → spare ≡ pool.spare
   spare_is pool e = ap (λ (p : PoolValue). p.spare) e
@@ -252,3 +248,10 @@ held_is lots views spare held pool e is small =
     let all : sum (values (pool_value lots views spare).blocks) ≡ held = sum-mapped lot_cells size_of refl (λ lot. refl) lots ∙ sym is in
     let here : total_of pool ≡ held = ap total_of (sym e) ∙ all in
     omega (arith, here, small)
+
+pub total_small : (lots : List (Option Lot)) (views : List (Option View)) (spare capacity held : ℕ) → IsPool lots views spare capacity held → (pool : PoolValue) → pool_value lots views spare ≡ pool → held < 2 ^ 64 → total_of pool < 2 ^ 64
+total_small lots views spare capacity held ok pool e small =
+    subst (λ n. n < 2 ^ 64) (ok.cells ∙ sym (sum-mapped lot_cells size_of refl (λ x. refl) lots) ∙ ap total_of e) small
+
+pub total_is : (lots : List (Option Lot)) (views : List (Option View)) (spare capacity held : ℕ) → IsPool lots views spare capacity held → (pool : PoolValue) → pool_value lots views spare ≡ pool → held ≡ total_of pool
+total_is lots views spare capacity held ok pool e = ok.cells ∙ sym (sum-mapped lot_cells size_of refl (λ x. refl) lots) ∙ ap total_of e

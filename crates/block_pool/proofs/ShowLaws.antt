@@ -1,11 +1,5 @@
 -- What views show: all of a block, a part of what another view shows, and a cell that is set.
-use Rattle.{
-  std.proofs.Common.{◌≡◌, ◌≢◌, ℕ, zero, suc, ◌+◌, ◌-◌, ◌*◌, ◌<◌, ◌≤◌, ◌^◌, Bool, true, false, List, [], ◌∷◌, map, length, refl, ap, ap₂, sym, ◌∙◌, subst, arith, Option, Some, None, slice_index_or, inl, inr, get_or-set_same, get_or-set_other, mul-le-mul},
-  std.proofs.lemmas.{Bool.{false≢true, cases_eq, cases_lt}, List.{length-set, FromFn.{fill_by_all}}},
-  std.specs.Prelude.{slice_set, All},
-  column_core.{specs.{cells.{Block.{strided, with_cell}, Column.{tabulate}}, Blocks.{CellBlock}, Lanes.{LaneFits, lane_place}}, proofs.{cells.Common.{Na, Cell, Rows, place_from, AreRowsBelow}, ColumnLaws.{length-tabulate}, CellRows.{range-same}, MoveLaws.{get_or-tabulate}, BlockLaws.{set-tabulate}}},
-  block_pool.{specs.{declared.views.View.{View}, Pools.{cells_of, cut, grid_with}, Placed.{shown_cell, shown_column, shown_grid, IsEven, IsPlaced}}, proofs.ViewLaws.{places_differ}},
-}
+use Rattle.{std.proofs.Common.{◌≡◌, ◌≢◌, ℕ, zero, suc, ◌+◌, ◌-◌, ◌*◌, ◌<◌, ◌≤◌, ◌^◌, Bool, true, false, List, [], length, refl, ap, ap₂, sym, ◌∙◌, subst, arith, slice_index_or, inl, inr, get_or-set_same, get_or-set_other}, std.proofs.lemmas.{Bool.{false≢true, cases_eq, cases_lt}, List.{length-set, FromFn.{fill_by_all}}}, std.specs.Prelude.{slice_set}, column_core.{specs.{cells.{Block.{strided}, Column.{tabulate}}, Blocks.{CellBlock}, Lanes.{LaneFits, lane_place}}, proofs.{cells.Common.{Na, Cell, Rows, place_from, AreRowsBelow}, ColumnLaws.{length-tabulate}, CellRows.{range-same}, MoveLaws.{get_or-tabulate}, BlockLaws.{set-tabulate}}}, block_pool.{specs.{declared.views.View.{View}, Pools.{cut, grid_with}, Placed.{shown_cell, shown_column, shown_grid, IsEven, IsPlaced}}, proofs.ViewLaws.{places_differ}}}
 
 tabulate-self : {C : Type 0} (xs : List C) (n : ℕ) (f : ℕ → C) (d : C) → length xs ≡ n → ((k : ℕ) → k < n → f k ≡ slice_index_or xs k d) → tabulate n f ≡ xs
 tabulate-self xs n f d long same = sym (fill_by_all f xs n d long (λ k lt. sym (same k lt)))

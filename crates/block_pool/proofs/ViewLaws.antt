@@ -1,10 +1,5 @@
 -- Where the rows of views lie.
-use Rattle.{
-  column_core.proofs.cells.Common.{◌≡◌, ◌≢◌, ℕ, zero, suc, ◌+◌, ◌-◌, ◌*◌, ◌<◌, ◌≤◌, ◌^◌, ℤ, pos, negsuc, Bool, true, false, refl, sym, ap, ◌∙◌, subst, arith, inl, inr, Rows, place_from, AreRowsBelow, cases_lt},
-  cell_core.specs.Grids.{IsPlace},
-  column_core.{specs.{Lanes.{LaneFits, lane_place}, Moves.{distance_of}}, proofs.StrideLaws.{first_place, first_below, stride_small}},
-  block_pool.specs.declared.views.View.{View},
-}
+use Rattle.{column_core.proofs.cells.Common.{◌≡◌, ◌≢◌, ℕ, zero, suc, ◌+◌, ◌*◌, ◌<◌, ◌≤◌, ◌^◌, ℤ, pos, negsuc, Bool, true, false, refl, arith, inl, inr, Rows, place_from, AreRowsBelow, cases_lt}, cell_core.specs.Grids.{IsPlace}, column_core.{specs.{Lanes.{LaneFits, lane_place}, Moves.{distance_of}}, proofs.StrideLaws.{first_below, stride_small}}, block_pool.specs.declared.views.View.{View}}
 
 -- the first row is a row of the block
 pub start_below : (v : View) (limit : ℕ) → LaneFits v.start v.stride v.back v.count limit limit → 0 < v.count → v.start < limit

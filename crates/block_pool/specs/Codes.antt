@@ -56,7 +56,9 @@ coded_grid =
     (λ g. (g.kind, (g.rows, g.columns))) (λ p. record { kind = p.0; rows = p.1.0; columns = p.1.1 }) (λ _. refl)
 
 abbrev pub coded_view : Coded ViewValue
-coded_view = code_by (ℕ × CellBlock) (coded× coded_ℕ coded_grid) (λ s. (s.block, s.grid)) (λ p. record { block = p.0; grid = p.1 }) (λ _. refl)
+coded_view =
+    code_by (ℕ × (ℕ × CellBlock)) (coded× coded_ℕ (coded× coded_ℕ coded_grid))
+    (λ s. (s.block, (s.cells, s.grid))) (λ p. record { block = p.0; cells = p.1.0; grid = p.1.1 }) (λ _. refl)
 
 abbrev pub coded_pool : Coded PoolValue
 coded_pool =

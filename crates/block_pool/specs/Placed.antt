@@ -1,5 +1,5 @@
 -- How views lie on blocks, and what keeps a pool in order.
-use Rattle.std.specs.Prelude.{ℤ, pos, neg_ℤ, ◌≡◌, ◌≢◌, ℕ, ◌+◌, ◌-◌, ◌*◌, ◌<◌, ◌≤◌, ◌^◌, Bool, false, ◌==◌, List, [], ◌∷◌, map, length, Option, Some, None, IsSome, All, is_some, slice_index_or, count_by, sum_by, if◌then◌else◌}
+use Rattle.std.specs.Prelude.{ℤ, pos, neg_ℤ, ◌≡◌, ◌≢◌, ℕ, ◌+◌, ◌-◌, ◌<◌, ◌≤◌, ◌^◌, Bool, false, ◌==◌, List, [], ◌∷◌, map, length, Option, Some, None, IsSome, All, is_some, slice_index_or, reverse, count_by, sum_by, if◌then◌else◌}
 use Rattle.std.specs.Option.{option_map}
 use Rattle.std.specs.Ordering.{nat_cmp}
 use Rattle.std.specs.FinMap.{FinMap, from_sorted}
@@ -8,6 +8,7 @@ use Rattle.cell_core.specs.declared.cell.Cell.TheVariants.{Na}
 use Rattle.cell_core.specs.declared.cell.Kind.TheVariants.{Int64}
 use Rattle.column_core.specs.cells.Column.{tabulate}
 use Rattle.column_core.specs.Blocks.{CellBlock}
+use Rattle.column_core.specs.Columns.{CellColumn}
 use Rattle.column_core.specs.Lanes.{LaneFits, lane_place}
 use Rattle.block_pool.specs.declared.views.View.{View}
 use Rattle.block_pool.specs.declared.lots.Lot.{Lot}
@@ -42,6 +43,10 @@ shown_column block v column = tabulate v.count (shown_cell v (slice_index_or blo
 abbrev pub shown_grid : CellBlock → View → CellBlock
 shown_grid block v = record { kind = block.kind; rows = v.count; columns = tabulate v.columns (shown_column block v) }
 
+-- a column from its last cell to its first
+abbrev pub turned : CellColumn → CellColumn
+turned c = record { kind = c.kind; cells = reverse c.cells }
+
 -- the step of rows that lie so far apart, ahead or back
 abbrev pub step_of : ℕ → Bool → ℤ
 step_of stride back = if back then neg_ℤ (pos stride) else pos stride
@@ -71,9 +76,12 @@ abbrev pub left : Option Lot → Option Lot
 left None = None
 left (Some lot) = if lot.users == 1 then None else Some (record lot { users = lot.users - 1 })
 
--- what is seen of a view over lots
+-- what is seen of a view on a block, and over lots
+abbrev pub view_on : CellBlock → View → ViewValue
+view_on block v = record { block = v.block; cells = cells_of block; grid = shown_grid block v }
+
 abbrev pub seen_over : List (Option Lot) → View → ViewValue
-seen_over lots v = record { block = v.block; grid = shown_grid (block_of (slot lots v.block)) v }
+seen_over lots v = view_on (block_of (slot lots v.block)) v
 
 abbrev pub pool_value : List (Option Lot) → List (Option View) → ℕ → PoolValue
 pool_value lots views spare =

@@ -1,10 +1,12 @@
 // What views show of blocks, and copies of it.
-ghost use Rattle.std.specs.Prelude.{◌≡◌, ◌<◌, ◌+◌, ◌^◌, [], length, slice_index_or, slice_set, IfOk};
-ghost use Rattle.block_pool.specs.Placed.{shown_column, shown_grid, IsPlaced};
+ghost use Rattle.std.specs.Prelude.{◌≡◌, ◌<◌, ◌≤◌, ◌+◌, ◌^◌, ◌++◌, [], length, map, take, drop, slice_index_or, slice_set, IfOk, vec_len, vec_capacity};
+ghost use Rattle.column_core.specs.Blocks.{columns_in};
+ghost use Rattle.block_pool.specs.Pools.{cells_of};
+ghost use Rattle.block_pool.specs.Placed.{shown_column, shown_grid, turned, IsEven, IsPlaced};
 
 use crate::views::View;
 use cell_core::NoMemory;
-use column_core::{Block, ColRef};
+use column_core::{Block, ColRef, Column};
 use std::alloc::Global;
 
 /// A column of what a view shows of its block.
@@ -56,5 +58,37 @@ fn fill(block: &mut Block, column: usize, cells: ColRef<'_>)
 {
     for row in 0..cells.len() {
         block.put(column, row, cells.cell(row));
+    }
+}
+
+/// Moves the columns that a view shows of its block, which has no other cells, behind those of a list that has room
+/// for them.
+pub(crate) fn move_shown(block: Block, view: View, list: &mut Vec<Column>)
+    requires placed { IsPlaced block view }
+    requires even { IsEven block }
+    requires full { cells_of (shown_grid block view) ≡ cells_of block }
+    requires room { vec_len list.old + view.columns ≤ vec_capacity list.old }
+    ensures items { list.new.items ≡ list.old.items ++ columns_in (shown_grid block view) }
+    ensures len { vec_len list.new ≡ vec_len list.old + view.columns }
+    ensures capacity { vec_capacity list.old ≤ vec_capacity list.new }
+{
+    let before = list.len();
+    let _columns = block.columns();
+    block.move_columns(view.columns, list);
+    if view.back {
+        turn_from(list, before);
+    }
+}
+
+// Turns the columns from a place on about.
+fn turn_from(list: &mut Vec<Column>, from: usize)
+    requires { from ≤ vec_len list.old }
+    ensures items { list.new.items
+        ≡ take from list.old.items ++ map turned (drop from list.old.items) }
+    ensures len { vec_len list.new ≡ vec_len list.old }
+    ensures capacity { vec_capacity list.new ≡ vec_capacity list.old }
+{
+    for k in from..list.len() {
+        list[k].reverse();
     }
 }

@@ -1,15 +1,16 @@
 // The pool: views, and the blocks that they lie on.
-ghost use Rattle.std.specs.Prelude.{◌≡◌, ◌<◌, ◌≤◌, ◌+◌, ◌↔◌, ℕ, [], List, true, length, slice_index_or, IsTrue, IsOk, max, IfOk, IfErr, OnOk, OnErr};
+ghost use Rattle.std.specs.Prelude.{◌≡◌, ◌<◌, ◌≤◌, ◌+◌, ◌*◌, ◌^◌, ◌++◌, ◌↔◌, ℕ, [], List, true, length, map, All, slice_index_or, IsTrue, IsOk, max, IfOk, IfErr, OnOk, OnErr, vec_len, vec_capacity};
 ghost use Rattle.std.specs.FinMap as map;
 ghost use Rattle.cell_core.specs.Grids.{AreRowsBelow};
 ghost use Rattle.column_core.specs.cells.Cell.{datum, holds};
-ghost use Rattle.block_pool.specs.Pools.{empty_pool, cut, grid_with, grid_at, IsLive, IsFree, IsSole, held_of, KeepsBlocks, Adds, Shares, Owns, Ends, with_grid};
+ghost use Rattle.column_core.specs.Blocks.{columns_in, FitBlock, IsColumnOf, block_with};
+ghost use Rattle.block_pool.specs.Pools.{empty_pool, numbers_of, cut, cells_of, total_of, beside, CanJoin, IsApart, IsFull, Joins, with_block, grid_with, grid_at, IsLive, IsFree, IsSole, held_of, KeepsBlocks, Adds, Shares, Owns, Ends, with_grid};
 
-use crate::copies::{copied, shown};
+use crate::copies::{copied, move_shown, shown};
 use crate::lots::{Lot, counted, lay, leave, make_room};
 use crate::views::{Cols, View, ViewId};
-use cell_core::{Cell, NoMemory, Rows};
-use column_core::{Block, ColRef};
+use cell_core::{Cell, Kind, NoMemory, Rows};
+use column_core::{Block, ColRef, Column};
 use slab::Slab;
 use std::alloc::Global;
 use std::marker::Model;
@@ -180,6 +181,98 @@ impl Pool {
         let _room = self.views.capacity();
         self.held = leave(&mut self.lots, self.held, view.block);
         self.spare += 1;
+    }
+
+    /// Puts the columns of the first views before those of the last one, all on one block, and ends the first views.
+    /// Each of them has a block of its own, all of one kind and with as many rows. The columns move through a list
+    /// that has room for all of them, so that this takes no memory, and no cell is copied.
+    pub fn join(&mut self, first: &[ViewId], last: ViewId, room: Vec<Column>)
+        requires views { CanJoin self.old (numbers_of first.now) last.0 }
+        requires empty { room.items ≡ [] }
+        requires room { length (beside (map (grid_at self.old) (numbers_of first.now))
+            (grid_at self.old last.0)).columns ≤ vec_capacity room }
+        ensures joins { Joins self.old self.new (numbers_of first.now) last.0 }
+        ensures held { total_of self.new ≡ total_of self.old }
+    {
+        let mut columns = room;
+        // No more cells are counted than one number holds.
+        let _held = self.held;
+        for k in 0..first.len() {
+            self.take(first[k], &mut columns);
+        }
+        self.put_before(last, columns);
+    }
+
+    // Ends a view that has a block of its own, and moves its columns behind those of a list with room for them.
+    fn take(&mut self, id: ViewId, list: &mut Vec<Column>)
+        requires apart { IsApart self.old id.0 }
+        requires room { vec_len list.old + length (grid_at self.old id.0).columns
+            ≤ vec_capacity list.old }
+        ensures ended { Ends self.old self.new id.0 }
+        ensures items { list.new.items ≡ list.old.items ++ columns_in (grid_at self.old id.0) }
+        ensures fit { All (IsColumnOf (grid_at self.old id.0).kind (grid_at self.old id.0).rows)
+            (columns_in (grid_at self.old id.0)) }
+        ensures len { vec_len list.new
+            ≡ vec_len list.old + length (grid_at self.old id.0).columns }
+        ensures capacity { vec_capacity list.old ≤ vec_capacity list.new }
+    {
+        let view = self.views.remove(id.0 as usize);
+        let _room = self.views.capacity();
+        let lot = self.lots.remove(view.block);
+        self.held -= lot.block.cells() as u64;
+        self.spare += 1;
+        move_shown(lot.block, view, list);
+    }
+
+    // Puts columns before those of a view that has a block of its own, through a list with room for all.
+    fn put_before(&mut self, id: ViewId, list: Vec<Column>)
+        requires apart { IsApart self.old id.0 }
+        requires fit { FitBlock (grid_at self.old id.0).kind (grid_at self.old id.0).rows list.items }
+        requires few { total_of self.old + length list.items * (grid_at self.old id.0).rows
+            < 2 ^ 64 }
+        requires room { vec_len list + length (grid_at self.old id.0).columns
+            ≤ vec_capacity list }
+        ensures { self.new ≡ with_block self.old id.0
+            (block_with (grid_at self.old id.0).kind (grid_at self.old id.0).rows
+            (list.items ++ columns_in (grid_at self.old id.0))) }
+    {
+        let view = self.views[id.0 as usize];
+        let lot = self.lots.remove(view.block);
+        let kind = lot.block.kind();
+        let mut columns = list;
+        self.held += (columns.len() * view.count) as u64;
+        move_shown(lot.block, view, &mut columns);
+        let count = columns.len();
+        let block = Block::of_columns(kind, view.count, columns);
+        let name = self.lots.insert_reserved(Lot { block, users: 1 });
+        self.views[id.0 as usize] = View::whole(name, count, view.count);
+    }
+
+    /// The kind of a view's cells. Takes no memory.
+    pub fn kind(&self, id: ViewId) -> Kind
+        requires { IsLive self.now id.0 }
+        ensures { result ≡ (grid_at self.now id.0).kind }
+    {
+        let view = self.views[id.0 as usize];
+        self.lots[view.block].block.kind()
+    }
+
+    /// How many columns a view has. Takes no memory.
+    pub fn columns(&self, id: ViewId) -> usize
+        requires { IsLive self.now id.0 }
+        ensures { result ≡ length (grid_at self.now id.0).columns }
+    {
+        self.views[id.0 as usize].columns
+    }
+
+    /// Whether a view has as many cells as its block, and so all of them. Takes no memory.
+    pub fn full(&self, id: ViewId) -> bool
+        requires { IsLive self.now id.0 }
+        ensures { IsTrue result ↔ IsFull self.now id.0 }
+    {
+        let view = self.views[id.0 as usize];
+        let cells = self.lots[view.block].block.cells();
+        view.columns * view.count == cells
     }
 
     /// The cells of a column of a view. Takes no memory.

@@ -1,8 +1,5 @@
--- Columns that are kept one after another.
-use Rattle.{
-  meaning_cells.{proofs.Common.{◌≡◌, ◌≢◌, ℕ, zero, suc, ◌+◌, ◌*◌, ◌<◌, ◌≤◌, pos, Bool, true, false, List, [], ◌∷◌, length, map, replicate, nat_lt, slice_set, slice_get, slice_index_or, refl, sym, ap, ◌∙◌, subst, All, get_or-map-range_with_len, arith, Option, Some, None, is_some, unwrap_or, ltb-true, ltb-false, get_or-set_same, get_or-set_other, length-set, fill_by_all, range_with_len, Cell, Na, Kind, AreRowsBelow, tabulate, with_cell}, specs.Block.{in_columns, filled_with, strided}},
-  column_core.{specs.{Lanes.{option_at}, Columns.{CellColumn, column_with}, Blocks.{CellBlock, block_with}}, proofs.{ColumnLaws.{length-tabulate, get-tabulate}, MoveLaws.{get_or-tabulate}, CellRows.{range-same}, RowsMade.{option-set_same, option-set_other}}},
-}
+-- Columns that are set, filled and turned about.
+use Rattle.{meaning_cells.{proofs.Common.{◌≡◌, ◌≢◌, ℕ, zero, suc, ◌+◌, ◌-◌, ◌*◌, ◌^◌, ◌<◌, ◌≤◌, Bool, subst, Int64, List, length, map, replicate, reverse, slice_set, slice_index_or, refl, sym, ap, ◌∙◌, arith, Option, Some, None, is_some, unwrap_or, slice_get, slice_get-get_or, cond, false, [], ◌∷◌, All, All-map, All-set, All-tail, All-replicate, length-replicate, length-set, fill_by_all, range_with_len, Cell, Na, Kind, tabulate, with_cell}, specs.Block.{filled_with}}, std.proofs.Common.{ap₂}, std.proofs.lemmas.List.{get_or-reverse, length-reverse, length-map, map-set, get_or-map}, column_core.{specs.{Lanes.{option_at}, Columns.{CellColumn, column_with}, Blocks.{CellBlock, IsColumnOf, FitBlock, block_with, columns_in, column_in, put_in}}, proofs.{ColumnLaws.{length-tabulate}, MoveLaws.{get_or-tabulate}, CellRows.{range-same}, RowsMade.{option-set_same, option-set_other}}}}
 
 set-range : {C : Type 0} (f g : ℕ → C) (a n i : ℕ) (x : C) → i < n → g (a + i) ≡ x → ((k : ℕ) → a ≤ k → k < a + n → k ≢ a + i → g k ≡ f k) → slice_set (map f (range_with_len a n)) i x ≡ map g (range_with_len a n)
 set-range f g a zero i = search
@@ -17,85 +14,11 @@ range-replicate : {C : Type 0} (f : ℕ → C) (c : C) (a n : ℕ) → ((k : ℕ
 range-replicate f c a zero h = refl
 range-replicate f c a (suc n) h = search (range-replicate f c (a + 1) n h)
 
-get-replicate : {C : Type 0} (n k : ℕ) (c : C) → slice_index_or (replicate n c) k c ≡ c
-get-replicate (suc n) (suc k) c = get-replicate n k c
-get-replicate _ k c = refl
-
--- a column without values
-pub blank_column : {T : Type 0} (kind : Kind) (cell : Option T → Cell) (n m : ℕ) (row : ℕ → Option T) → cell None ≡ Na → n ≡ m → ((k : ℕ) → row k ≡ None) → column_with kind cell n row ≡ record { kind = kind; cells = replicate m Na }
-blank_column = grind (arith, range-replicate)
-
 -- a column with another value
 pub put_column : {T : Type 0} (kind : Kind) (cell : Option T → Cell) (values new_values : List T) (present new_present : List Bool) (at : ℕ) (o : Option T) (blank : T) (x : Cell) (old : CellColumn) → new_values ≡ slice_set values at (unwrap_or o blank) → new_present ≡ slice_set present at (is_some o)
     → length present ≡ length values → cell o ≡ x → column_with kind cell (length values) (option_at values present) ≡ old → at < length old.cells
     → column_with kind cell (length new_values) (option_at new_values new_present) ≡ record { kind = old.kind; cells = slice_set old.cells at x }
 put_column = grind (arith, length-tabulate, slice_set, unwrap_or, is_some, length-set, set-tabulate, option-set_same, option-set_other)
-
--- the place of a cell
-below_more : (column d row rows : ℕ) → row < rows → column * rows + row < (d + suc column) * rows
-below_more = omega arith
-
-pub place_below : (column columns row rows : ℕ) → column < columns → row < rows → column * rows + row < columns * rows
-place_below = grind (arith, below_more)
-
-first_below : (column d rows : ℕ) → column * rows ≤ (d + suc column) * rows
-first_below = omega arith
-
-pub place_within : (column columns rows : ℕ) → column < columns → column * rows ≤ columns * rows
-place_within = grind (arith, first_below)
-
-pub apart : (a b r s rows : ℕ) → a ≢ b → r < rows → s < rows → a * rows + r ≢ b * rows + s
-apart a b r s rows ne hr hs e =
-    elim (nat_lt a b) as (λ t. nat_lt a b ≡ t → ⊥) [
-      | true ↦ λ h. absurd (omega (arith, place_below a b r rows (ltb-true a b h) hr, e))
-      | false ↦ λ h. absurd (omega (arith, place_below b a s rows (omega (arith, ltb-false a b h, ne)) hs, e))
-    ] refl
-
--- a cell is put in place of another
-pub put_cells : (cells : List Cell) (columns rows column row : ℕ) (x : Cell) → length cells ≡ columns * rows → column < columns → row < rows
-    → in_columns Na (slice_set cells (column * rows + row) x) columns rows ≡ with_cell (in_columns Na cells columns rows) column row x
-put_cells cells columns rows column row x e lt below =
-    let old = λ (c : ℕ). tabulate rows (λ r. slice_index_or cells (c * rows + r) Na) in
-    sym (ap (λ l. slice_set (tabulate columns old) column (slice_set l row x)) (get_or-tabulate _ _ _ [] lt)
-    ∙ ap (λ l. slice_set (tabulate columns old) column l) (grind (arith, set-tabulate, slice_set, get_or-set_same, get_or-set_other))
-    ∙ set-tabulate _ _ _ _ _ lt refl
-    (λ k small ne. range-same _ _ 0 _
-    (λ r le lr. get_or-set_other cells (column * rows + row) _ x Na (apart k _ r _ _ ne (omega arith) below))))
-
--- missing cells
-pub blank_cells : (n columns rows : ℕ) → in_columns Na (replicate n Na) columns rows ≡ filled_with Na columns rows
-blank_cells = search (range-replicate, get-replicate)
-
--- one column
-pub one_column : (cells : List Cell) → in_columns Na cells 1 (length cells) ≡ cells ∷ []
-one_column cells = cc (fill_by_all (λ row. slice_index_or cells (0 * length cells + row) Na) cells (length cells) Na refl (λ k lt. grind arith))
-
--- a column's rows
-pub column_rows : (column columns rows n : ℕ) → column < columns → n ≡ columns * rows → AreRowsBelow record { start = column * rows; step = pos 1; count = rows } n
-column_rows = grind (arith, place_below)
-
-pub column_cells : (cells : List Cell) (columns rows column : ℕ) → column < columns → slice_get (in_columns Na cells columns rows) column ≡ Some (strided Na cells record { start = column * rows; step = pos 1; count = rows })
-column_cells = grind (arith, get-tabulate, range-same)
-
--- the columns and rows of a block
-pub columns_of : (c : CellColumn) (columns rows : ℕ) (b : CellBlock) → block_with c columns rows ≡ b → columns ≡ length b.columns
-columns_of = grind (arith, length-tabulate)
-
-pub rows_of : (c : CellColumn) (columns rows : ℕ) (b : CellBlock) → block_with c columns rows ≡ b → rows ≡ b.rows
-rows_of c _ _ b e = cc
-
--- each column has as many cells as there are rows
-pub even_columns : (c : CellColumn) (columns rows : ℕ) (b : CellBlock) → block_with c columns rows ≡ b → All (λ column. length column ≡ b.rows) b.columns
-even_columns c columns rows b e = subst (λ (b : CellBlock). All (λ column. length column ≡ b.rows) b.columns) e (λ k d lt.
-    let cells : ℕ → List Cell = λ column. tabulate rows (λ row. slice_index_or c.cells (column * rows + row) Na) in
-    let within : k < columns = omega (arith, lt, length-tabulate columns cells) in
-    ap length (get_or-map-range_with_len cells 0 columns k k d within (omega arith)) ∙ length-tabulate rows _)
-
--- the block after a cell is put
-pub put_block : (old new : CellColumn) (columns rows column row : ℕ) (x : Cell) (b : CellBlock) → block_with old columns rows ≡ b → length old.cells ≡ columns * rows
-    → new ≡ record { kind = old.kind; cells = slice_set old.cells (column * rows + row) x } → column < length b.columns → row < b.rows
-    → block_with new columns rows ≡ record { kind = b.kind; rows = b.rows; columns = with_cell b.columns column row x }
-put_block = grind (arith, columns_of, rows_of, put_cells)
 
 -- the same value, or none, at each row
 pub option-replicate : {T : Type 0} (n : ℕ) (o : Option T) (blank : T) (row : ℕ) → row < n → option_at (replicate n (unwrap_or o blank)) (replicate n (is_some o)) row ≡ o
@@ -107,3 +30,95 @@ option-replicate (suc n) o _ (suc row) h = option-replicate n o _ _ (omega arith
 -- a column of one cell, again and again
 pub repeated_column : {T : Type 0} (kind : Kind) (cell : Option T → Cell) (n m : ℕ) (row : ℕ → Option T) (o : Option T) → n ≡ m → ((k : ℕ) → k < m → row k ≡ o) → column_with kind cell n row ≡ record { kind = kind; cells = replicate m (cell o) }
 repeated_column _ cell n m row o e same = cc (range-same (λ k. cell (row k)) (λ k. cell o) 0 m (λ k le lt. ap cell (same k (omega arith))), range-replicate (λ k. cell o) (cell o) 0 m (λ k. refl))
+
+-- a row counted from the last
+turned_get : {T : Type 0} (xs : List T) (k : ℕ) → k < length xs → slice_get (reverse xs) k ≡ slice_get xs (length xs - 1 - k)
+turned_get [] k lt = absurd (omega (arith, lt))
+turned_get (x ∷ xs) k lt =
+    slice_get-get_or (reverse (x ∷ xs)) k x (omega (arith, lt, length-reverse (x ∷ xs)))
+    ∙ ap Some (get_or-reverse (x ∷ xs) k x lt)
+    ∙ sym (slice_get-get_or (x ∷ xs) (length (x ∷ xs) - 1 - k) x (omega (arith, lt)))
+
+turned_option : {T : Type 0} (values : List T) (present : List Bool) (k : ℕ) → length present ≡ length values → k < length values → option_at (reverse values) (reverse present) k ≡ option_at values present (length values - 1 - k)
+turned_option {T} values present k alike lt =
+    ap₂ (λ (b : Bool) (o : Option T). cond b o None)
+    (get_or-reverse present k false (omega (arith, lt, alike)) ∙ ap (λ n. slice_index_or present (n - 1 - k) false) alike)
+    (turned_get values k lt)
+
+-- the values of a function of the row, the last first
+turned_tabulate : {C : Type 0} (n : ℕ) (f g : ℕ → C) (d : C) → ((k : ℕ) → k < n → g k ≡ f (n - 1 - k)) → tabulate n g ≡ reverse (tabulate n f)
+turned_tabulate n f g d same =
+    sym (fill_by_all g (reverse (tabulate n f)) n d (length-reverse (tabulate n f) ∙ length-tabulate n f) (λ k lt. grind (arith, get_or-reverse (tabulate n f) k d, length-tabulate n f, get_or-tabulate n f (n - 1 - k) d, same k lt)))
+
+-- a column that is turned about
+pub turned_column : {T : Type 0} (kind : Kind) (cell : Option T → Cell) (values new_values : List T) (present new_present : List Bool) (old : CellColumn) → new_values ≡ reverse values → new_present ≡ reverse present
+    → length present ≡ length values → column_with kind cell (length values) (option_at values present) ≡ old
+    → column_with kind cell (length new_values) (option_at new_values new_present) ≡ record { kind = old.kind; cells = reverse old.cells }
+turned_column = grind (arith, length-reverse, turned_tabulate, turned_option)
+
+-- each column has as many cells as there are rows
+pub even_columns : (kind : Kind) (rows : ℕ) (columns : List CellColumn) (b : CellBlock) → FitBlock kind rows columns → block_with kind rows columns ≡ b → All (λ column. length column ≡ b.rows) b.columns
+even_columns kind rows columns b fit e = subst (λ (x : CellBlock). All (λ column. length column ≡ x.rows) x.columns) e (All-map (λ column. length column ≡ rows) (λ (c : CellColumn). c.cells) columns (λ k d lt. (fit.each k d lt).long))
+
+-- a block whose cell is put
+pub put_block : (kind : Kind) (rows : ℕ) (columns : List CellColumn) (column row : ℕ) (x : Cell) → column < length columns → block_with kind rows (put_in columns column row x) ≡ record { kind = kind; rows = rows; columns = with_cell (block_with kind rows columns).columns column row x }
+put_block kind rows columns column row x lt =
+    ap (λ (cs : List (List Cell)). record { kind = kind; rows = rows; columns = cs })
+    (map-set (λ (c : CellColumn). c.cells) columns column _
+    ∙ ap (λ (cells : List Cell). slice_set (map (λ (c : CellColumn). c.cells) columns) column (slice_set cells row x)) (sym (get_or-map (λ (c : CellColumn). c.cells) columns column record { kind = Int64; cells = [] } [] lt)))
+
+pub put_fit : (kind : Kind) (rows : ℕ) (columns : List CellColumn) (column row : ℕ) (x : Cell) → column < length columns → FitBlock kind rows columns → FitBlock kind rows (put_in columns column row x)
+put_fit kind rows columns column row x lt fit =
+    let was = fit.each column record { kind = Int64; cells = [] } lt in
+    record {
+      each = All-set (IsColumnOf kind rows) columns column _ (record { alike = was.alike; long = length-set (column_in columns column).cells row x ∙ was.long }) fit.each;
+      few = subst (λ n. n * rows < 2 ^ 64) (sym (length-set columns column _)) fit.few;
+    }
+
+-- the columns of a block and what contracts see of it
+module _ (kind : Kind) (rows : ℕ) (columns : List CellColumn) (b : CellBlock) (fit : FitBlock kind rows columns) (e : block_with kind rows columns ≡ b) where
+  pub column_count : length columns ≡ length b.columns
+  column_count = sym (length-map columns (λ (c : CellColumn). c.cells)) ∙ ap (λ (x : CellBlock). length x.columns) e
+
+  module _ (column : ℕ) (lt : column < length b.columns) where
+    was : IsColumnOf kind rows (column_in columns column)
+    was = fit.each column record { kind = Int64; cells = [] } (omega (arith, lt, column_count))
+
+    pub column_rows : length (column_in columns column).cells ≡ b.rows
+    column_rows = was.long ∙ ap (λ (x : CellBlock). x.rows) e
+
+    pub column_kind : (column_in columns column).kind ≡ b.kind
+    column_kind = was.alike ∙ ap (λ (x : CellBlock). x.kind) e
+
+    pub put_seen : (kind' : Kind) (columns' : List CellColumn) (row : ℕ) (x : Cell) → kind' ≡ kind → columns' ≡ put_in columns column row x → block_with kind' rows columns' ≡ record { kind = b.kind; rows = b.rows; columns = with_cell b.columns column row x }
+    put_seen kind' columns' row x k is =
+        ap₂ (λ (n : Kind) (cs : List CellColumn). block_with n rows cs) k is
+        ∙ put_block kind rows columns column row x (omega (arith, lt, column_count))
+        ∙ ap (λ (y : CellBlock). record { kind = y.kind; rows = y.rows; columns = with_cell y.columns column row x }) e
+
+    pub put_still : (kind' : Kind) (columns' : List CellColumn) (row : ℕ) (x : Cell) → kind' ≡ kind → columns' ≡ put_in columns column row x → FitBlock kind' rows columns'
+    put_still kind' columns' row x k is =
+        subst (λ (n : Kind). FitBlock n rows columns') (sym k) (subst (FitBlock kind rows) (sym is) (put_fit kind rows columns column row x (omega (arith, lt, column_count)) fit))
+
+same_columns : (kind : Kind) (rows : ℕ) (columns : List CellColumn) → All (IsColumnOf kind rows) columns → map (λ (cells : List Cell). record { kind = kind; cells = cells }) (map (λ (c : CellColumn). c.cells) columns) ≡ columns
+same_columns kind rows [] each = refl
+same_columns kind rows (c ∷ columns) each =
+    ap₂ (λ (k : Kind) (cs : List CellColumn). record { kind = k; cells = c.cells } ∷ cs) (sym (each 0 c (omega arith)).alike) (same_columns kind rows columns (All-tail (IsColumnOf kind rows) c columns each))
+
+-- the columns of a block with their kind
+pub columns_seen : (kind : Kind) (rows : ℕ) (columns : List CellColumn) (b : CellBlock) → FitBlock kind rows columns → block_with kind rows columns ≡ b → columns_in b ≡ columns
+columns_seen kind rows columns b fit e = ap columns_in (sym e) ∙ same_columns kind rows columns fit.each
+
+-- columns of missing cells
+pub blank_fit : (kind : Kind) (n rows : ℕ) (columns : List CellColumn) → columns ≡ replicate n record { kind = kind; cells = replicate rows Na } → n * rows < 2 ^ 64 → FitBlock kind rows columns
+blank_fit kind n rows columns is few = subst (FitBlock kind rows) (sym is) (record {
+  each = All-replicate (IsColumnOf kind rows) n _ (record { alike = refl; long = length-replicate rows Na });
+  few = subst (λ k. k * rows < 2 ^ 64) (sym (length-replicate n _)) few;
+})
+
+pub blank_seen : (kind : Kind) (n rows : ℕ) (columns : List CellColumn) → columns ≡ replicate n record { kind = kind; cells = replicate rows Na } → block_with kind rows columns ≡ record { kind = kind; rows = rows; columns = filled_with Na n rows }
+blank_seen kind n rows columns is = ap (block_with kind rows) is ∙ ap (λ (cs : List (List Cell)). record { kind = kind; rows = rows; columns = cs }) (cells_replicate n)
+  where
+    cells_replicate : (k : ℕ) → map (λ (c : CellColumn). c.cells) (replicate k record { kind = kind; cells = replicate rows Na }) ≡ replicate k (replicate rows Na)
+    cells_replicate zero = refl
+    cells_replicate (suc k) = ap (λ (cs : List (List Cell)). replicate rows Na ∷ cs) (cells_replicate k)

@@ -1,5 +1,5 @@
 // Columns of cells of one kind, borrowed and of their own.
-ghost use Rattle.std.specs.Prelude.{◌≡◌, ◌<◌, ◌∷◌, ◌++◌, [], true, length, replicate, slice_get, List, ℕ, Option, Some, None, IfOk, OnOk, OnErr};
+ghost use Rattle.std.specs.Prelude.{◌≡◌, ◌<◌, ◌∷◌, ◌++◌, [], true, length, replicate, reverse, slice_get, slice_set, List, ℕ, Option, Some, None, IfOk, OnOk, OnErr};
 ghost use Rattle.cell_core.specs.declared.cell.Kind.{Kind as CellKind};
 ghost use Rattle.cell_core.specs.declared.cell.Kind.TheVariants.{Int64, Boolean, Text as string};
 ghost use Rattle.cell_core.specs.declared.cell.Cell.{Cell as OneCell};
@@ -197,6 +197,23 @@ impl Column {
         push_kept(&mut self.lanes, cell)
     }
 
+    /// Puts a cell, which the column's kind holds, in place of the one at a row. Takes no memory.
+    pub fn put(&mut self, row: usize, cell: Cell)
+        requires row { row < length self.old.cells }
+        requires held { (texts : List (List ℕ)) → holds self.old.kind (datum texts cell) ≡ true }
+        ensures { self.new
+            ≡ record { kind = self.old.kind; cells = slice_set self.old.cells row cell } }
+    {
+        put_kept(&mut self.lanes, row, cell);
+    }
+
+    /// Turns the cells about, so that the last one stands first. Takes no memory.
+    pub fn reverse(&mut self)
+        ensures { self.new ≡ record { kind = self.old.kind; cells = reverse self.old.cells } }
+    {
+        turn_kept(&mut self.lanes);
+    }
+
     /// The cells, borrowed. Takes no memory.
     pub fn as_ref(&self) -> ColRef<'_>
         ensures { result ≡ self.now }
@@ -250,6 +267,37 @@ fn push_kept(lanes: &mut Kept, cell: Cell) -> Result<(), NoMemory>
         Kept::Ints(rows) => rows.push(0, number_in(cell)),
         Kept::Truths(rows) => rows.push(false, truth_in(cell)),
         Kept::Texts(rows) => rows.push(TextId(0), text_in(cell)),
+    }
+}
+
+fn put_kept(lanes: &mut Kept, at: usize, cell: Cell)
+    requires at { at < length (kept_column lanes.old).cells }
+    requires held { (texts : List (List ℕ)) →
+        holds (kept_column lanes.old).kind (datum texts cell) ≡ true }
+    ensures { kept_column lanes.new
+        ≡ record {
+          kind = (kept_column lanes.old).kind;
+          cells = slice_set (kept_column lanes.old).cells at cell;
+        } }
+{
+    match lanes {
+        Kept::Ints(rows) => rows.put(0, at, number_in(cell)),
+        Kept::Truths(rows) => rows.put(false, at, truth_in(cell)),
+        Kept::Texts(rows) => rows.put(TextId(0), at, text_in(cell)),
+    }
+}
+
+fn turn_kept(lanes: &mut Kept)
+    ensures { kept_column lanes.new
+        ≡ record {
+          kind = (kept_column lanes.old).kind;
+          cells = reverse (kept_column lanes.old).cells;
+        } }
+{
+    match lanes {
+        Kept::Ints(rows) => rows.reverse(),
+        Kept::Truths(rows) => rows.reverse(),
+        Kept::Texts(rows) => rows.reverse(),
     }
 }
 

@@ -1,5 +1,5 @@
 // Values of one type, each present or not: of its own, or borrowed with a stride.
-ghost use Rattle.std.specs.Prelude.{◌≡◌, ◌<◌, ℕ, false, length, replicate, slice_set, vec_len, unwrap_or, is_some, IfOk, OnOk, OnErr, Option, None, ⊤};
+ghost use Rattle.std.specs.Prelude.{◌≡◌, ◌<◌, ℕ, false, length, replicate, reverse, slice_set, vec_len, unwrap_or, is_some, IfOk, OnOk, OnErr, Option, None, ⊤};
 ghost use Rattle.column_core.specs.Lanes.{LaneFits, lane_place, lane_row, option_at, IsPushed};
 
 use cell_core::NoMemory;
@@ -123,6 +123,15 @@ impl<T: Copy + Drop> Owned<T> {
     {
         self.present[row] = value.is_some();
         self.values[row] = value.unwrap_or(blank);
+    }
+
+    /// Turns the rows about. Takes no memory.
+    pub fn reverse(&mut self)
+        ensures values { self.new.values.items ≡ reverse self.old.values.items }
+        ensures present { self.new.present.items ≡ reverse self.old.present.items }
+    {
+        self.values.reverse();
+        self.present.reverse();
     }
 
     /// Adds a row. `NoMemory` leaves the rows as they were.

@@ -8,10 +8,11 @@ ghost use Rattle.frame_labels.specs.method.Charges.{method_charge, call_charge};
 ghost use Rattle.frame_store.specs.Arguments.{entry_of, object_value, shape_at, IsLive, IsLiveObject};
 ghost use Rattle.frame_store.specs.Objects.{tables};
 ghost use Rattle.frame_store.specs.World.{world, entry_in, arguments_in, IsSettledWorld, AreKnownArguments, FormsFor};
-ghost use Rattle.frame_labels.specs.Chains.{chain_in, IsKnownChain};
+ghost use Rattle.frame_calls.specs.Chains.{chain_in, IsKnownChain};
 ghost use Rattle.frame_calls.specs.Calls.{method_in, chain_of, IsKnownBetween};
 
 use crate::between::Between;
+use crate::chain::Chain;
 use cell_core::{Grid, TextDict};
 use frame_groups::GroupedCall;
 use frame_labels::no_attribute;
@@ -19,7 +20,7 @@ use frame_methods::{
     column_method, label_method, level_method, row_method, summary_method, table_method,
 };
 use frame_signatures::method_named;
-use frame_store::{Chain, Named, NamedList, ObjId, OpFault, Store, Value};
+use frame_store::{Named, NamedList, ObjId, OpFault, Store, Value};
 use frame_windows::WindowsTold;
 use meaning_call::{Method, OtherMethod};
 use std::alloc::Global;

@@ -1,4 +1,3 @@
-pub mod Chains
 pub mod Columns
 pub mod Faults
 pub mod Labels

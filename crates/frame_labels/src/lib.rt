@@ -19,8 +19,8 @@
 //! the keys of rows as labels, for `groupby` and for `pivot_table` (`row_groups`).
 //!
 //! Calls behind `groupby` (`frame_groups`) and joins of frames (`frame_merge`) take some parts from
-//! here, and so they do the words of a chain of calls (`specs/Chains.antt`), the fault of a name that no
-//! method has, and what the last name of a chain means (`attributes`).
+//! here, and so they do the fault of a name that no method has, and what the last name of a chain means
+//! (`attributes`).
 //!
 //! ```text
 //! // `f.set_index("city")`, of a frame that is read of the store, with its arguments bound

@@ -1,5 +1,5 @@
 -- What settings cost, and what they leave of other objects.
-use Rattle.{std.{proofs.Math.Nat.{le-mul_of_pos_right, mul-le-mul_left}, specs.Prelude.{◌==◌, ◌*◌, sum}}, column_core.proofs.cells.Common.{cond_both}, frame_parts.proofs.Common.{arith, nat_tests, ◌≡◌, ◌≤◌, ◌<◌, ℕ, Bool, List, [], ◌∷◌, length, map, All, refl, ap, if◌then◌else◌, range_with_len, Option, Some, None, Result, Ok, Err, IfOk, IsSome, nat_eq, length-map, length-range_with_len, Shape, Series, Frame, Text, FaultValue, wrong_kind, Accessor, NumberedTable, Table, table_value, column_at, cells_with_texts, IsWhole, GivenSub, table, Tables, with_object, ObjId, IsSingle, CellBlock, block_column}, frame_store.{specs.{cells.Reduce.{distinct}, Objects.{LieStill}}, proofs.CellLaws.{cells_of_named, distinct_more}}, frame_select.specs.{charge.Charge.{different_count, setting_charge, touched_in}, select.{Keys.{all_columns, may_stand_alone}, Select.{Way, through}, Set.{Reached, Target, columns_set, picked, rows_set, target_by, target_of}}}, frame_set.specs.{declared.changes.{Change.{Change}, Setting.{Setting}}, Changes.{cells_after, columns_after, columns_changed, ended, table_after, IsSettingOf}}}
+use Rattle.{std.{proofs.Math.Nat.{le-mul_of_pos_right, mul-le-mul_left}, specs.Prelude.{◌==◌, ◌*◌, sum}}, column_core.proofs.cells.Common.{cond_both}, frame_parts.proofs.Common.{arith, nat_tests, ◌≡◌, ◌≤◌, ◌<◌, ℕ, Bool, List, [], ◌∷◌, length, map, All, refl, ap, if◌then◌else◌, range_with_len, Option, Some, None, Result, Ok, Err, IfOk, IsSome, nat_eq, length-map, length-range_with_len, Shape, Series, Frame, Text, FaultValue, wrong_kind, Accessor, NumberedTable, Table, table_value, column_at, cells_with_texts, IsWhole, GivenSub, table, Tables, with_object, ObjId, IsSingle, CellBlock, block_column}, frame_store.{specs.{cells.Reduce.{distinct}, Objects.{BlocksByObject, LieStill}}, proofs.CellLaws.{cells_of_named, distinct_more}}, frame_select.specs.{charge.Charge.{different_count, setting_charge, touched_in}, select.{Keys.{all_columns, may_stand_alone}, Select.{Way, through}, Set.{Reached, Target, columns_set, picked, rows_set, target_by, target_of}}}, frame_set.specs.{declared.changes.{Change.{Change}, Setting.{Setting}}, Changes.{cells_after, columns_after, columns_changed, ended, table_after, IsSettingOf}}}
 use Rattle.frame_set.specs.declared.changes.Change.TheVariants as change
 use Rattle.frame_set.specs.declared.changes.Setting.TheVariants as setting
 
@@ -63,5 +63,5 @@ live_before = grind (arith, nat_tests)
 pub live_beside : (old new : Tables) (on : ℕ) (t : NumberedTable) → new ≡ with_object old on (Some t) → (id : ℕ) → IsSome (old id) → IsSome (new id)
 live_beside old new on t put id live = rw put (cond_both (nat_eq on id) (Some t) (old id) (λ o. IsSome o) (λ _. refl) (λ _. live))
 
-pub still_without : (ends : Option ObjId) (live live' : Tables) (but : Option ℕ) (before after : ℕ → List ℕ) → LieStill but live live' before after → LieStill but (ended ends live) live' before after
+pub still_without : (ends : Option ObjId) (live live' : Tables) (but : Option ℕ) (before after : BlocksByObject) → LieStill but live live' before after → LieStill but (ended ends live) live' before after
 still_without ends live live' but before after still id was is apart = still id (live_before ends live id was) is apart

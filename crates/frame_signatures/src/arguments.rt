@@ -140,6 +140,21 @@ pub const DATA_FRAME_COLUMNS: usize = 0;
 /// `index` of `pd.DataFrame`.
 pub const DATA_FRAME_INDEX: usize = 1;
 
+/// `pat` of `startswith`, `endswith` and `contains`.
+pub const STR_PAT: usize = 0;
+
+/// `start` of `slice`.
+pub const STR_SLICE_START: usize = 0;
+
+/// `stop` of `slice`.
+pub const STR_SLICE_STOP: usize = 1;
+
+/// `step` of `slice`.
+pub const STR_SLICE_STEP: usize = 2;
+
+/// `width` of `zfill`.
+pub const STR_ZFILL_WIDTH: usize = 0;
+
 /// `name` of `pd.read_csv`.
 pub const READ_CSV_NAME: usize = 0;
 

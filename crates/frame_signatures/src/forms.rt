@@ -291,7 +291,7 @@ fn lists_text(listed: Choices, text: &str) -> bool
         Choices::Aggregations => {
             matches!(text, "sum" | "min" | "max" | "count" | "first" | "last")
         }
-        Choices::Axes => false,
+        Choices::Axes | Choices::NoRegex => false,
     }
 }
 
@@ -322,16 +322,21 @@ fn lists_whole(listed: Choices, number: i64) -> bool
     }
 }
 
-// Whether a truth value or NA is among the listed values.
-fn lists_others(listed: Choices) -> bool
-    ensures truth { (b : Bool) → result ≡ plain.lists_scalar listed (truth_cell b) }
-    ensures na { result ≡ plain.lists_scalar listed na_cell }
+fn lists_truth(listed: Choices, truth: bool) -> bool
+    ensures { result ≡ plain.lists_scalar listed (truth_cell truth) }
 {
     match listed {
         Choices::Any => true,
         Choices::KindNameDict => true,
+        Choices::NoRegex => !truth,
         _ => false,
     }
+}
+
+fn lists_na(listed: Choices) -> bool
+    ensures { result ≡ plain.lists_scalar listed na_cell }
+{
+    matches!(listed, Choices::Any | Choices::KindNameDict)
 }
 
 fn lists_scalar(dict: &TextDict, listed: Choices, cell: Cell) -> bool
@@ -340,8 +345,8 @@ fn lists_scalar(dict: &TextDict, listed: Choices, cell: Cell) -> bool
     match cell {
         Cell::Text(id) => lists_text(listed, dict.text(id)),
         Cell::Int(number) => lists_whole(listed, number),
-        Cell::Bool(_) => lists_others(listed),
-        Cell::Na => lists_others(listed),
+        Cell::Bool(truth) => lists_truth(listed, truth),
+        Cell::Na => lists_na(listed),
     }
 }
 

@@ -39,5 +39,5 @@ pub use rule::binds_by_place;
 pub use scalars::scalars_of;
 pub use table::{
     default_text, function_named, function_parameters, kind_named, method_named, parameters,
-    spelled,
+    spelled, str_named, str_parameters,
 };

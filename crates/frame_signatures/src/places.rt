@@ -1,8 +1,9 @@
 // What stands at a place of a signature: the argument that goes there, or what its parameter has for one.
-ghost use Rattle.std.specs.Prelude.{◌≡◌, List, slice_get, is_some, Some};
+ghost use Rattle.std.specs.Prelude.{◌≡◌, List, slice_get, is_some, Some, IfSome};
 ghost use Rattle.std.specs.Option.{option_map};
 ghost use Rattle.frame_store.specs.cells.Text.{Text};
-ghost use Rattle.frame_store.specs.cells.Cell.{datum, IsGiven};
+ghost use Rattle.frame_store.specs.cells.Cell.{datum, IsGiven, text_of as numbered};
+ghost use Rattle.cell_core.specs.declared.cell.Cell.TheVariants.{Text as TextCell};
 ghost use Rattle.frame_store.specs.tables.Settled.{IsSettled};
 ghost use Rattle.frame_store.specs.tables.Value.{scalar_in, object_in, list_in, dict_in};
 ghost use Rattle.meaning_call.specs.Binding as plain;
@@ -17,7 +18,7 @@ ghost use Rattle.frame_signatures.specs.Bound.{Tells, stands_at, accepted_at};
 use crate::binding::given_after;
 use crate::bound::Bound;
 use crate::table::{default_text, kind_named};
-use cell_core::{Cell, Kind, Label, TextDict};
+use cell_core::{Cell, Kind, Label, TextDict, TextId};
 use frame_store::{Argument, Item, Named, ObjId};
 use meaning_call::{Omitted, Parameter};
 
@@ -203,7 +204,8 @@ impl<'a> Bound<'a> {
         self.scalar_or_none(place).unwrap()
     }
 
-    fn whole_or_none(&self, place: usize) -> Option<i64>
+    /// The whole number that stands at a place; `None` where something else stands there. Takes no memory.
+    pub fn whole_or_none(&self, place: usize) -> Option<i64>
         ensures { Tells self.now place plain.whole_in (λ _ _. result) }
     {
         match found_at(self.parameters, self.args, place) {
@@ -235,6 +237,25 @@ impl<'a> Bound<'a> {
         ensures { Tells self.now place plain.truth_in (λ _ _. Some result) }
     {
         self.truth_or_none(place).unwrap()
+    }
+
+    /// The number of the text that stands at a place; `None` where something else than a text stands there. The
+    /// default of the parameter is no text; a text that stands there was given. Takes no memory.
+    pub fn text_id_or_none(&self, place: usize) -> Option<TextId>
+        requires { plain.HasNoText (slice_get self.now.parameters.now place) }
+        ensures told { Tells self.now place plain.text_in
+            (λ _ texts. option_map (numbered texts) result) }
+        ensures given { (live : Tables) (texts : List Text)
+            → IsSettled (arguments_of live) texts self.now.args.now
+            → IfSome result (λ id. IsGiven texts (TextCell id)) }
+    {
+        match self.scalar_or_none(place) {
+            Some(Cell::Text(id)) => Some(id),
+            Some(Cell::Int(_)) => None,
+            Some(Cell::Bool(_)) => None,
+            Some(Cell::Na) => None,
+            None => None,
+        }
     }
 
     /// The text that stands at a place; `None` where something else than a text stands there. Takes no

@@ -10,8 +10,8 @@ use cell_core::{Kind, Shape};
 use meaning_call::Method::{Columns, Labels, Levels, Other, Reshape, Rows, Summary, Table};
 use meaning_call::{
     Accepted, Choices, ColumnMethod, DefaultText, Function, LabelMethod, LevelMethod, Method,
-    Omitted, OtherMethod, Parameter, ParameterName, ReshapeMethod, RowMethod, SummaryMethod,
-    TableMethod,
+    Omitted, OtherMethod, Parameter, ParameterName, ReshapeMethod, RowMethod, StrMethod,
+    SummaryMethod, TableMethod,
 };
 
 // A parameter that must be given: its name and form, and its listed values.
@@ -138,6 +138,23 @@ pub fn parameters(method: Method) -> &'static [Parameter]
     }
 }
 
+/// The parameters of a method of texts, in their order. Takes no memory.
+pub fn str_parameters(method: StrMethod) -> &'static [Parameter]
+    ensures { result.now ≡ signature.str_parameters method }
+{
+    match method {
+        StrMethod::Len | StrMethod::Strip => &[],
+        StrMethod::Startswith | StrMethod::Endswith => &[needed!(Pat: Text)],
+        StrMethod::Contains => &[needed!(Pat: Text), needed!(Regex: Truth in NoRegex)],
+        StrMethod::Slice => &[
+            optional!(Start: Whole = Omitted::None),
+            optional!(Stop: Whole = Omitted::None),
+            optional!(Step: Whole = Omitted::None),
+        ],
+        StrMethod::Zfill => &[needed!(Width: Whole)],
+    }
+}
+
 /// The parameters of a function of `pd`, in their order. Takes no memory.
 pub fn function_parameters(function: Function) -> &'static [Parameter]
     ensures { result.now ≡ signature.function_parameters function }
@@ -200,14 +217,20 @@ pub fn spelled(name: ParameterName) -> &'static str
         ParameterName::Names => "names",
         ParameterName::Objects => "objects",
         ParameterName::On => "on",
+        ParameterName::Pat => "pat",
         ParameterName::Periods => "periods",
+        ParameterName::Regex => "regex",
         ParameterName::Right => "right",
         ParameterName::Sort => "sort",
+        ParameterName::Start => "start",
+        ParameterName::Step => "step",
+        ParameterName::Stop => "stop",
         ParameterName::Subset => "subset",
         ParameterName::Validate => "validate",
         ParameterName::Value => "value",
         ParameterName::ValueVars => "value_vars",
         ParameterName::Values => "values",
+        ParameterName::Width => "width",
         ParameterName::Window => "window",
     }
 }
@@ -346,6 +369,22 @@ pub fn method_named(shape: Shape, name: &str) -> Option<Method>
     match shape {
         Shape::Series => row.series,
         Shape::Frame => row.frame,
+    }
+}
+
+/// The method of texts that a name means behind `str`; `None` where there is none. Takes no memory.
+pub fn str_named(name: &str) -> Option<StrMethod>
+    ensures { result ≡ signature.str_named name.now }
+{
+    match name {
+        "len" => Some(StrMethod::Len),
+        "strip" => Some(StrMethod::Strip),
+        "startswith" => Some(StrMethod::Startswith),
+        "endswith" => Some(StrMethod::Endswith),
+        "contains" => Some(StrMethod::Contains),
+        "slice" => Some(StrMethod::Slice),
+        "zfill" => Some(StrMethod::Zfill),
+        _ => None,
     }
 }
 

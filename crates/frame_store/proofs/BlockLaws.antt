@@ -1,21 +1,21 @@
 -- The blocks on which objects lie: a call changes those of one object alone.
 use Rattle.{
   meaning_tables.proofs.cells.Common.{◌≡◌, ◌≢◌, ◌∙◌, refl, ap, ℕ, ◌+◌, ◌≤◌, List, [], map, Option, Some, None, slice_index_or},
-  block_pool.{specs.{Pools.{PoolValue, block_at, live_count}, Placed.{slot, Puts}}, proofs.ChangeLaws.{block_kept}},
-  block_manager.{specs.Managed.{Keeps, times}, proofs.TimesLaws.{times_here}},
+  block_pool.{specs.{Pools.{PoolValue, live_count}, Placed.{slot, Puts}}, proofs.ChangeLaws.{view_kept}},
+  block_manager.{specs.Managed.{BlockValue, Keeps, block_under, times, under}, proofs.TimesLaws.{times_here}},
   frame_store.{specs.Stores.{ObjectValue, IsKeptOn, IsStore, Trades, blocks_over, views_of, stands_in}, proofs.StoreLaws.{same_items, same_views, apart, apart_from_none, apart_from_both}},
 }
 
 -- an object that is apart from the views that gave way
 views_lie : (old new : PoolValue) (own : List ℕ) → Keeps old new own → (o : ObjectValue) → ((view : ℕ) → times view o.manager.views + times view own ≤ live_count old view)
-    → map (block_at new) o.manager.views ≡ map (block_at old) o.manager.views
-views_lie old new own kept o apart = same_items (block_at old) (block_at new) o.manager.views (λ k d lt.
+    → map (block_under new) o.manager.views ≡ map (block_under old) o.manager.views
+views_lie old new own kept o apart = same_items (block_under old) (block_under new) o.manager.views (λ k d lt.
     let v : ℕ = slice_index_or o.manager.views k d in
-    block_kept old new v (same_views old new own kept o apart v (times_here o.manager.views k d v lt refl)))
+    ap under (view_kept old new v (same_views old new own kept o apart v (times_here o.manager.views k d v lt refl))))
 
 -- the blocks of what stands in a slot
-abbrev lie : PoolValue → Option ObjectValue → List ℕ
-lie pool w = map (block_at pool) (views_of w)
+abbrev lie : PoolValue → Option ObjectValue → List BlockValue
+lie pool w = map (block_under pool) (views_of w)
 
 slot_lies : (old new : PoolValue) (w now : Option ObjectValue) → now ≡ w → ((x : ObjectValue) → w ≡ Some x → lie new (Some x) ≡ lie old (Some x)) → lie new now ≡ lie old w
 slot_lies old new None now is same = ap (lie new) is

@@ -1,5 +1,5 @@
 -- What the calls of a store make of it: an object is added, changed or ended, or one takes the place of another.
-use Rattle.{meaning_tables.{proofs.cells.Common.{◌≡◌, ◌≢◌, ◌∙◌, refl, sym, ap, subst, arith, ℕ, ◌+◌, ◌*◌, ◌≤◌, List, [], ◌++◌, length, map, Cell, Option, Some, None, IsSome, Result, Ok, Err, option_map, cases_eq, inl, inr, nat_eq, nat_tests, if◌then◌else◌, is_some, cond, ◌==◌, same_Some, set-get_or, slice_set}, specs.{Table.{NumberedTable}, Change.{with_values}, Valid.{IsWhole}}}, block_pool.{specs.{Pools.{PoolValue, ViewValue, block_at, live_count}, Placed.{slot, Puts}}, proofs.Slots.{puts_set}}, std.{proofs.lemmas.{List.Sums.{sum_by-append}, Bool.{false≢true}}, specs.{Prelude.{OnErr}, FinMap.{FinMap}, Ordering.{nat_cmp}}}, multi_index.specs.Axes.{AxisValue}, block_manager.specs.Managed.{AreLive, AreSole, Keeps, Stays, StayOnBlocks, times}, frame_store.{specs.{Parts.{AreRowsOf, AreColumnsOf, HaveRows}, Setting.{AreSet}, Stores.{ObjectValue, IsKeptOn, IsStore, Trades, blocks_over, table_over, tables_over, views_of, stands_in}, Objects.{Tables, with_object, table_or, manager_or, changing, LieStill}}, proofs.{SettingLaws.{are_set}, StoreLaws.{store_put, tables_put, store_both, tables_both, object_stays, table_stays, two_within}, KeptLaws.{blocks_stay}, BlockLaws.{blocks_stay_all, blocks_put, blocks_both}}}}
+use Rattle.{meaning_tables.{proofs.cells.Common.{◌≡◌, ◌≢◌, ◌∙◌, refl, sym, ap, subst, arith, ℕ, ◌+◌, ◌*◌, ◌≤◌, List, [], ◌++◌, length, map, Cell, Option, Some, None, IsSome, Result, Ok, Err, option_map, cases_eq, inl, inr, nat_eq, nat_tests, if◌then◌else◌, is_some, cond, ◌==◌, same_Some, set-get_or, slice_set}, specs.{Table.{NumberedTable}, Change.{with_values}, Valid.{IsWhole}}}, block_pool.{specs.{Pools.{PoolValue, ViewValue, live_count}, Placed.{slot, Puts}}, proofs.Slots.{puts_set}}, std.{proofs.lemmas.{List.Sums.{sum_by-append}, Bool.{false≢true}}, specs.{Prelude.{OnErr}, FinMap.{FinMap}, Ordering.{nat_cmp}}}, multi_index.specs.Axes.{AxisValue}, block_manager.specs.Managed.{AreLive, AreSole, block_under, Keeps, Stays, StayOnBlocks, times}, frame_store.{specs.{Parts.{AreRowsOf, AreColumnsOf, HaveRows}, Setting.{AreSet}, Stores.{ObjectValue, IsKeptOn, IsStore, Trades, blocks_over, table_over, tables_over, views_of, stands_in}, Objects.{Tables, with_object, table_or, manager_or, changing, LieStill}}, proofs.{SettingLaws.{are_set}, StoreLaws.{store_put, tables_put, store_both, tables_both, object_stays, table_stays, two_within}, KeptLaws.{blocks_stay}, BlockLaws.{blocks_stay_all, blocks_put, blocks_both}}}}
 
 -- what the store knows of a live object
 module _ (pool : PoolValue) (xs : List (Option ObjectValue)) (store : IsStore xs pool) (id : ℕ) (o : ObjectValue) (is : slot xs id ≡ Some o) where
@@ -229,7 +229,7 @@ module _ (old new : PoolValue) (xs ys : List (Option ObjectValue)) (on from : �
     pub lie_back : new ≡ old → LieStillOver None old new xs zs
     lie_back pools q live there apart =
         ap (λ (p : PoolValue). blocks_over p zs q) pools
-        ∙ ap (λ (w : Option ObjectValue). map (block_at old) (views_of w)) (slot_again old xs zs from b store at_from back_there others_back q)
+        ∙ ap (λ (w : Option ObjectValue). map (block_under old) (views_of w)) (slot_again old xs zs from b store at_from back_there others_back q)
 
   -- the other ended, and the one took its place
   module _ (trades : Trades old new a.manager.views []) where
@@ -275,7 +275,7 @@ sole_there pool xs id o columns is = subst (λ (w : Option ObjectValue). AreSole
 
 pub sole_blocks : (old new : PoolValue) (xs : List (Option ObjectValue)) (key : ℕ) (was now : ObjectValue) → slot xs key ≡ Some was → now ≡ was → StayOnBlocks old new → blocks_over new (slice_set xs key (Some now)) key ≡ blocks_over old xs key
 sole_blocks old new xs key was now is so stay =
-    ap (λ (l : List (Option ObjectValue)). map (block_at new) (views_of (slot l key))) (left_as_it_was xs key was now is so)
+    ap (λ (l : List (Option ObjectValue)). map (block_under new) (views_of (slot l key))) (left_as_it_was xs key was now is so)
     ∙ blocks_stay old new (views_of (slot xs key)) stay
 
 -- an object with another axis
@@ -289,7 +289,7 @@ relabelled pool xs key was now axis store is so rows =
     (record { stands = kept.stands; whole = record { headed = kept.whole.headed; filled = fits; headings = kept.whole.headings } }))
 
 pub lie_relabelled : (pool : PoolValue) (xs : List (Option ObjectValue)) (key : ℕ) (was now : ObjectValue) (axis : AxisValue) (but : Option ℕ) → slot xs key ≡ Some was → now ≡ record was { axis = axis } → LieStillOver but pool pool xs (slice_set xs key (Some now))
-lie_relabelled pool xs key was now axis but is so q live there apart = ap (map (block_at pool)) same
+lie_relabelled pool xs key was now axis but is so q live there apart = ap (map (block_under pool)) same
   where
     puts : Puts xs (slice_set xs key (Some now)) key (Some now)
     puts = puts_set xs key (Some now) (subst IsSome (sym is) refl)

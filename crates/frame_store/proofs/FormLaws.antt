@@ -1,5 +1,5 @@
 -- What forms cost: a form that costs at most so much costs at most more.
-use Rattle.{meaning_tables.{proofs.cells.Common.{◌≡◌, ◌∙◌, refl, ap, arith, ℕ, ◌≤◌, List, length-map, Option, None, IsSome, Result, Ok, Err, ⊤, Text, FaultValue}, specs.{Table.{NumberedTable, Table, table_value, tuple_value, column_value, cell_count}, Cost.{answer_charge, cost_of, free}, Value.{Entry}}}, frame_store.specs.{declared.{arguments.Value.{Value}, fault.OpFault.{OpFault}}, Objects.{Tables, Holding, LieStill}, Stores.{charged}, World.{World, Holds, FormsFor, SetsFor, changed_value}}}
+use Rattle.{meaning_tables.{proofs.cells.Common.{◌≡◌, ◌∙◌, refl, ap, arith, ℕ, ◌≤◌, List, length-map, Option, None, IsSome, Result, Ok, Err, ⊤, Text, FaultValue}, specs.{Table.{NumberedTable, Table, table_value, tuple_value, column_value, cell_count}, Cost.{answer_charge, cost_of, free}, Value.{Entry}}}, frame_store.specs.{declared.{arguments.Value.{Value}, fault.OpFault.{OpFault}}, Objects.{Tables, BlocksByObject, Holding, LieStill}, Stores.{charged}, World.{World, Holds, FormsFor, SetsFor, changed_value}}}
 use Rattle.meaning_tables.specs.Value as value
 
 pub cost_within : {A F : Type 0} (lower upper : A → ℕ) (meant : Result A F) → ((a : A) → meant ≡ Ok a → lower a ≤ upper a) → cost_of lower meant ≤ cost_of upper meant
@@ -19,12 +19,12 @@ pub holds_still : (more : ℕ) (but : Option ℕ) (tables : Tables) (holding : H
 holds_still more but tables holding before after = record { cells = omega arith; blocks = λ id live there apart. refl }
 
 -- one change of the blocks after another, and one of no object as one of this object
-pub lie_twice : (but : Option ℕ) (a b c : Tables) (x y z : ℕ → List ℕ) → ((id : ℕ) → IsSome (a id) → IsSome (c id) → IsSome (b id)) → LieStill but a b x y → LieStill but b c y z → LieStill but a c x z
+pub lie_twice : (but : Option ℕ) (a b c : Tables) (x y z : BlocksByObject) → ((id : ℕ) → IsSome (a id) → IsSome (c id) → IsSome (b id)) → LieStill but a b x y → LieStill but b c y z → LieStill but a c x z
 lie_twice but a b c x y z between first second id live there apart =
     let here : IsSome (b id) = between id live there in
     second id here there apart ∙ first id live here apart
 
-pub lie_but : (but : Option ℕ) (a b : Tables) (x y : ℕ → List ℕ) → LieStill None a b x y → LieStill but a b x y
+pub lie_but : (but : Option ℕ) (a b : Tables) (x y : BlocksByObject) → LieStill None a b x y → LieStill but a b x y
 lie_but but a b x y still id live there apart = still id live there (λ e. cc)
 
 -- a charge that is at most another one at the answer that is meant

@@ -1,5 +1,5 @@
 -- Where no object is live, nothing is held.
-use Rattle.{std.proofs.lemmas.List.{get_or-map, length-map, nil_from_length}, std.specs.Prelude.{map, sum, slice_index_or, IfSome, IsSome}, std.specs.FinMap.{FinMap, empty, entries, values, len-entries, len-empty}, std.specs.Ordering.{nat_cmp}, cell_core.specs.declared.cell.Cell.{Cell}, meaning_tables.specs.Table.{ColumnOf}, block_manager.specs.Managed.{Place, IsColumnOf, placed_column}, block_pool.proofs.TotalLaws.{total-remove}, meaning_tables.proofs.cells.Common.{◌*◌, ◌<◌, ◌≤◌, length, ◌≡◌, ◌∙◌, refl, sym, ap, arith, ℕ, zero, suc, ◌-◌, ◌^◌, min, List, [], ◌∷◌, Option, Some, None, option_map, sum_by, sum_by-cons, cond, is_some}, std.specs.FinMap.{get}, block_pool.{specs.{Pools.{PoolValue, ViewValue, empty_pool, KeepsBlocks, IsFree, held_of, total_of, cells_of, grid_at, view_or, live_count}, Placed.{slot}}, proofs.HeldLaws.{none_held}}, frame_store.specs.Stores.{ObjectValue, IsKeptOn, IsStore, table_over, tables_over, stands_in}}
+use Rattle.{std.proofs.lemmas.List.{get_or-map, length-map, nil_from_length}, std.specs.Prelude.{map, sum, slice_index_or, IfSome}, std.specs.FinMap.{FinMap, empty, entries, values, len-entries, len-empty}, std.specs.Ordering.{nat_cmp}, cell_core.specs.declared.cell.Cell.{Cell}, meaning_tables.specs.Table.{ColumnOf}, block_manager.specs.Managed.{Place, IsColumnOf, placed_column}, block_pool.proofs.TotalLaws.{total-remove}, meaning_tables.proofs.cells.Common.{◌*◌, ◌<◌, ◌≤◌, length, ◌≡◌, ◌∙◌, refl, sym, ap, arith, ℕ, zero, suc, ◌-◌, ◌^◌, min, List, [], ◌∷◌, Option, Some, None, option_map, sum_by, sum_by-cons, cond, is_some}, std.specs.FinMap.{get}, block_pool.{specs.{Pools.{PoolValue, ViewValue, empty_pool, KeepsBlocks, IsFree, held_of, total_of, cells_of, grid_at, view_or, live_count}, Placed.{slot}}, proofs.HeldLaws.{none_held}}, frame_store.specs.Stores.{ObjectValue, IsKeptOn, IsStore, table_over, tables_over, stands_in}}
 
 -- a pool without blocks holds nothing
 pub empty_total : total_of empty_pool ≡ 0
@@ -29,13 +29,9 @@ block_held m k n is = omega (arith, total-remove m k n is)
 
 -- a view lies on a block of at least its cells
 view_held : (pool : PoolValue) → KeepsBlocks pool → (id : ℕ) (v : ViewValue) → get pool.views id ≡ Some v → cells_of v.grid ≤ total_of pool
-view_held pool keeps id v is = at (get pool.blocks v.block) refl
-  where
-    at : (o : Option ℕ) → get pool.blocks v.block ≡ o → cells_of v.grid ≤ total_of pool
-    at (Some n) here = omega (arith, keeps.large id v is n here, block_held pool.blocks v.block n here)
-    at None none = let there : IsSome (get pool.blocks v.block) = keeps.lies id v is in absurd (grind (arith, none, there))
+view_held pool keeps id v is = omega (arith, keeps.large id v is, block_held pool.blocks v.block v.cells (keeps.lies id v is))
 
-live_view : (pool : PoolValue) (id : ℕ) → 0 < live_count pool id → (v : ViewValue) × (get pool.views id ≡ Some v)
+pub live_view : (pool : PoolValue) (id : ℕ) → 0 < live_count pool id → (v : ViewValue) × (get pool.views id ≡ Some v)
 live_view pool id live = at (get pool.views id) refl
   where
     at : (o : Option ViewValue) → get pool.views id ≡ o → (v : ViewValue) × (get pool.views id ≡ Some v)

@@ -1,5 +1,5 @@
 -- The parts of an object that changes, and what columns of another one share.
-use Rattle.{meaning_tables.{proofs.cells.Common.{◌≡◌, ◌∙◌, refl, sym, ap, subst, arith, ℕ, ◌*◌, ◌<◌, List, [], ◌∷◌, length, map, sum, All, All-map, All-tail, length-map, sum_by-cons, map-map, slice_index_or, remove, Option, Result, Ok, Err, IfOk, OnOk, on_ok_weaker, Label, Rows, Shape, Series, Cell, Na, AreRowsBelow}, specs.{Table.{NumberedTable, ColumnOf, column_at, no_column, cell_count}, Change.{put_at, with_values, with_values_from, strided_column, cut_columns}, Valid.{AreHeadings, IsWhole}}}, std.{proofs.lemmas.Result.{on_err_weaker}, specs.{Prelude.{OnErr}, FinMap.{FinMap, get}, Ordering.{nat_cmp}}}, std.proofs.Common.{ap₂}, multi_index.specs.Axes.{AxisValue}, column_core.specs.Blocks.{CellBlock}, block_pool.specs.Pools.{PoolValue, ViewValue, cells_of, block_at, live_count, total_of}, block_manager.{proofs.OtherLaws.{other_columns, other_stands}, specs.Managed.{ManagerValue, StandsOn, AreSole, Exchanges, Keeps, Stays, StayOnBlocks, columns_on, placed_column, times}}, frame_store.{specs.{Parts.{HeadingList, table_with, block_column, table_of, AreBelow, AreRowsOf, AreColumnsOf, AreRowsIn, HaveRows, IsSingle}, Stores.{ObjectValue, IsKeptOn, Trades, manager_views, table_over}}, proofs.{SettingLaws.{count_from, kinds_from, lengths_from}, ValueLaws.{AreAlike, rows_kept}, StoreLaws.{counts_once, same_items}, ColumnLaws.{put_is_whole, remove_is_whole}}}}
+use Rattle.{meaning_tables.{proofs.cells.Common.{◌≡◌, ◌∙◌, refl, sym, ap, subst, arith, ℕ, ◌*◌, ◌<◌, List, [], ◌∷◌, length, map, sum, All, All-map, All-tail, length-map, sum_by-cons, map-map, slice_index_or, remove, Option, Result, Ok, Err, IfOk, OnOk, on_ok_weaker, Label, Rows, Shape, Series, Cell, Na, AreRowsBelow}, specs.{Table.{NumberedTable, ColumnOf, column_at, no_column, cell_count}, Change.{put_at, with_values, with_values_from, strided_column, cut_columns}, Valid.{AreHeadings, IsWhole}}}, std.{proofs.lemmas.Result.{on_err_weaker}, specs.{Prelude.{OnErr}, FinMap.{FinMap, get}, Ordering.{nat_cmp}}}, std.proofs.Common.{ap₂}, multi_index.specs.Axes.{AxisValue}, column_core.specs.Blocks.{CellBlock}, block_pool.specs.Pools.{PoolValue, ViewValue, cells_of, live_count, total_of}, block_manager.{proofs.OtherLaws.{other_columns, other_stands}, specs.Managed.{ManagerValue, StandsOn, AreSole, Exchanges, Keeps, Stays, StayOnBlocks, block_under, rows_of, columns_on, placed_column, times}}, frame_store.{specs.{Parts.{HeadingList, table_with, block_column, table_of, AreBelow, AreRowsOf, AreColumnsOf, AreRowsIn, HaveRows, IsSingle}, Stores.{ObjectValue, IsKeptOn, Trades, manager_views, table_over}}, proofs.{SettingLaws.{count_from, kinds_from, lengths_from}, ValueLaws.{AreAlike, rows_kept}, StoreLaws.{counts_once, same_items}, ColumnLaws.{put_is_whole, remove_is_whole}}}}
 
 -- a table with other values is whole
 pub values_whole : (t : NumberedTable) (rows places : List ℕ) (values : List Cell) → IsWhole t → IsWhole (with_values t rows places values)
@@ -45,6 +45,10 @@ cells_of_blocks (b ∷ bs) n single rows =
 pub cells_of_table : (shape : Shape) (axis : AxisValue) (headings : HeadingList) (blocks : List CellBlock) → All IsSingle blocks → IsWhole (table_of shape axis headings blocks) → sum (map cells_of blocks) ≡ cell_count (table_of shape axis headings blocks)
 cells_of_table shape axis headings blocks single whole =
     cells_of_blocks blocks (length axis.tuples) single whole.filled ∙ ap (λ (n : ℕ). length axis.tuples * n) (sym (length-map blocks block_column))
+
+-- the columns of a whole table have as many cells as the first
+pub as_the_first : (columns : List (ColumnOf Cell)) (rows : ℕ) → HaveRows rows columns → HaveRows (rows_of columns) columns
+as_the_first columns rows all k d lt = all k d lt ∙ sym (all 0 no_column (omega (arith, lt)))
 
 -- columns at places, and at rows
 pub rows_of_picked : (rows : Rows) (columns : List (ColumnOf Cell)) (places : List ℕ) → All (λ c. AreRowsBelow rows (length c.cells)) columns → AreBelow (length columns) places → All (λ c. AreRowsBelow rows (length c.cells)) (map (column_at columns) places)
@@ -97,8 +101,8 @@ module _ (old mid new end : PoolValue) (m picked : ManagerValue) (rows : Rows) (
   }
 
 -- each view lies where it lay
-pub blocks_stay : (old new : PoolValue) (views : List ℕ) → StayOnBlocks old new → map (block_at new) views ≡ map (block_at old) views
-blocks_stay old new views stay = same_items (block_at old) (block_at new) views (λ k d lt. stay.lies (slice_index_or views k d))
+pub blocks_stay : (old new : PoolValue) (views : List ℕ) → StayOnBlocks old new → map (block_under new) views ≡ map (block_under old) views
+blocks_stay old new views stay = same_items (block_under old) (block_under new) views (λ k d lt. stay.lies (slice_index_or views k d))
 
 -- the same views show the same columns
 pub stays_columns : (old new : PoolValue) (m m' : ManagerValue) → m' ≡ m → Stays old new → columns_on new m' ≡ columns_on old m

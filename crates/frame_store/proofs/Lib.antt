@@ -7,6 +7,7 @@ pub mod BlockLaws
 pub mod KeptLaws
 pub mod ChangedLaws
 pub mod HeldLaws
+pub mod OnceLaws
 pub mod CellLaws
 pub mod ObjectLaws
 pub mod Settling

@@ -1,11 +1,13 @@
 -- Objects and their tables.
-use Rattle.std.specs.Prelude.{◌≡◌, ◌≢◌, ℕ, nat_eq, List, Option, Some, None, IsSome, Result, Ok, Err, if◌then◌else◌}
+use Rattle.std.specs.Prelude.{◌≡◌, ◌≢◌, ℕ, nat_eq, sum, List, All, Contains, Option, Some, None, IsSome, Result, Ok, Err, if◌then◌else◌}
+use Rattle.std.specs.Ordering.{nat_cmp}
+use Rattle.std.specs.FinMap.{FinMap, get, values}
 use Rattle.cell_core.specs.declared.cell.Label.{Label}
 use Rattle.block_pool.specs.Pools.{total_of, held_of as pool_held}
 use Rattle.block_pool.specs.Placed.{slot}
 use Rattle.meaning_tables.specs.Table.{NumberedTable, no_table, column_at}
 use Rattle.meaning_tables.specs.Change.{with_column}
-use Rattle.block_manager.specs.Managed.{ManagerValue, no_columns, RaisesBy, AreSole}
+use Rattle.block_manager.specs.Managed.{ManagerValue, BlockValue, no_columns, AreJoined, RaisesBy, AreSole}
 use Rattle.frame_store.specs.Stores.{ObjectValue, blocks_over, tables_over}
 use Rattle.frame_store.specs.declared.object.ObjId.{ObjId}
 use Rattle.frame_store.specs.declared.store.Store.{Store}
@@ -64,8 +66,11 @@ with_moved tables on column heading series =
 abbrev pub with_replaced : Tables → ℕ → ℕ → Tables
 with_replaced tables on by = with_object (with_object tables on (tables by)) by None
 
--- the blocks on which the columns of a live object lie
-abbrev pub blocks_on : Store → ℕ → List ℕ
+-- the blocks on which the columns of each live object lie
+abbrev pub BlocksByObject : Type 0
+BlocksByObject = ℕ → List BlockValue
+
+abbrev pub blocks_on : Store → BlocksByObject
 blocks_on s = blocks_over s.pool s.objects.slots
 
 -- How many cells the live objects hold together, up to 2^64 - 1. A block on which several of them have columns counts once.
@@ -76,10 +81,18 @@ held_of s = pool_held s.pool
 -- object lie.
 pub record Holding : Type 0 where
   pub cells : ℕ
-  pub blocks : ℕ → List ℕ
+  pub blocks : BlocksByObject
 
 abbrev pub holding_of : Store → Holding
 holding_of s = record { cells = total_of s.pool; blocks = blocks_on s }
+
+-- What is held is the cells of the blocks on which live objects lie, by their names: each counts once, on however many
+-- objects it is.
+pub record CountsOnce (tables : Tables) (holding : Holding) : Type 0 where
+  pub blocks : FinMap nat_cmp ℕ
+  pub cells : holding.cells ≡ sum (values blocks)
+  pub lies : (id : ℕ) → All (λ block. get blocks block.name ≡ Some block.cells) (holding.blocks id)
+  pub used : (name count : ℕ) → get blocks name ≡ Some count → (id : ℕ) × IsSome (tables id) × Contains (holding.blocks id) record { name = name; cells = count }
 
 -- at most so many cells more are held
 abbrev pub Raises : ℕ → Store → Store → Type 0
@@ -92,7 +105,7 @@ changing id (Err e) = None
 
 -- Each object that was live and still is, but this one, lies on the blocks on which it lay: by the tables and the blocks
 -- before and after, and by the stores.
-abbrev pub LieStill : Option ℕ → Tables → Tables → (ℕ → List ℕ) → (ℕ → List ℕ) → Type 0
+abbrev pub LieStill : Option ℕ → Tables → Tables → BlocksByObject → BlocksByObject → Type 0
 LieStill but old new before after = (id : ℕ) → IsSome (old id) → IsSome (new id) → but ≢ Some id → after id ≡ before id
 
 abbrev pub KeepBlocks : Option ℕ → Store → Store → Type 0
@@ -106,3 +119,7 @@ manager_or (Some o) = o.manager
 -- the columns at these places are alone on their blocks
 abbrev pub AreSoleIn : Store → ObjId → List ℕ → Type 0
 AreSoleIn s id columns = AreSole s.pool (manager_or (slot s.objects.slots id.0)) columns
+
+-- the columns of one kind of an object are on one block
+abbrev pub AreByKind : Store → ObjId → Type 0
+AreByKind s id = AreJoined s.pool (manager_or (slot s.objects.slots id.0))

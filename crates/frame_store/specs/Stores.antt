@@ -5,9 +5,9 @@ use Rattle.cell_core.specs.declared.grid.Shape.{Shape}
 use Rattle.multi_index.specs.Axes.{AxisValue}
 use Rattle.meaning_tables.specs.Table.{NumberedTable}
 use Rattle.meaning_tables.specs.Valid.{IsWhole}
-use Rattle.block_pool.specs.Pools.{PoolValue, block_at, live_count}
+use Rattle.block_pool.specs.Pools.{PoolValue, live_count}
 use Rattle.block_pool.specs.Placed.{slot}
-use Rattle.block_manager.specs.Managed.{ManagerValue, StandsOn, Exchanges, Keeps, columns_on, times}
+use Rattle.block_manager.specs.Managed.{ManagerValue, BlockValue, StandsOn, Exchanges, Keeps, block_under, columns_on, times}
 use Rattle.frame_store.specs.Parts.{HeadingList, table_with}
 
 -- what a live object keeps: its columns are those of the manager, on the store's pool
@@ -43,8 +43,8 @@ pub record IsStore (objects : List (Option ObjectValue)) (pool : PoolValue) : Ty
 abbrev pub tables_over : PoolValue → List (Option ObjectValue) → ℕ → Option NumberedTable
 tables_over pool objects = λ id. option_map (table_over pool) (slot objects id)
 
-abbrev pub blocks_over : PoolValue → List (Option ObjectValue) → ℕ → List ℕ
-blocks_over pool objects = λ id. map (block_at pool) (views_of (slot objects id))
+abbrev pub blocks_over : PoolValue → List (Option ObjectValue) → ℕ → List BlockValue
+blocks_over pool objects = λ id. map (block_under pool) (views_of (slot objects id))
 
 -- the views of the one list gave way to those of the other, and each other one is as it was
 pub record Trades (old new : PoolValue) (from to : List ℕ) : Type 0 where

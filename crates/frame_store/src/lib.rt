@@ -44,9 +44,7 @@ mod store;
 mod table;
 mod values;
 
-pub use arguments::{
-    Argument, Chain, Entries, Item, Items, Named, NamedList, Selector, Subscript, Value,
-};
+pub use arguments::{Argument, Entries, Item, Items, Named, NamedList, Selector, Subscript, Value};
 pub use blocks::Blocks;
 pub use derivations::{Derivation, Extension, derived, derived_behind};
 pub use fault::OpFault;

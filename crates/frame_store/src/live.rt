@@ -335,8 +335,8 @@ fn take(manager: &mut Manager, pool: &mut Pool, column: usize, from: Object) -> 
     }
 }
 
-/// The blocks, and behind them all columns of a manager, each of so many rows, whose cells they share.
-pub(crate) fn behind(
+// The blocks, and behind them all columns of a manager, each of so many rows, whose cells they share.
+fn behind(
     manager: &Manager,
     pool: &mut Pool,
     first: Vec<Block>,

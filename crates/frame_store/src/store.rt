@@ -42,7 +42,7 @@ pub struct Store {
 }
 
 impl Store {
-    ghost use Rattle.frame_store.specs.Objects.{tables, with_object, with_moved, with_replaced, table_on, held_of, holding_of, changing, AreSoleIn, KeepBlocks, Raises, blocks_on, IsLiveIn, IsFree, Stays, Becomes, Alters, Turns};
+    ghost use Rattle.frame_store.specs.Objects.{tables, with_object, with_moved, with_replaced, table_on, held_of, holding_of, changing, CountsOnce, AreByKind, AreSoleIn, KeepBlocks, Raises, blocks_on, IsLiveIn, IsFree, Stays, Becomes, Alters, Turns};
 
     /// A store without objects. Takes no memory.
     pub fn new(alloc: Global) -> Store
@@ -58,7 +58,8 @@ impl Store {
 
     /// A new object with the table of these parts: the axis has a tuple for each row, the headings
     /// an entry for each column, and each block is one column, in their order. The number that it
-    /// gets is that of no live object. `NoMemory` leaves the store as it was.
+    /// gets is that of no live object, and its columns of one kind lie on one block. `NoMemory`
+    /// leaves the store as it was.
     pub fn add(
         &mut self,
         shape: Shape,
@@ -74,18 +75,20 @@ impl Store {
         ensures err { OnErr result (Stays self.old self.new) }
         ensures held { Raises (charged (sum (map cells_of blocks)) result) self.old self.new }
         ensures blocks { KeepBlocks None self.old self.new }
+        ensures by_kind { IfOk result (AreByKind self.new) }
     {
         self.insert(Table::new(shape, axis, headings, blocks))
     }
 
-    /// A new object with the table. The number that it gets is that of no live object. `NoMemory`
-    /// leaves the store as it was.
+    /// A new object with the table. The number that it gets is that of no live object, and its columns
+    /// of one kind lie on one block. `NoMemory` leaves the store as it was.
     pub fn insert(&mut self, table: Table) -> Result<ObjId, NoMemory>
         ensures fresh { IfOk result (IsFree self.old) }
         ensures ok { IfOk result (λ id. Becomes self.old self.new id table) }
         ensures err { OnErr result (Stays self.old self.new) }
         ensures held { Raises (charged (cell_count table) result) self.old self.new }
         ensures blocks { KeepBlocks None self.old self.new }
+        ensures by_kind { IfOk result (AreByKind self.new) }
     {
         self.objects.reserve(1)?;
         let object = table.into_object(self.alloc, &mut self.pool)?;
@@ -328,6 +331,7 @@ impl Store {
     /// memory.
     pub fn held(&self) -> u64
         ensures count { result ≡ held_of self.now }
+        ensures once { CountsOnce (tables self.now) (holding_of self.now) }
         ensures none { ((id : ℕ) → tables self.now id ≡ None) → result ≡ 0 }
         ensures least { (id : ℕ) → IfSome (tables self.now id) (λ t.
             0 < length t.columns → length t.labels ≤ (holding_of self.now).cells) }

@@ -2,7 +2,7 @@
 ghost use Rattle.std.specs.Prelude.{◌≡◌, ◌*◌, ◌≤◌, [], length, All, IfOk, OnOk, OnErr};
 ghost use Rattle.meaning_tables.specs.Change.{with_column, with_values};
 ghost use Rattle.meaning_tables.specs.Valid.{IsWhole};
-ghost use Rattle.block_manager.specs.Managed.{RaisesBy};
+ghost use Rattle.block_manager.specs.Managed.{AreJoined, RaisesBy};
 ghost use Rattle.frame_store.specs.Setting.{AreSet};
 ghost use Rattle.frame_store.specs.Parts.{block_column, table_of, AreRowsOf, AreColumnsOf, FitsRows, IsSingle, AreHeld, TakesHeading};
 ghost use Rattle.meaning_tables.specs.Table.{cell_count};
@@ -11,7 +11,7 @@ ghost use Rattle.frame_store.specs.Stores.{IsKeptOn, Trades, charged, object_vie
 use crate::blocks::Blocks;
 use crate::columns::put_at;
 use crate::headings::Headings;
-use crate::live::{Object, behind};
+use crate::live::Object;
 use crate::object::{Columns, ObjRef};
 use crate::values::put_values;
 use block_manager::Manager;
@@ -75,15 +75,16 @@ impl Table {
         }
     }
 
-    /// The object with the parts of the table, whose blocks become the pool's. `NoMemory` leaves the views
-    /// of the pool and their blocks as they were.
+    /// The object with the parts of the table, whose columns come onto blocks of the pool, those of one
+    /// kind onto one. `NoMemory` leaves the views of the pool and their blocks as they were.
     pub(crate) fn into_object(self, alloc: Global, pool: &mut Pool) -> Result<Object, NoMemory>
         ensures table { IfOk result (λ object. table_over pool.new object ≡ self) }
         ensures kept { IfOk result (λ object. IsKeptOn pool.new object) }
         ensures trades { Trades pool.old pool.new [] (object_views result) }
         ensures held { RaisesBy (charged (cell_count self) result) pool.old pool.new }
+        ensures joined { IfOk result (λ object. AreJoined pool.new object.manager) }
     {
-        let manager = behind(&Manager::new(alloc), pool, self.blocks, self.axis.len())?;
+        let manager = Manager::of_blocks(alloc, pool, self.blocks)?;
         let headings = Headings {
             columns_name: self.columns_name,
             labels: self.headings,

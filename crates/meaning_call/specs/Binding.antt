@@ -95,6 +95,10 @@ abbrev pub is_axis : CellValue → Bool
 is_axis (int_cell z) = int_eq z (pos 0) || int_eq z (pos 1)
 is_axis c = false
 
+abbrev pub is_false : CellValue → Bool
+is_false (truth_cell b) = not b
+is_false c = false
+
 -- whether a scalar is among the listed values
 abbrev pub lists_scalar : Choices → CellValue → Bool
 lists_scalar listed.Any c = true
@@ -106,6 +110,7 @@ lists_scalar listed.Joins c = is_among join_names c
 lists_scalar listed.Validations c = is_among validation_names c
 lists_scalar listed.Aggregations c = is_among aggregation_names c
 lists_scalar listed.Axes c = is_axis c
+lists_scalar listed.NoRegex c = is_false c
 
 abbrev pub is_kind_name : Given → Bool
 is_kind_name (one (cell c)) = is_among kind_names c

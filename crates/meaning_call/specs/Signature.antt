@@ -24,6 +24,8 @@ use Rattle.meaning_call.specs.declared.LabelMethod.TheVariants as label_method
 use Rattle.meaning_call.specs.declared.TableMethod.TheVariants as table_method
 use Rattle.meaning_call.specs.declared.ReshapeMethod.TheVariants as reshape_method
 use Rattle.meaning_call.specs.declared.OtherMethod.TheVariants as other_method
+use Rattle.meaning_call.specs.declared.StrMethod.{StrMethod}
+use Rattle.meaning_call.specs.declared.StrMethod.TheVariants as str_method
 use Rattle.meaning_call.specs.declared.Function.{Function}
 use Rattle.meaning_call.specs.declared.Function.TheVariants as function
 use Rattle.meaning_call.specs.declared.ParameterName.{ParameterName}
@@ -104,6 +106,16 @@ parameters_of (method.Reshape reshape_method.PivotTable) =
     ∷ among listed.Aggregations (needed name.Aggfunc accepted.Text) ∷ []
 parameters_of (method.Reshape reshape_method.Melt) = optional name.IdVars accepted.Labels omitted.None ∷ optional name.ValueVars accepted.Labels omitted.None ∷ []
 
+-- A pattern is a text and no regular expression, which has to be said.
+abbrev pub str_parameters : StrMethod → List Parameter
+str_parameters str_method.Len = []
+str_parameters str_method.Strip = []
+str_parameters str_method.Startswith = needed name.Pat accepted.Text ∷ []
+str_parameters str_method.Endswith = needed name.Pat accepted.Text ∷ []
+str_parameters str_method.Contains = needed name.Pat accepted.Text ∷ among listed.NoRegex (needed name.Regex accepted.Truth) ∷ []
+str_parameters str_method.Slice = optional name.Start accepted.Whole omitted.None ∷ optional name.Stop accepted.Whole omitted.None ∷ optional name.Step accepted.Whole omitted.None ∷ []
+str_parameters str_method.Zfill = needed name.Width accepted.Whole ∷ []
+
 abbrev pub function_parameters : Function → List Parameter
 function_parameters function.Series =
     needed name.Values accepted.Scalars ∷ optional name.Index accepted.RowLabels omitted.None ∷ optional name.Name accepted.Scalar omitted.None
@@ -146,14 +158,20 @@ spelled name.Name = codes "name"
 spelled name.Names = codes "names"
 spelled name.Objects = codes "objects"
 spelled name.On = codes "on"
+spelled name.Pat = codes "pat"
 spelled name.Periods = codes "periods"
+spelled name.Regex = codes "regex"
 spelled name.Right = codes "right"
 spelled name.Sort = codes "sort"
+spelled name.Start = codes "start"
+spelled name.Step = codes "step"
+spelled name.Stop = codes "stop"
 spelled name.Subset = codes "subset"
 spelled name.Validate = codes "validate"
 spelled name.Value = codes "value"
 spelled name.ValueVars = codes "value_vars"
 spelled name.Values = codes "values"
+spelled name.Width = codes "width"
 spelled name.Window = codes "window"
 
 abbrev pub default_text : DefaultText → Text
@@ -249,6 +267,18 @@ same_method m n = false
 -- whether a method is one of the shape: some name means it there
 abbrev pub fits_shape : Method → Shape → Bool
 fits_shape m s = list_any (λ n. option_map_or (same_method m) (method_at s n) false) method_names
+
+-- the method of texts that a name means, behind `str`
+abbrev pub str_named : Text → Option StrMethod
+str_named t =
+    if same_text t (codes "len") then Some str_method.Len
+    else if same_text t (codes "strip") then Some str_method.Strip
+    else if same_text t (codes "startswith") then Some str_method.Startswith
+    else if same_text t (codes "endswith") then Some str_method.Endswith
+    else if same_text t (codes "contains") then Some str_method.Contains
+    else if same_text t (codes "slice") then Some str_method.Slice
+    else if same_text t (codes "zfill") then Some str_method.Zfill
+    else None
 
 -- the function that a name means
 abbrev pub function_named : Text → Option Function

@@ -177,6 +177,26 @@ pub enum OtherMethod {
     Merge,
 }
 
+/// A method of the texts of a Series, which stands behind `str` ("Working with text data"). A text is its list of code
+/// points, and NA stays NA.
+#[derive(Clone, Copy, PartialEq, Eq)]
+pub enum StrMethod {
+    /// `len`: how many code points each text has.
+    Len,
+    /// `strip`: each text without the white space at its ends.
+    Strip,
+    /// `startswith`: whether each text begins with another.
+    Startswith,
+    /// `endswith`: whether each text ends with another.
+    Endswith,
+    /// `contains`: whether another text stands at some place of each.
+    Contains,
+    /// `slice`: Python's slice of each text.
+    Slice,
+    /// `zfill`: zeros in front of each text, after a first sign, up to a width.
+    Zfill,
+}
+
 /// A function of `pd`.
 #[derive(Clone, Copy, PartialEq, Eq)]
 pub enum Function {
@@ -247,12 +267,22 @@ pub enum ParameterName {
     Objects,
     /// `on`: the columns that have the keys of `merge`.
     On,
+    /// `pat`: the text that a method of texts looks for.
+    Pat,
     /// `periods`: the number of rows by which `shift` moves the cells.
     Periods,
+    /// `regex`: whether `contains` reads its text as a pattern of regular expressions.
+    Regex,
     /// `right`: the other frame of `merge`.
     Right,
     /// `sort`: whether groups stand in the order of their keys.
     Sort,
+    /// `start`: the place of a text's slice at which it begins.
+    Start,
+    /// `step`: by how many places a text's slice goes on.
+    Step,
+    /// `stop`: the place of a text's slice before which it ends.
+    Stop,
     /// `subset`: the columns that `duplicated` compares.
     Subset,
     /// `validate`: on which sides of `merge` no key may stand twice.
@@ -263,6 +293,8 @@ pub enum ParameterName {
     ValueVars,
     /// `values`: the scalars of a Series or of `isin`, or the column whose cells a pivot has.
     Values,
+    /// `width`: how many code points `zfill` fills a text up to.
+    Width,
     /// `window`: how many rows a window has.
     Window,
 }
@@ -352,6 +384,8 @@ pub enum Choices {
     Aggregations,
     /// 0 and 1.
     Axes,
+    /// `False`: a text is looked for as it stands.
+    NoRegex,
 }
 
 /// One parameter of a signature.

@@ -1,7 +1,7 @@
 -- No call of a method or a function has the fault that a file isn't there.
 use Rattle.{
   meaning_script.{proofs.cells.Common.{arith, List, [], ◌∷◌, Bool, Option, ℕ, false, Some, None, Result, ◌≡◌, true, LabelValue, CellValue, Text, FaultValue, Cumulation, Shape, Series, Frame}, specs.{shapes.Reshape.{UnstackRefusal}, group.Reductions.{GroupReduction}, tables.{Table.{ColumnOf, Table}, Value.{Given, object_in, NamedGiven, GivenList, Entry, cell, table}}, call.{declared.{Function.{Function}, Method.{Method}, ReshapeMethod.{ReshapeMethod}}, Binding.{text_in, bound_of, Bound}, Signature.{function_parameters, function_named}}, method.{Merge.{keys_named, keys_under, keys_on, keys_of_merge, merge_result}, Concat.{Concatenation, frames_below, below, along, concat_result, concat_call}, Groups.{Grouping, Values, GroupCall, group_answer, of_bound, grouping_in, values_named, values_in, transform_in, without_arguments, group_call_of, grouped_of, grouped_result}, Calls.{ChainValue, table_call, plain_result, call_result}, Windows.{Windows, rolling_in, expanding_in, window_call, windowed, windows_of, rolling_result, expanding_result}, Reshape.{met_labels, unstacked_at, Pivoted, pivoted_in, pivoted, group_series, melted_in, value_labels, melt_result, reshaped}, Functions.{made_named, function_result}, Readers.{reads_file, read_result}}, select.Select.{shown_as}}},
-  meaning_laws.{specs.FormFault.{HasFormFault}, proofs.{FormFaults.{if_fault, then_value_fault, finished_fault, argument_columns_fault, on_fault, limited_fault, try_all_fault, of_length_fault, on_bound_fault, made_column_fault, argument_column_fault, series_call_fault, frame_call_fault, read_result_fault}, MethodFaults.{each_column_fault, level_of_fault, called_fault}}},
+  meaning_laws.{specs.FormFault.{HasFormFault}, proofs.{FormFaults.{if_fault, then_value_fault, finished_fault, argument_columns_fault, on_fault, limited_fault, try_all_fault, of_length_fault, on_bound_fault, made_column_fault, argument_column_fault, series_call_fault, frame_call_fault, read_result_fault}, MethodFaults.{each_column_fault, level_of_fault, called_fault}, StrLaws.{str_result_fault}}},
 }
 use Rattle.meaning_script.specs.call.declared.Function.TheVariants as function
 use Rattle.meaning_script.specs.call.declared.Method.TheVariants as method
@@ -158,6 +158,7 @@ plain_result_fault (table t) name gs = table_call_fault _ name gs t
 
 pub call_result_fault : (v : Entry) (chain : ChainValue) (gs : List NamedGiven) → HasFormFault (call_result v chain gs)
 call_result_fault v (call.plain name) gs = plain_result_fault v name gs
+call_result_fault v (call.on_texts name) gs = str_result_fault v name gs
 call_result_fault v (call.grouped by brackets name) gs = grouped_fault v by brackets name gs
 call_result_fault v (call.rolling args name) gs = rolling_fault v args name gs
 call_result_fault v (call.expanding args name) gs = expanding_fault v args name gs

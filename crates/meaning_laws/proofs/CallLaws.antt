@@ -1,7 +1,7 @@
 -- Calls behind values and calls of functions of `pd` make valid tables of valid values and arguments.
 use Rattle.{
-  meaning_script.{proofs.{cells.Common.{◌≡◌, refl, ℕ, List, ◌<◌, [], ◌∷◌, length, map, length-append, arith, eqb-true, length-map, All-append, true, Option, Some, None, IfOk, nat_eq, slice_get, codes, IsSome, IfSome, All, position_or_len, Text}, tables.KindLaws.{kind_is}, call.ShapeLaws.{named_fits, of_frame}}, specs.{tables.{Table.{Table, column_at}, Value.{Entry, cell, table, NamedGiven, Given, object_in}, Valid.{IsValid}}, call.{declared.{Function.{Function}, Method.{Method, TheVariants.{Other}}, OtherMethod.TheVariants.{Merge}}, Signature.{method_names, fits_shape, parameters_of}, Binding.{argument_at, text_in}}, form.{Finish.{finished}, Select.{heading_at}}, method.{Calls.{ChainValue, plain, grouped, rolling, expanding, table_call, plain_result, call_result, merge_call}, Functions.{made_by, made_named, function_result}, Rows.{all_places}, Merge.{MergeKeys, kinds_at, are_same_kinds, keys_of_merge, suffixed_heading, right_places, left_heading, right_heading, column_of_side, key_cell, joined_key_column, right_key, joined_or_left, left_column, merged, merged_rows, merge_result}}, join.{declared.{How.{How}, Validate.{Validate}}, Pairs.{Pair}}}},
-  meaning_laws.{specs.Validity.{IsValidObject, IsValidEntry, AreValidArguments}, proofs.{ListLaws.{all_made, all_mapped, then_keeps, on_keeps, on_some_keeps}, Words.{Keeps, IsFrame, Name, Below}, TableLaws.{shaped, IsShaped, cells_held}, MethodLaws.{on_bound_keeps, called_keeps}, WindowLaws.{rolling_result_keeps, expanding_result_keeps}, ReshapeLaws.{reshaped_keeps}, CsvLaws.{read_result_keeps}, MakeLaws.{series_call_keeps, frame_call_keeps}, ConcatLaws.{concat_call_keeps}, ColumnLaws.{IsColumn, Held}, ReachLaws.{below_all, some_below}, InfixLaws.{gap_held}, GroupLaws.{AreLabels, frame_keeps, grouped_result_keeps}, SetLaws.{length_default, default_levels}, ArgumentLaws.{argument_valid, object_valid, frame_at, bound_taken}}},
+  meaning_script.{proofs.{cells.Common.{◌≡◌, refl, ℕ, List, ◌<◌, [], ◌∷◌, length, map, length-append, arith, eqb-true, length-map, All-append, true, Option, Some, None, IfOk, nat_eq, slice_get, codes, IsSome, IfSome, All, position_or_len, Text}, tables.KindLaws.{kind_is}, call.ShapeLaws.{named_fits, of_frame}}, specs.{tables.{Table.{Table, column_at}, Value.{Entry, cell, table, NamedGiven, Given, object_in}, Valid.{IsValid}}, call.{declared.{Function.{Function}, Method.{Method, TheVariants.{Other}}, OtherMethod.TheVariants.{Merge}}, Signature.{method_names, fits_shape, parameters_of}, Binding.{argument_at, text_in}}, form.{Finish.{finished}, Select.{heading_at}}, method.{Calls.{ChainValue, plain, on_texts, grouped, rolling, expanding, table_call, plain_result, call_result, merge_call}, Functions.{made_by, made_named, function_result}, Rows.{all_places}, Merge.{MergeKeys, kinds_at, are_same_kinds, keys_of_merge, suffixed_heading, right_places, left_heading, right_heading, column_of_side, key_cell, joined_key_column, right_key, joined_or_left, left_column, merged, merged_rows, merge_result}}, join.{declared.{How.{How}, Validate.{Validate}}, Pairs.{Pair}}}},
+  meaning_laws.{specs.Validity.{IsValidObject, IsValidEntry, AreValidArguments}, proofs.{ListLaws.{all_made, all_mapped, then_keeps, on_keeps, on_some_keeps}, Words.{Keeps, IsFrame, Name, Below}, TableLaws.{shaped, IsShaped, cells_held}, MethodLaws.{on_bound_keeps, called_keeps}, WindowLaws.{rolling_result_keeps, expanding_result_keeps}, StrLaws.{str_result_keeps}, ReshapeLaws.{reshaped_keeps}, CsvLaws.{read_result_keeps}, MakeLaws.{series_call_keeps, frame_call_keeps}, ConcatLaws.{concat_call_keeps}, ColumnLaws.{IsColumn, Held}, ReachLaws.{below_all, some_below}, InfixLaws.{gap_held}, GroupLaws.{AreLabels, frame_keeps, grouped_result_keeps}, SetLaws.{length_default, default_levels}, ArgumentLaws.{argument_valid, object_valid, frame_at, bound_taken}}},
 }
 use Rattle.meaning_script.specs.call.declared.Function.TheVariants as function
 use Rattle.meaning_script.specs.call.declared.Method.TheVariants as method
@@ -109,6 +109,7 @@ plain_result_keeps (table t) name gs h k = table_call_keeps _ name gs t (shaped 
 -- any call behind a value
 pub call_result_keeps : (v : Entry) (chain : ChainValue) (gs : List NamedGiven) → IsValidObject v → AreValidArguments gs → IfOk (call_result v chain gs) IsValidEntry
 call_result_keeps v (plain name) gs h k = plain_result_keeps v _ gs h k
+call_result_keeps v (on_texts name) gs h k = str_result_keeps v name gs h
 call_result_keeps v (grouped by brackets name) gs h k = grouped_result_keeps v by brackets name gs h
 call_result_keeps v (rolling args name) gs h k = rolling_result_keeps v args name gs h
 call_result_keeps v (expanding args name) gs h k = expanding_result_keeps v args name gs h

@@ -10,6 +10,7 @@ pub mod LevelLaws
 pub mod GroupLaws
 pub mod MethodLaws
 pub mod WindowLaws
+pub mod StrLaws
 pub mod MakeLaws
 pub mod CsvLaws
 pub mod ArgumentLaws

@@ -155,6 +155,7 @@ named_within (Some m) name gs t s = method_within m name gs t s
 pub call_within : (v : Entry) (chain : ChainValue) (gs : List NamedGiven) → IsValidObject v → IfOk (call_result v chain gs) (λ w. entry_rows w ≤ entry_rows v + call_charge v chain gs w)
 call_within (cell c) (calls.plain name) gs h = tt
 call_within (table t) (calls.plain name) gs h = named_within (method_named t.shape name) name gs t (shaped t h)
+call_within v (calls.on_texts name) gs h = costs_cells _ (entry_rows v)
 call_within v (calls.grouped by brackets name) gs h = costs_cells _ (entry_rows v)
 call_within v (calls.rolling args name) gs h = costs_cells _ (entry_rows v)
 call_within v (calls.expanding args name) gs h = costs_cells _ (entry_rows v)

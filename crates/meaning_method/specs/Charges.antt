@@ -50,7 +50,7 @@ abbrev pub plain_charge : Entry → Text → List NamedGiven → Entry → ℕ
 plain_charge (cell c) name gs answer = 0
 plain_charge (table t) name gs answer = named_charge (method_named t.shape name) gs t answer
 
--- any call behind a value; behind `groupby`, `rolling` and `expanding` it costs the answer's cells
+-- any call behind a value; behind `str`, `groupby`, `rolling` and `expanding` it costs the answer's cells
 abbrev pub call_charge : Entry → ChainValue → List NamedGiven → Entry → ℕ
 call_charge v (calls.plain name) gs answer = plain_charge v name gs answer
 call_charge v chain gs answer = answer_charge answer

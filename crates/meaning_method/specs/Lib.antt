@@ -6,6 +6,7 @@ pub mod Section
 pub mod Methods
 pub mod Groups
 pub mod Windows
+pub mod StrCalls
 pub mod Merge
 pub mod Concat
 pub mod Reshape
@@ -26,4 +27,5 @@ pub use Rattle.meaning_group.specs.pick as pick
 pub use Rattle.meaning_shapes.specs as shapes
 pub use Rattle.meaning_select.specs as select
 pub use Rattle.meaning_select.specs.tables as tables
+pub use Rattle.meaning_text.specs as text
 pub use Rattle.meaning_window.specs as window

@@ -20,4 +20,5 @@ pub use Rattle.meaning_method.specs.pick as pick
 pub use Rattle.meaning_method.specs.shapes as shapes
 pub use Rattle.meaning_method.specs.select as select
 pub use Rattle.meaning_method.specs.tables as tables
+pub use Rattle.meaning_method.specs.text as text
 pub use Rattle.meaning_method.specs.window as window

@@ -1,6 +1,7 @@
 -- Texts that are written out.
 use Rattle.std.specs.Prelude.{◌≡◌, pos, negsuc, true, false, [], ◌∷◌, codes, Some, None, Err}
 use Rattle.std.proofs.Common.{refl}
+use Rattle.std.specs.Int.{int_wrap}
 use Rattle.std.specs.Str.{chars}
 use Rattle.std.specs.Char.{encode_utf8}
 use Rattle.meaning_pick.specs.cells.Text.{Text}
@@ -16,7 +17,7 @@ abbrev padded : Text
 padded = 0xC2 ∷ 0xA0 ∷ 97 ∷ 0xC2 ∷ 0xA0 ∷ []
 
 two_points : method_cell len (text_cell japan) ≡ int_cell (pos 2)
-unfolding chars
+unfolding chars int_wrap
 two_points = refl
 
 blanks : method_cell strip (text_cell (codes " ab ")) ≡ text_cell (codes "ab")

@@ -1,5 +1,6 @@
 -- Methods of texts, and what each makes of a column.
 use Rattle.std.specs.Prelude.{ℕ, ℤ, pos, Bool, true, not, List, map, length, nat_eq, int_le, Option, Result, Ok, Err, if◌then◌else◌}
+use Rattle.std.specs.Int.{int_wrap, w64}
 use Rattle.std.specs.List.{starts_with, ends_with}
 use Rattle.std.specs.Ordering.{int_eq}
 use Rattle.std.specs.Str.{chars, encode_utf8_all}
@@ -31,9 +32,9 @@ points_of t = chars t
 abbrev pub text_with : List ℕ → CellValue
 text_with cs = text_cell (encode_utf8_all cs)
 
--- what a method makes of the code points of a text
+-- what a method makes of the code points of a text; numbers of code points wrap at 64 bits, as numbers of cells do
 abbrev pub method_value : TextMethod → List ℕ → CellValue
-method_value len cs = int_cell (pos (length cs))
+method_value len cs = int_cell (int_wrap w64 (pos (length cs)))
 method_value strip cs = text_with (stripped cs)
 method_value (starts pattern) cs = truth_cell (starts_with nat_eq cs (points_of pattern))
 method_value (ends pattern) cs = truth_cell (ends_with nat_eq cs (points_of pattern))

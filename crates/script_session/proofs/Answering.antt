@@ -1,8 +1,8 @@
 -- What statements answer.
 use Rattle.{
-  script_state.{proofs.{cells.Common.{arith, ◌≡◌, ℕ, Bool, true, false, nat_eq, List, [], ◌∷◌, Option, Some, None, refl, sym, subst, ◌∙◌, ap, Contents, IsSome, if◌then◌else◌, Result, Ok, Err, IsErrAnd, ⊤, Text, same_text, FaultValue}, Bindings.{nat_same, nat_eq_self, true_false, same_congr, named_object}, States.{same_state, state_kept, state_swept, bind_state}, Worlds.{entry_seen, some_shown, set_failed, keeps_both, keeps_same, blocks_same, blocks_both}, Validity.{spent_state}, Rides.{serves_self, serves_both, caused_later, goes_both, stuck_both, spends_both, pays_value, pays_none, pays_by, pays_both, halts_first, goes_same, fault_uncaused, spends_none}, laws.SpentLaws.{sum-nothing}}, specs.{cells.Cell.{IsLonger}, tables.{Cost.{free}, Table.{Table}}, script.{State.{State}, Spent.{spent_for}, Reading.{Files, Reading, Reads, at_once}, Statement.{Answer, with_value, done, refused, then_answer, set_answer, is_chained}}, frame_set.Assigned.{without}, declared.{file_names.FileName.{FileName}, fault.EvalFault.{EvalFault}, work.Work.{Work}}, Evaluates.{Moment, meter_of, moment_of, Evaluates}, Reads.{Costs, Tab, Meter, metered, files_in, Pays, Halts}, Charges.{Charges}, Work.{names_in, tab_of, tables_in, world_of, state_in, SetsFrom}, Bindings.{Bindings, bound, value_at, is_named, state_over, IsOf, KeepNamed, AreGiven, AreNamed}, laws.FormFault.{HasFormFault}}},
+  script_state.{proofs.{cells.Common.{arith, ◌≡◌, ◌≤◌, ℕ, Bool, true, false, nat_eq, List, [], ◌∷◌, Option, Some, None, refl, sym, subst, ◌∙◌, ap, Contents, IsSome, if◌then◌else◌, Result, Ok, Err, IsErrAnd, ⊤, Text, same_text, FaultValue}, Bindings.{nat_same, nat_eq_self, true_false, same_congr, named_object}, States.{same_state, state_kept, state_swept, bind_state}, Worlds.{entry_seen, some_shown, shown_some, set_failed, keeps_both, keeps_same, blocks_same, blocks_both}, Validity.{spent_state}, Rides.{serves_self, serves_both, caused_later, goes_both, stuck_both, spends_both, pays_value, pays_none, pays_by, pays_both, halts_first, goes_same, fault_uncaused, spends_none}, laws.SpentLaws.{sum-nothing}}, specs.{cells.Cell.{IsLonger}, tables.{Cost.{free}, Table.{Table}}, script.{State.{State}, Spent.{spent_for}, Reading.{Files, Reading, Reads, at_once}, Statement.{Answer, with_value, done, refused, then_answer, set_answer, is_chained}}, frame_set.Assigned.{without}, declared.{file_names.FileName.{FileName}, fault.EvalFault.{EvalFault}, work.Work.{Work}}, Evaluates.{Moment, meter_of, moment_of, Evaluates}, Reads.{Costs, Tab, Meter, metered, files_in, Pays, Halts}, Charges.{Charges}, Work.{names_in, tab_of, tables_in, world_of, state_in, SetsFrom}, Bindings.{Bindings, bound, value_at, is_named, state_over, IsOf, KeepNamed, AreGiven, AreNamed}, laws.FormFault.{HasFormFault}}},
   std.{specs.Prelude.{OnErr, OnOk, is_ok}, proofs.lemmas.Result.{on_err_weaker}},
-  frame_store.{specs.{Objects.{Tables, KeepBlocks, LieStill}, Shown.{Changes, table_in}, declared.{object.ObjId.{ObjId}, arguments.{Value.{Value, TheVariants.{Object, Scalar}}, Argument.{Argument, TheVariants.{Nothing}}}, fault.OpFault.{OpFault}}, World.{World, IsSettledWorld, objects_of, entry_in, changed_value, Keeps, SetsFor}}, proofs.Settling.{seen_later, longer_twice}},
+  frame_store.{specs.{Objects.{Tables, BlocksByObject, CountsOnce, KeepBlocks, LieStill, held_of}, Shown.{Shown, Changes, table_in}, declared.{object.ObjId.{ObjId}, arguments.{Value.{Value, TheVariants.{Object, Scalar}}, Argument.{Argument, TheVariants.{Nothing}}}, fault.OpFault.{OpFault}}, World.{World, IsSettledWorld, objects_of, entry_in, changed_value, Keeps, SetsFor}}, proofs.{OnceLaws.{held_by_blocks}, Settling.{seen_later, longer_twice}}},
   frame_store.specs.declared.fault.OpFault.TheVariants.{Refused as OpRefused, NoMemory as OpNoMemory},
   script_session.specs.{declared.fault.{Outcome.{Outcome}, StepFault.{StepFault, TheVariants.{Refused, Input, NoMemory}}}, Faults.{IsStepFault, Performs, Answers, step_fault, marked_fault}},
   outside_io.specs.Files.{FilesValue, Serves},
@@ -99,7 +99,7 @@ refused_is : (charge : Table → ℕ) (t : State) (o : Option Text) (meant : Res
 refused_is charge t o meant fault is = rw is refl
 
 -- a setting that is refused changes the blocks of no object
-still_refused : (on : Value) (f : OpFault) (live live' : Tables) (before after : ℕ → List ℕ) → LieStill (changed_value {A = ⊤} on (Err f)) live live' before after → LieStill None live live' before after
+still_refused : (on : Value) (f : OpFault) (live live' : Tables) (before after : BlocksByObject) → LieStill (changed_value {A = ⊤} on (Err f)) live live' before after → LieStill None live live' before after
 still_refused (Object id) f live live' before after still = still
 still_refused (Scalar c) f live live' before after still = still
 
@@ -213,3 +213,10 @@ pub lie_refused : (r : Result Outcome StepFault) (s w set u : Work) (left : ℕ)
     → OnErr r (KeepBlocks None s.store u.store)
 lie_refused (Ok o) s w set u left kept lie same swept = tt
 lie_refused (Err f) s w set u left kept lie same swept = blocks_both s w u kept lie (subst (λ (x : Work). KeepBlocks None x.store u.store) same swept)
+
+-- so no more is held
+pub held_refused : (r : Result Outcome StepFault) (s u : Work) → CountsOnce (tables_in s) (world_of s).holding → CountsOnce (tables_in u) (world_of u).holding → OnErr r (objects_of (world_of u) ≡ objects_of (world_of s)) → OnErr r (KeepBlocks None s.store u.store)
+    → OnErr r (held_of u.store ≤ held_of s.store)
+held_refused (Ok o) s u was is live lie = tt
+held_refused (Err f) s u was is live lie =
+    held_by_blocks s.store u.store was is (λ id there. some_shown (world_of s) id (subst (λ (f : Shown). IsSome (f id)) live (shown_some (world_of u) id there))) lie

@@ -60,10 +60,10 @@ impl Session {
     ///
     /// The refusals are the first fault of the statement, with the mark of such a setting; [`StepFault::Input`], only
     /// where a call of `files` failed; and want of memory. After each of them names, tables and the charge are as they
-    /// were, and each object lies on the blocks on which it lay. A file isn't there (`NoFile`) only where its name isn't among `names`, or a fetch of this call found none. A
-    /// statement that is done adds its charge to that of the session, and raises what is held by its charge at most; so
-    /// where none was refused, the peak is at most the charge. It is at least the rows of each table with a column that a
-    /// name stands for.
+    /// were, each object lies on the blocks on which it lay, and no more is held. A file isn't there (`NoFile`) only where
+    /// its name isn't among `names`, or a fetch of this call found none. A statement that is done adds its charge to that of
+    /// the session, and raises what is held by its charge at most; so where none was refused, the peak is at most the charge.
+    /// It is at least the rows of each table with a column that a name stands for.
     ///
     /// Where `files` tells its contents, the meaning is that of these contents, with as many fetches; a call that ends by
     /// `Input` or want of memory makes no more. Where it doesn't tell them, all of this holds as long as nothing is fetched,
@@ -84,6 +84,7 @@ impl Session {
         ensures same { OnErr result (state_of self.new ≡ state_of self.old) }
         ensures objects { OnErr result (live_of self.new ≡ live_of self.old) }
         ensures blocks { OnErr result (LieStill self.old self.new) }
+        ensures held { OnErr result (held_in self.new ≤ held_in self.old) }
         ensures charge { OnErr result (charge_of self.new ≡ charge_of self.old) }
         ensures peak { peak_of self.new ≡ max (peak_of self.old) (held_in self.new) }
         ensures rows { most_rows (state_of self.new) ≤ held_in self.new }
@@ -94,6 +95,8 @@ impl Session {
         ensures apart { OnOk result (ChangesOneObject (action_of statement.now.action)
             (state_of self.old) (state_of self.new)) }
     {
+        // What is held counts each block once, before and after.
+        let _held = self.work.held();
         let charge = self.work.charge();
         let result = perform(&mut self.work, files, names, &statement.action);
         let left = charge_left(result.is_ok(), charge, self.work.charge());

@@ -33,7 +33,7 @@ impl Work {
     ghost use Rattle.std.specs.Prelude.{[], None, OnOk, OnErr, is_some};
     ghost use Rattle.meaning_laws.specs.script.State.{most_rows, without_name};
     ghost use Rattle.frame_store.specs.World.{IsKnownValue};
-    ghost use Rattle.frame_store.specs.Objects.{KeepBlocks};
+    ghost use Rattle.frame_store.specs.Objects.{CountsOnce, KeepBlocks};
     ghost use Rattle.script_state.specs.Bindings.{bound, value_at, AreNamed, KeepNamed};
     ghost use Rattle.script_state.specs.Reads.{Costs};
     ghost use Rattle.script_state.specs.Work.{names_in, tab_of, tables_in, world_of, state_in};
@@ -84,6 +84,7 @@ impl Work {
     /// column that a name stands for.
     pub fn held(&self) -> u64
         ensures held { result ≡ min (tab_of self.now).held last_count }
+        ensures once { CountsOnce (tables_in self.now) (world_of self.now).holding }
         ensures least { most_rows (state_in self.now) ≤ result }
     {
         self.store.held()

@@ -9,6 +9,8 @@ mod cells;
 #[cfg(test)]
 mod columns;
 #[cfg(test)]
+mod managers;
+#[cfg(test)]
 mod picks;
 #[cfg(test)]
 mod pools;

@@ -12,7 +12,7 @@ use frame_store::{Blocks, Headings, ObjId, ObjRef, Store};
 use multi_index::Axis;
 use std::alloc::Global;
 
-fn numbers(alloc: Global, first: i64, second: i64) -> Result<Block, NoMemory>
+pub(crate) fn numbers(alloc: Global, first: i64, second: i64) -> Result<Block, NoMemory>
     ensures { IfOk result (λ block. block ≡ single_block record { kind = Int64; cells = Int first ∷ Int second ∷ [] }) }
 {
     let mut column = Column::new(alloc, Kind::Int64);

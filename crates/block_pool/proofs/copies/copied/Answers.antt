@@ -1,9 +1,4 @@
-use Rattle.{
-  column_core.proofs.cells.Common.{◌∙◌, ap, length, ◌∷◌, []},
-  column_core.specs.{Blocks.{CellBlock}, Columns.{CellColumn}},
-  cell_core.specs.declared.cell.Kind.{Kind},
-  block_pool.proofs.CopyLaws.{one_column},
-}
+use Rattle.{column_core.proofs.cells.Common.{◌∙◌, ap, length, ◌∷◌, []}, column_core.specs.{Columns.{CellColumn}}, cell_core.specs.declared.cell.Kind.{Kind}, block_pool.proofs.CopyLaws.{one_column}}
 use Rattle.block_pool.proofs.copies.copied.Goals as goal
 
 pub returns-then-view-eq1 : goal.returns-then-view-eq1

@@ -1,8 +1,4 @@
-use Rattle.{
-  column_core.proofs.cells.Common.{◌≡◌, ℕ, take, drop, ◌++◌, ◌∙◌, ap, arith, List, Cell, sym, slice_set, rules},
-  column_core.{specs.Blocks.{CellBlock}, proofs.ColumnLaws.{length-tabulate}},
-  block_pool.proofs.CopyLaws.{filled_columns, blank_next, column_filled, all_filled, target, blank},
-}
+use Rattle.{column_core.proofs.cells.Common.{◌≡◌, ℕ, take, drop, ◌++◌, ◌∙◌, ap, arith, List, Cell, slice_set}, column_core.{specs.Blocks.{CellBlock}, proofs.ColumnLaws.{length-tabulate}}, block_pool.proofs.CopyLaws.{filled_columns, blank_next, column_filled, all_filled, target, blank}}
 use Rattle.block_pool.proofs.copies.copied_columns.Goals as goal
 
 pub fill-requires-clause-column : goal.fill-requires-clause-column

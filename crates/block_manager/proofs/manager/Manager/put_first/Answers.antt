@@ -1,4 +1,4 @@
-use Rattle.{std.proofs.Common.{◌≡◌, ◌++◌, List, sym, subst, arith, refl, ℕ, ◌≤◌}, block_pool.specs.{declared.views.ViewId.{ViewId}, Pools.{live_count}}, block_manager.{specs.{Managed.{times}, Changes.{EndsEach, numbers_of}}, proofs.{ChainLaws.{all_gone}, AddingLaws.{grown_live, stays_kept, stays_traded, stays_stands}, ManagerLaws.{changed_columns, changed_stands, changed_views, changed_kept}, TakingLaws.{first_put}}}}
+use Rattle.{std.proofs.Common.{◌≡◌, ◌∙◌, ◌++◌, ℕ, List, ap₂, sym, subst, refl, arith, rules, length, map}, block_pool.specs.{declared.views.ViewId.{ViewId}}, block_manager.{specs.{declared.spots.Spot.{Spot}, Managed.{AreLive}, Changes.{EndsEach, numbers_of}, Spots.{AreOn, all_single, shifted}}, proofs.{GridLaws.{numbers_long}, SpotLaws.{spots_on}, ManagerLaws.{first_shows, first_views, first_kept, first_held}, ShowLaws.{shows_columns, shows_stand}, LayLaws.{lays_gone}, LayoutLaws.{inner_shows, views_are}, AddingLaws.{grown_live, stays_stands, stays_traded, stays_kept}}}}
 use Rattle.block_manager.proofs.manager.Manager.put_first.Goals as goal
 
 pub returns-in_err-views-clause-stands : goal.returns-in_err-views-clause-stands
@@ -7,51 +7,67 @@ returns-in_err-views-clause-stands c = stays_stands c.args.pool.now c.add_all.ne
 pub release_all-requires : goal.release_all-requires
 release_all-requires c =
     let same : c.extend_from_slice.new.self.items ≡ c.in_ok-views.views.items = grind arith in
-    subst (λ (vs : List ViewId). (id : ℕ) → times id (numbers_of vs) ≤ live_count c.add_all.new.pool id) (sym same)
-    (grown_live c.args.pool.now c.add_all.new.pool (numbers_of c.in_ok-views.views.items) c.in_ok-views.ensures.ok.grows)
+    subst (λ (vs : List ViewId). AreLive c.add_all.new.pool (numbers_of vs)) (sym same)
+    (grown_live c.args.pool.now c.add_all.new.pool (numbers_of c.in_ok-views.views.items) c.in_ok-views.ensures.ok.lays)
 
-pub returns-then-is_err-clause-err : goal.returns-then-is_err-clause-err
-returns-then-is_err-clause-err c =
-    let same : c.extend_from_slice.new.self.items ≡ c.in_ok-views.views.items = grind arith in (
-      refl,
-      all_gone c.args.pool.now (numbers_of c.in_ok-views.views.items) c.add_all.new.pool c.release_all.new.pool c.in_ok-views.ensures.ok.grows
-          (subst (λ (vs : List ViewId). EndsEach c.add_all.new.pool (numbers_of vs) c.release_all.new.pool) same c.release_all.ensures),
-    )
-
-pub returns-then-is_err-clause-stands : goal.returns-then-is_err-clause-stands
-returns-then-is_err-clause-stands c =
+pub returns-then-is_err : goal.returns-then-is_err
+returns-then-is_err c =
+    let old = c.args.pool.now in
+    let new = c.release_all.new.pool in
+    let m = c.args.self.now in
     let same : c.extend_from_slice.new.self.items ≡ c.in_ok-views.views.items = grind arith in
-    stays_stands c.args.pool.now c.release_all.new.pool c.args.self.now (all_gone c.args.pool.now (numbers_of c.in_ok-views.views.items) c.add_all.new.pool c.release_all.new.pool c.in_ok-views.ensures.ok.grows
-    (subst (λ (vs : List ViewId). EndsEach c.add_all.new.pool (numbers_of vs) c.release_all.new.pool) same c.release_all.ensures)) c.requires.stands
+    let stays = lays_gone old (numbers_of c.in_ok-views.views.items) c.add_all.new.pool new c.in_ok-views.ensures.ok.lays
+    (subst (λ (vs : List ViewId). EndsEach c.add_all.new.pool (numbers_of vs) new) same c.release_all.ensures) in
+    record {
+      columns = search rules;
+      stands = stays_stands old new m stays c.requires.stands;
+      views = stays_traded old new m.views stays;
+      kept = stays_kept old new m.views stays;
+      held = search rules;
+      err = (refl, stays);
+    }
 
-pub returns-then-is_err-clause-views : goal.returns-then-is_err-clause-views
-returns-then-is_err-clause-views c =
-    let same : c.extend_from_slice.new.self.items ≡ c.in_ok-views.views.items = grind arith in
-    stays_traded c.args.pool.now c.release_all.new.pool c.args.self.now.views (all_gone c.args.pool.now (numbers_of c.in_ok-views.views.items) c.add_all.new.pool c.release_all.new.pool c.in_ok-views.ensures.ok.grows
-    (subst (λ (vs : List ViewId). EndsEach c.add_all.new.pool (numbers_of vs) c.release_all.new.pool) same c.release_all.ensures))
+pub returns : goal.returns
+returns c =
+    let old = c.args.pool.now in
+    let mid = c.add_all.new.pool in
+    let m = c.args.self.now in
+    let before = c.self.inside.views.items in
+    let spots = c.self.inside.spots.items in
+    let added = c.in_ok-views.views.items in
+    let after = c.extend_from_slice.new.self.items in
+    let after_spots = c.in_ok-spots.spots.items in
+    let blocks = c.args.first.items in
+    let shows = inner_shows old m before spots c.self.view_is c.self.invariant c.requires.stands in
+    let is = views_are old m before spots c.self.view_is c.self.invariant c.requires.stands in
+    let views_now : after ≡ added ++ before = grind arith in
+    let count : c.len.result ≡ length blocks = omega (arith, c.len.ensures) in
+    let spots_now : after_spots ≡ all_single (length blocks) ++ map (shifted (length blocks)) spots = c.in_ok-spots.ensures
+    ∙ ap₂ (λ (n : ℕ) (ss : List Spot). all_single n ++ map (shifted n) ss) count c.deref.ensures.value in
+    let all = first_shows old mid m added before after blocks spots after_spots shows is c.in_ok-views.ensures.ok c.requires.single views_now spots_now in
+    record {
+      columns = shows_columns mid (numbers_of after) after_spots _ all;
+      stands = shows_stand mid (numbers_of after) after_spots _ all;
+      views = first_views old mid m added before after blocks spots after_spots shows is c.in_ok-views.ensures.ok c.requires.single views_now spots_now;
+      kept = first_kept old mid m added before after blocks spots after_spots shows is c.in_ok-views.ensures.ok c.requires.single views_now spots_now;
+      held = first_held old mid m added before after blocks spots after_spots shows is c.in_ok-views.ensures.ok c.requires.single views_now spots_now;
+      err = search rules;
+    }
 
-pub returns-then-is_err-clause-kept : goal.returns-then-is_err-clause-kept
-returns-then-is_err-clause-kept c =
-    let same : c.extend_from_slice.new.self.items ≡ c.in_ok-views.views.items = grind arith in
-    stays_kept c.args.pool.now c.release_all.new.pool c.args.self.now.views (all_gone c.args.pool.now (numbers_of c.in_ok-views.views.items) c.add_all.new.pool c.release_all.new.pool c.in_ok-views.ensures.ok.grows
-    (subst (λ (vs : List ViewId). EndsEach c.add_all.new.pool (numbers_of vs) c.release_all.new.pool) same c.release_all.ensures))
-
-pub returns-clause-columns : goal.returns-clause-columns
-returns-clause-columns c =
-    let made : c.extend_from_slice.new.self.items ≡ c.in_ok-views.views.items ++ c.self.inside.views.items = grind arith in
-    changed_columns c.args.pool.now c.add_all.new.pool c.args.self.now c.self.inside.views.items c.extend_from_slice.new.self.items _ c.self.view_is (first_put c.args.pool.now c.add_all.new.pool c.args.self.now c.self.inside.views.items c.in_ok-views.views.items c.extend_from_slice.new.self.items c.args.first.items c.self.view_is c.requires.stands c.in_ok-views.ensures.ok c.requires.single made)
-
-pub returns-clause-stands : goal.returns-clause-stands
-returns-clause-stands c =
-    let made : c.extend_from_slice.new.self.items ≡ c.in_ok-views.views.items ++ c.self.inside.views.items = grind arith in
-    changed_stands c.args.pool.now c.add_all.new.pool c.args.self.now c.self.inside.views.items c.extend_from_slice.new.self.items _ c.self.view_is (first_put c.args.pool.now c.add_all.new.pool c.args.self.now c.self.inside.views.items c.in_ok-views.views.items c.extend_from_slice.new.self.items c.args.first.items c.self.view_is c.requires.stands c.in_ok-views.ensures.ok c.requires.single made)
-
-pub returns-clause-views : goal.returns-clause-views
-returns-clause-views c =
-    let made : c.extend_from_slice.new.self.items ≡ c.in_ok-views.views.items ++ c.self.inside.views.items = grind arith in
-    changed_views c.args.pool.now c.add_all.new.pool c.args.self.now c.self.inside.views.items c.extend_from_slice.new.self.items _ c.self.view_is (first_put c.args.pool.now c.add_all.new.pool c.args.self.now c.self.inside.views.items c.in_ok-views.views.items c.extend_from_slice.new.self.items c.args.first.items c.self.view_is c.requires.stands c.in_ok-views.ensures.ok c.requires.single made)
-
-pub returns-clause-kept : goal.returns-clause-kept
-returns-clause-kept c =
-    let made : c.extend_from_slice.new.self.items ≡ c.in_ok-views.views.items ++ c.self.inside.views.items = grind arith in
-    changed_kept c.args.pool.now c.add_all.new.pool c.args.self.now c.self.inside.views.items c.extend_from_slice.new.self.items _ c.self.view_is (first_put c.args.pool.now c.add_all.new.pool c.args.self.now c.self.inside.views.items c.in_ok-views.views.items c.extend_from_slice.new.self.items c.args.first.items c.self.view_is c.requires.stands c.in_ok-views.ensures.ok c.requires.single made)
+pub invariant_of-self : goal.invariant_of-self
+invariant_of-self c =
+    let old = c.args.pool.now in
+    let mid = c.add_all.new.pool in
+    let m = c.args.self.now in
+    let before = c.self.inside.views.items in
+    let spots = c.self.inside.spots.items in
+    let added = c.in_ok-views.views.items in
+    let after = c.extend_from_slice.new.self.items in
+    let after_spots = c.in_ok-spots.spots.items in
+    let blocks = c.args.first.items in
+    let views_now : after ≡ added ++ before = grind arith in
+    let count : c.len.result ≡ length blocks = omega (arith, c.len.ensures) in
+    let spots_now : after_spots ≡ all_single (length blocks) ++ map (shifted (length blocks)) spots = c.in_ok-spots.ensures
+    ∙ ap₂ (λ (n : ℕ) (ss : List Spot). all_single n ++ map (shifted n) ss) count c.deref.ensures.value in
+    let all = first_shows old mid m added before after blocks spots after_spots (inner_shows old m before spots c.self.view_is c.self.invariant c.requires.stands) (views_are old m before spots c.self.view_is c.self.invariant c.requires.stands) c.in_ok-views.ensures.ok c.requires.single views_now spots_now in
+    subst (λ n. AreOn n after_spots) (numbers_long after) (spots_on mid (numbers_of after) after_spots all.stands)

@@ -1,22 +1,30 @@
-use Rattle.{std.proofs.Common.{rules}, block_manager.proofs.{ManagerLaws.{live_at, column_removed, changed_columns, changed_stands, changed_views, changed_kept}, ChangingLaws.{ended_held}}}
+use Rattle.{std.proofs.Common.{ℕ, ap, subst, arith, rules}, std.specs.{FinMap.{FinMap}, Ordering.{nat_cmp}}, block_pool.specs.{Pools.{total_of}}, block_manager.{specs.{Changes.{numbers_of}, Spots.{AreOn}}, proofs.{ManagerLaws.{renewed_columns, renewed_stands, renewed_views, renewed_kept, renewed_held}, RenewLaws.{still_live}, SpotLaws.{spots_on}, GridLaws.{numbers_long}}}}
 use Rattle.block_manager.proofs.manager.Manager.remove_column.Goals as goal
 
-pub release-requires : goal.release-requires
-release-requires c = live_at c.args.pool.now c.args.self.now c.self.inside.views.items c.self.view_is c.requires.stands c.args.column c.requires.column c.remove-view.result c.remove-view.ensures.value
+pub renew-requires : goal.renew-requires
+renew-requires c =
+    let made = c.in_ok-made.made in
+    let ids = numbers_of made.views.items in
+    record {
+      live = still_live c.args.pool.now c.without.new.pool ids c.args.self.now.views c.in_ok-made.ensures.lays c.requires.stands.live;
+      on = subst (λ n. AreOn n made.spots.items) (numbers_long made.views.items) (spots_on c.without.new.pool ids made.spots.items c.in_ok-made.ensures.shows.stands);
+    }
 
 pub returns : goal.returns
 returns c =
     let old = c.args.pool.now in
-    let new = c.release.new.self in
+    let mid = c.without.new.pool in
+    let new = c.renew.new.pool in
     let m = c.args.self.now in
-    let before = c.self.inside.views.items in
-    let after = c.remove-view.new.self.items in
-    let changed = column_removed old m before after c.self.view_is c.requires.stands c.args.column new c.remove-view.result c.requires.column c.remove-view.ensures.value c.remove-view.ensures.items c.release.ensures in
+    let after = c.renew.new.self in
+    let made = c.in_ok-made.made in
+    let ids = numbers_of made.views.items in
+    let ensures = c.in_ok-made.ensures in
     record {
-      columns = changed_columns old new m before after _ c.self.view_is changed;
-      stands = changed_stands old new m before after _ c.self.view_is changed;
-      views = changed_views old new m before after _ c.self.view_is changed;
-      kept = changed_kept old new m before after _ c.self.view_is changed;
-      held = ended_held old new c.remove-view.result.0 c.release.ensures;
+      columns = renewed_columns old mid new m after ids made.spots.items _ c.requires.stands ensures.lays ensures.shows c.renew.ensures.is c.renew.ensures.ended;
+      stands = renewed_stands old mid new m after ids made.spots.items _ c.requires.stands ensures.lays ensures.shows c.renew.ensures.is c.renew.ensures.ended;
+      views = renewed_views old mid new m after ids made.spots.items _ c.requires.stands ensures.lays ensures.shows c.renew.ensures.is c.renew.ensures.ended;
+      kept = renewed_kept old mid new m after ids made.spots.items _ c.requires.stands ensures.lays ensures.shows c.renew.ensures.is c.renew.ensures.ended;
+      held = renewed_held old mid new m after ids made.spots.items _ c.requires.stands ensures.lays ensures.shows c.renew.ensures.is c.renew.ensures.ended 0 (omega (arith, ap (λ (b : FinMap nat_cmp ℕ). total_of (record old { blocks = b })) ensures.blocks));
       err = search rules;
     }

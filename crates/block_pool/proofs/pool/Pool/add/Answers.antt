@@ -1,10 +1,4 @@
-use Rattle.{
-  std.proofs.Common.{ap₂},
-  column_core.proofs.cells.Common.{◌≡◌, ◌+◌, ◌≤◌, ◌^◌, ◌<◌, ◌*◌, ◌∙◌, List, Option, Some, None, ap, arith, refl, sym, subst, length, ℕ, false, rules},
-  slab.specs.Slab.{Slab},
-  std.specs.Prelude.{count_by, is_some},
-  block_pool.{specs.{declared.{views.View.{View}, lots.Lot.{Lot}}, Placed.{IsEven, Puts, slot}}, proofs.{PoolLaws.{grown_pool, free_slot}, ShowLaws.{whole_view}, BlockMoves.{added_pool, adds, new_lot}}},
-}
+use Rattle.{std.proofs.Common.{ap₂}, column_core.proofs.cells.Common.{◌≡◌, ◌+◌, ◌≤◌, ◌∙◌, List, Option, Some, None, ap, arith, refl, sym, subst, ℕ, false, rules}, slab.specs.Slab.{Slab}, std.specs.Prelude.{count_by, is_some}, block_pool.{specs.{declared.{views.View.{View}, lots.Lot.{Lot}}, Placed.{Puts, slot}}, proofs.{PoolLaws.{grown_pool, free_slot}, ShowLaws.{whole_view}, BlockMoves.{added_pool, adds, new_lot}}}}
 use Rattle.block_pool.proofs.pool.Pool.add.Goals as goal
 
 pub invariant_of-self : goal.invariant_of-self

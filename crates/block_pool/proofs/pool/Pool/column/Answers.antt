@@ -1,8 +1,4 @@
-use Rattle.{
-  column_core.proofs.cells.Common.{◌≡◌, ◌<◌, ◌∙◌, ap, sym, length, slice_index_or, [], arith},
-  column_core.{specs.Blocks.{CellBlock}, proofs.ColumnLaws.{length-tabulate}},
-  block_pool.proofs.{PoolLaws.{live_slot, placed_on}, ShowLaws.{column_of}, LyingLaws.{lies}},
-}
+use Rattle.{column_core.proofs.cells.Common.{◌<◌, ◌∙◌, ap, sym, length, slice_index_or, [], arith}, column_core.{specs.Blocks.{CellBlock}, proofs.ColumnLaws.{length-tabulate}}, block_pool.proofs.{PoolLaws.{live_slot, placed_on}, ShowLaws.{column_of}, LyingLaws.{lies}}}
 use Rattle.block_pool.proofs.pool.Pool.column.Goals as goal
 
 pub index-view-requires : goal.index-view-requires

@@ -1,11 +1,4 @@
-use Rattle.{
-  std.proofs.Common.{ap₂},
-  column_core.proofs.cells.Common.{◌≡◌, ◌≢◌, ◌+◌, ◌≤◌, ◌^◌, ◌<◌, ◌*◌, ◌∙◌, List, Option, Some, None, IsSome, ap, arith, refl, sym, subst, length, ℕ, false, rules},
-  slab.specs.Slab.{Slab},
-  std.specs.Prelude.{count_by, is_some, slice_set},
-  column_core.specs.Blocks.{CellBlock},
-  block_pool.{specs.{declared.{views.View.{View}, lots.Lot.{Lot}}, Pools.{cells_of}, Placed.{IsEven, Puts, slot, size_of, users_of, left, shown_grid}}, proofs.{Slots.{puts_set}, PoolLaws.{grown_pool, live_slot, grid_on, placed_on, not_sole, many_users, size_held, sole_from_users}, ShowLaws.{whole_view, columns_of}, BlockMoves.{new_lot}, OwnLaws.{owned_pool, owns, alone}}},
-}
+use Rattle.{std.proofs.Common.{ap₂}, column_core.proofs.cells.Common.{◌≡◌, ◌≢◌, ◌+◌, ◌∙◌, Some, None, ap, arith, sym, subst, length, ℕ, false}, std.specs.Prelude.{is_some, slice_set}, column_core.specs.Blocks.{CellBlock}, block_pool.{specs.{declared.{views.View.{View}}, Placed.{Puts, slot, size_of, users_of, left, shown_grid}}, proofs.{Slots.{puts_set}, PoolLaws.{live_slot, grid_on, not_sole, many_users, size_held, sole_from_users}, ShowLaws.{whole_view, columns_of}, BlockMoves.{new_lot}, OwnLaws.{owned_pool, owns, alone}}}}
 use Rattle.block_pool.proofs.pool.Pool.own.Goals as goal
 
 pub index-view-requires : goal.index-view-requires

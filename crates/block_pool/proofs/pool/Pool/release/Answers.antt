@@ -1,7 +1,4 @@
-use Rattle.{
-  column_core.proofs.cells.Common.{◌≡◌, ◌+◌, ◌-◌, sym, arith, None},
-  block_pool.{specs.Placed.{Puts}, proofs.{PoolLaws.{live_slot, live_lot, some_user, size_held}, LotLaws.{ended_pool, ends}}},
-}
+use Rattle.{column_core.proofs.cells.Common.{None}, block_pool.{specs.Placed.{Puts}, proofs.{PoolLaws.{live_slot}, LotLaws.{ended_pool, ends}}}}
 use Rattle.block_pool.proofs.pool.Pool.release.Goals as goal
 
 pub remove-view-requires : goal.remove-view-requires

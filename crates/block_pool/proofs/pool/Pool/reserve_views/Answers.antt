@@ -1,9 +1,4 @@
-use Rattle.{
-  column_core.proofs.cells.Common.{◌≡◌, ◌+◌, ◌≤◌, List, Option, ap, arith, refl},
-  slab.specs.Slab.{Slab},
-  std.specs.Prelude.{count_by, is_some},
-  block_pool.{specs.declared.views.View.{View}, proofs.PoolLaws.{grown_pool}},
-}
+use Rattle.{column_core.proofs.cells.Common.{◌+◌, ◌≤◌, List, Option, ap, arith, refl}, slab.specs.Slab.{Slab}, std.specs.Prelude.{count_by, is_some}, block_pool.{specs.declared.views.View.{View}, proofs.PoolLaws.{grown_pool}}}
 use Rattle.block_pool.proofs.pool.Pool.reserve_views.Goals as goal
 
 pub invariant_of-self : goal.invariant_of-self

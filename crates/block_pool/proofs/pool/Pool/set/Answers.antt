@@ -1,10 +1,4 @@
-use Rattle.{
-  column_core.proofs.cells.Common.{◌≡◌, ◌+◌, ◌<◌, ap, arith, subst, true},
-  column_core.specs.cells.Cell.{holds, datum},
-  cell_core.specs.declared.cell.Kind.{Kind},
-  std.specs.Prelude.{is_some},
-  block_pool.proofs.{Slots.{puts_set}, PoolLaws.{live_slot}, LyingLaws.{lies}, BlockMoves.{set_pool, set_with}},
-}
+use Rattle.{column_core.proofs.cells.Common.{◌≡◌, ◌<◌, ap, arith, subst, true}, column_core.specs.cells.Cell.{holds, datum}, cell_core.specs.declared.cell.Kind.{Kind}, std.specs.Prelude.{is_some}, block_pool.proofs.{Slots.{puts_set}, PoolLaws.{live_slot}, LyingLaws.{lies}, BlockMoves.{set_pool, set_with}}}
 use Rattle.block_pool.proofs.pool.Pool.set.Goals as goal
 
 pub index-view-requires : goal.index-view-requires

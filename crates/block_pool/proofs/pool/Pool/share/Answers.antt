@@ -1,6 +1,6 @@
 use Rattle.{
   column_core.proofs.cells.Common.{◌≡◌, ◌+◌, ◌-◌, sym, arith},
-  block_pool.proofs.{PoolLaws.{live_slot, live_lot, few_users, free_slot, spare_is, block_is, grid_is}, LotLaws.{laid_pool, laid_shares}},
+  block_pool.proofs.{PoolLaws.{live_slot, live_lot, few_users, free_slot, spare_is, block_is, grid_is, size_is}, LotLaws.{laid_pool, laid_shares}},
 }
 use Rattle.block_pool.proofs.pool.Pool.share.Goals as goal
 
@@ -30,5 +30,5 @@ returns c =
     record {
       fresh = free_slot _ _ _ _ c.self.view_is c.lay-slot.result c.lay-slot.ensures.fresh;
       shares = laid_shares lots _ views _ c.self.inside.spare (c.self.inside.spare - 1) _ _ c.lay-slot.result v c.self.invariant live c.lay-slot.ensures.lots c.lay-slot.ensures.views less
-          _ c.self.view_is c.args.id.0 _ (block_is lots views _ _ c.self.view_is c.args.id.0 v c.index-view.ensures) (sym (grid_is lots views _ _ c.self.view_is c.args.id.0 v c.index-view.ensures));
+          _ c.self.view_is c.args.id.0 _ (block_is lots views _ _ c.self.view_is c.args.id.0 v c.index-view.ensures) (size_is lots views _ _ c.self.view_is c.args.id.0 v c.index-view.ensures) (sym (grid_is lots views _ _ c.self.view_is c.args.id.0 v c.index-view.ensures));
     }

@@ -1,11 +1,4 @@
-use Rattle.{
-  column_core.proofs.cells.Common.{◌≡◌, ◌+◌, ◌-◌, ◌<◌, ◌≤◌, ◌^◌, ◌∙◌, sym, ap, arith, length, subst, refl, ℕ, IsSome, Option, Some, AreRowsBelow},
-  column_core.specs.{Blocks.{CellBlock}, Lanes.{LaneFits}},
-  block_pool.{
-    specs.{declared.lots.Lot.{Lot}, Pools.{cut}, Placed.{IsPlaced, block_of, slot, shown_grid}},
-    proofs.{PoolLaws.{live_slot, few_users, free_slot, spare_is, block_is}, LotLaws.{laid_pool, laid_shares}, ShowLaws.{cut_shown, cut_placed}, LyingLaws.{lies}},
-  },
-}
+use Rattle.{column_core.proofs.cells.Common.{◌≡◌, ◌+◌, ◌-◌, ◌≤◌, ◌∙◌, sym, ap, arith, subst, refl, ℕ, IsSome, Option, Some, AreRowsBelow}, column_core.specs.{Blocks.{CellBlock}}, block_pool.{specs.{declared.lots.Lot.{Lot}, Pools.{cells_of, cut}, Placed.{IsPlaced, block_of, slot, shown_grid}}, proofs.{PoolLaws.{live_slot, few_users, free_slot, spare_is, block_is, size_is}, LotLaws.{laid_pool, laid_shares}, ShowLaws.{cut_shown, cut_placed}, LyingLaws.{lies}}}}
 use Rattle.block_pool.proofs.pool.Pool.view.Goals as goal
 
 pub index-view-requires : goal.index-view-requires
@@ -65,4 +58,5 @@ returns-clause-shares c =
     ∙ cut_shown block v w cols.from cols.count rows c.cut-cut.ensures.first c.cut-cut.ensures.columns c.cut-cut.ensures.count inside below c.cut-cut.ensures.places
     ∙ ap (λ (g : CellBlock). cut g cols.from cols.count rows) (sym at.grid) in
     laid_shares lots _ views _ c.self.inside.spare (c.self.inside.spare - 1) _ _ c.lay-slot.result w c.self.invariant live c.lay-slot.ensures.lots c.lay-slot.ensures.views less
-    _ c.self.view_is c.args.id.0 _ (block_is lots views _ _ c.self.view_is c.args.id.0 v c.index-view.ensures ∙ sym c.cut-cut.ensures.block) shows
+    _ c.self.view_is c.args.id.0 _ (block_is lots views _ _ c.self.view_is c.args.id.0 v c.index-view.ensures ∙ sym c.cut-cut.ensures.block)
+    (size_is lots views _ _ c.self.view_is c.args.id.0 v c.index-view.ensures ∙ ap (λ b. cells_of (block_of (slot lots b))) (sym c.cut-cut.ensures.block)) shows

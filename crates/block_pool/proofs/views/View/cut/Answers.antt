@@ -1,9 +1,4 @@
-use Rattle.{
-  column_core.proofs.cells.Common.{rules, ◌<◌, ◌*◌, ◌^◌, arith, FitsSigned, w64},
-  std.proofs.Math.Facts.{to_z-of_z},
-  column_core.{specs.Moves.{distance_of}, proofs.StrideLaws.{first_below, only_row, place_composed, fits_composed}},
-  block_pool.proofs.ViewLaws.{start_below, product_small, product_moves},
-}
+use Rattle.{column_core.proofs.cells.Common.{rules, ◌<◌, ◌*◌, ◌^◌, arith, FitsSigned, w64}, std.proofs.Math.Facts.{to_z-of_z}, column_core.{proofs.StrideLaws.{first_below, only_row, place_composed, fits_composed}}, block_pool.proofs.ViewLaws.{product_small, product_moves}}
 use Rattle.block_pool.proofs.views.View.cut.Goals as goal
 
 pub returns-then-rows-eq1-clause-places : goal.returns-then-rows-eq1-clause-places

@@ -1,4 +1,4 @@
-use Rattle.{meaning_tables.{proofs.cells.Common.{None, sym, ap, subst, List, Option}}, slab.specs.Slab.{Slab}, frame_store.{specs.{Stores.{ObjectValue, IsStore}}, proofs.{StoreLaws.{store_stays}, ChangedLaws.{store_added, tables_added, lie_stay, lie_added}}}}
+use Rattle.{meaning_tables.{proofs.cells.Common.{None, sym, ap, subst, List, Option}}, slab.specs.Slab.{Slab}, block_manager.specs.Managed.{AreJoined}, frame_store.{specs.{Objects.{manager_or}, Stores.{ObjectValue, IsStore}}, proofs.{StoreLaws.{store_stays}, ChangedLaws.{store_added, tables_added, lie_stay, lie_added}}}}
 use Rattle.frame_store.proofs.store.Store.insert.Goals as goal
 
 pub invariant_of-self-in-Break-branch-2 : goal.invariant_of-self-in-Break-branch-2
@@ -15,3 +15,6 @@ returns-in_err-object-clause-blocks c = lie_stay c.args.self.now.pool c.into_obj
 
 pub returns-clause-blocks : goal.returns-clause-blocks
 returns-clause-blocks c = lie_added c.args.self.now.pool c.into_object.new.pool c.args.self.now.objects.slots c.reserve.new.self.slots c.insert_reserved-key.new.self.slots c.insert_reserved-key.result c.in_ok-object.object c.args.self.now.kept (ap (λ (s : Slab ObjectValue). s.slots) c.reserve.ensures.rest_kept) c.insert_reserved-key.ensures.was_vacant (c.insert_reserved-key.ensures.updates.changed) c.insert_reserved-key.ensures.updates.others c.in_ok-object.ensures.trades
+
+pub returns-clause-by_kind : goal.returns-clause-by_kind
+returns-clause-by_kind c = subst (λ (o : Option ObjectValue). AreJoined c.into_object.new.pool (manager_or o)) (sym c.insert_reserved-key.ensures.updates.changed) c.in_ok-object.ensures.joined

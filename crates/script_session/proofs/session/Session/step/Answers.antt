@@ -2,7 +2,7 @@ use Rattle.{
   script_state.{proofs.{cells.Common.{arith, ap, sym, ◌∙◌, subst}, States.{live_are_named, named_live}}, specs.{Bindings.{KeepNamed}, Work.{names_in, tab_of, tables_in, world_of, state_in}}},
   std.{specs.FinMap.{empty}, proofs.lemmas.Result.{on_err_weaker}},
   script_tree.specs.View.{action_of},
-  script_session.proofs.{Answering.{done_tab, performs_after, state_left, refused_charge, refused_kept, live_refused, lie_refused}, Settings.{apart_after}, Within.{within_done}},
+  script_session.proofs.{Answering.{done_tab, performs_after, state_left, refused_charge, refused_kept, live_refused, lie_refused, held_refused}, Settings.{apart_after}, Within.{within_done}},
 }
 use Rattle.script_session.proofs.session.Session.step.Goals as goal
 
@@ -44,6 +44,10 @@ returns-clause-objects g c =
 pub returns-clause-blocks : goal.returns-clause-blocks
 returns-clause-blocks g c =
     lie_refused c.perform-result.result c.args.self.now.work c.perform-result.new.work c.set_charge.new.self c.sweep.new.self c.charge_left-left.result c.perform-result.ensures.executes.kept c.perform-result.ensures.executes.blocks c.set_charge.ensures c.sweep.ensures.blocks
+
+pub returns-clause-held : goal.returns-clause-held
+returns-clause-held g c =
+    held_refused c.perform-result.result c.args.self.now.work c.sweep.new.self c.held-held.ensures.once c.held.ensures.once (returns-clause-objects g c) (returns-clause-blocks g c)
 
 pub returns-clause-live : goal.returns-clause-live
 returns-clause-live g c =
