@@ -3,7 +3,7 @@ ghost use Rattle.std.specs.Prelude.{◌≡◌, List, Some};
 ghost use Rattle.frame_labels.specs.method.cells.Text.{Text as OneText};
 ghost use Rattle.meaning_call.specs.Signature as signature;
 ghost use Rattle.frame_labels.specs.method.Calls as calls;
-ghost use Rattle.frame_labels.specs.method.Calls.{has_method, plain_result, table_call, call_result};
+ghost use Rattle.frame_labels.specs.method.Calls.{has_attribute, plain_result, table_call, call_result};
 ghost use Rattle.frame_labels.specs.method.Charges.{method_charge, call_charge};
 ghost use Rattle.frame_store.specs.Arguments.{entry_of, object_value, shape_at, IsLive, IsLiveObject};
 ghost use Rattle.frame_store.specs.Objects.{tables};
@@ -16,6 +16,7 @@ use crate::chain::Chain;
 use cell_core::{Grid, TextDict};
 use frame_groups::GroupedCall;
 use frame_labels::no_attribute;
+use frame_late::has_texts;
 use frame_methods::{
     column_method, label_method, level_method, row_method, summary_method, table_method,
 };
@@ -38,14 +39,17 @@ pub fn method_of(store: &Store, on: Value, name: &str) -> Option<Method>
     }
 }
 
-/// Whether a value has a method of the name, `groupby`, `rolling` and `expanding` among them. A
-/// scalar has none. Takes no memory.
+/// Whether a value has a method of the name, `groupby`, `rolling` and `expanding` among them, or texts behind `str`,
+/// which a Series of kind `string` alone has. A scalar has none. Takes no memory.
 #[tactic(auto, using(crate::proofs::NameLaws::has_named))]
 pub fn exists(store: &Store, on: Value, name: &str) -> bool
     requires { IsLive (tables store.now) on }
     ensures { (texts : List OneText)
-        → result ≡ has_method (entry_of (tables store.now) texts on) name.now }
+        → result ≡ has_attribute (entry_of (tables store.now) texts on) name.now }
 {
+    if name == "str" {
+        return has_texts(store, on);
+    }
     method_of(store, on, name).is_some()
 }
 
@@ -182,7 +186,7 @@ pub fn method_behind(
     }
 }
 
-/// A method of a value by its name, alone or behind `groupby`, `rolling` or `expanding`: `s.name(..)`.
+/// A method of a value by its name, alone or behind `str`, `groupby`, `rolling` or `expanding`: `s.name(..)`.
 ///
 /// The answer is a scalar, or a new object whose table is that of its own rows; no other object
 /// changes. The objects hold at most as many cells more as the call costs. The scalar that `to_csv`
@@ -194,9 +198,9 @@ pub fn method_behind(
 /// In this order: `NoAttribute` where the value has no such method (a scalar has none), also for `groupby`, `rolling`
 /// and `expanding` alone, which stand in forms of their own; `WrongKind` of arguments that are unknown, missing, too
 /// many, given twice or of a form that the method doesn't take; `BadValue(Argument)` of a value that isn't listed; the
-/// method's own refusals; `Limit`. Behind `groupby`, `rolling` and `expanding` they are those of
-/// [`frame_groups::method`] and [`frame_windows::method`]. `NoMemory` may come in place of any answer. After a refusal
-/// all objects are as they were.
+/// method's own refusals; `Limit`. Behind `str`, `groupby`, `rolling` and `expanding` they are those of
+/// [`frame_late::method`], [`frame_groups::method`] and [`frame_windows::method`]. `NoMemory` may come in place of any
+/// answer. After a refusal all objects are as they were.
 pub fn method(
     alloc: Global,
     store: &mut Store,
@@ -217,6 +221,9 @@ pub fn method(
 {
     match chain {
         Chain::Plain(name) => plain(alloc, store, dict, on, name.as_str(), args.as_slice()),
+        Chain::Text(name) => {
+            frame_late::method(alloc, store, dict, on, name.as_str(), args.as_slice())
+        }
         Chain::Group(by, brackets, name) => {
             let between = Between::Groupby(by, brackets);
             method_behind(alloc, store, dict, on, between, name.as_str(), args)

@@ -1,6 +1,6 @@
 -- How deep a form is.
 use Rattle.std.specs.Prelude.{ℕ, suc, max}
-use Rattle.meaning_language.specs.Tree.{Expr, Step, Sub, OptionalSub, OptionalArg, OptionalExpr, Tagging, Arg, Parts, name, literal, unary, binary, after, len, make, paren, item, access, method, group, rolling, expanding, key, span, no_sub, some_sub, no_arg, some_arg, no_expr, some_expr, expr, many, row, table, nothing, no_parts, more_parts}
+use Rattle.meaning_language.specs.Tree.{Expr, Step, Sub, OptionalSub, OptionalArg, OptionalExpr, Tagging, Arg, Parts, name, literal, unary, binary, after, len, make, paren, item, access, method, text_method, group, rolling, expanding, key, span, no_sub, some_sub, no_arg, some_arg, no_expr, some_expr, expr, many, row, table, nothing, no_parts, more_parts}
 
 -- A name, a literal, None and a form without parts have depth 1, any other form one more than its deepest part. The parts in a step belong to the form that it makes.
 abbrev mutual
@@ -18,6 +18,7 @@ abbrev mutual
   step_depth (item a) = arg_depth a
   step_depth (access by s t) = max (sub_depth s) (optional_sub_depth t)
   step_depth (method n args) = parts_depth args
+  step_depth (text_method n args) = parts_depth args
   step_depth (group args by n more) = max (parts_depth args) (max (optional_arg_depth by) (parts_depth more))
   step_depth (rolling args n more) = max (parts_depth args) (parts_depth more)
   step_depth (expanding args n more) = max (parts_depth args) (parts_depth more)

@@ -4,7 +4,7 @@ use Rattle.std.specs.List.{list_any}
 use Rattle.meaning_cells.specs.Text.{Text, same_text}
 use Rattle.meaning_language.specs.Token.{Token, word, int, text, op, mark, Mark, equals, dot, comma, colon, tilde, open_paren, close_paren, open_bracket, close_bracket, open_brace, close_brace}
 use Rattle.meaning_language.specs.Tree as tree
-use Rattle.meaning_language.specs.Tree.{Binary, add, sub, mul, floor_div, mod_, and, or, xor, Accessor, loc, iloc, at, iat, Expr, Step, Sub, OptionalSub, OptionalArg, OptionalExpr, Tagging, bare, named, keyed, Tag, Arg, Parts, Action, name, literal, unary, binary, after, len, make, paren, item, access, method, group, rolling, expanding, key, span, no_sub, some_sub, no_arg, some_arg, no_expr, some_expr, expr, many, row, table, nothing, no_parts, more_parts, import_pandas, bind, put, drop_name, drop_column, print}
+use Rattle.meaning_language.specs.Tree.{Binary, add, sub, mul, floor_div, mod_, and, or, xor, Accessor, loc, iloc, at, iat, Expr, Step, Sub, OptionalSub, OptionalArg, OptionalExpr, Tagging, bare, named, keyed, Tag, Arg, Parts, Action, name, literal, unary, binary, after, len, make, paren, item, access, method, text_method, group, rolling, expanding, key, span, no_sub, some_sub, no_arg, some_arg, no_expr, some_expr, expr, many, row, table, nothing, no_parts, more_parts, import_pandas, bind, put, drop_name, drop_column, print}
 use Rattle.meaning_language.specs.Depth.{depth, arg_depth}
 
 -- the words that are no names
@@ -14,7 +14,7 @@ reserved_words =
 
 -- the names that stand after a dot only in forms of their own
 abbrev pub form_words : List Text
-form_words = codes "loc" ∷ codes "iloc" ∷ codes "at" ∷ codes "iat" ∷ codes "groupby" ∷ codes "rolling" ∷ codes "expanding" ∷ []
+form_words = codes "loc" ∷ codes "iloc" ∷ codes "at" ∷ codes "iat" ∷ codes "groupby" ∷ codes "rolling" ∷ codes "expanding" ∷ codes "str" ∷ []
 
 abbrev pub IsName : Text → Type 0
 IsName n = list_any (same_text n) reserved_words ≡ false
@@ -22,6 +22,10 @@ IsName n = list_any (same_text n) reserved_words ≡ false
 -- a name that may stand after a dot before parentheses
 abbrev pub IsMethodName : Text → Type 0
 IsMethodName n = IsName n × (list_any (same_text n) form_words ≡ false)
+
+-- a name that may stand after `str` and a dot before parentheses
+abbrev pub IsTextMethodName : Text → Type 0
+IsTextMethodName n = IsMethodName n ⊎ (n ≡ codes "len")
 
 abbrev pub accessor_word : Accessor → Text
 accessor_word loc = codes "loc"
@@ -124,6 +128,8 @@ abbrev mutual
   SpellsStep (item a) ts us = (vs : List Token) × (ts ≡ mark open_bracket ∷ vs) × SpellsArg a vs (mark close_bracket ∷ us)
   SpellsStep (access by s t) ts us = (vs : List Token) × (ts ≡ mark dot ∷ word (accessor_word by) ∷ mark open_bracket ∷ vs) × (ws : List Token) × SpellsSub s vs ws × SpellsSecond t ws us
   SpellsStep (method n args) ts us = (vs : List Token) × (ts ≡ mark dot ∷ word n ∷ mark open_paren ∷ vs) × IsMethodName n × SpellsParts args close_paren vs us
+  SpellsStep (text_method n args) ts us =
+      (vs : List Token) × (ts ≡ mark dot ∷ word (codes "str") ∷ mark dot ∷ word n ∷ mark open_paren ∷ vs) × IsTextMethodName n × SpellsParts args close_paren vs us
   SpellsStep (group args by n more) ts us =
       (vs ws xs : List Token) × (ts ≡ mark dot ∷ word (codes "groupby") ∷ mark open_paren ∷ vs) × SpellsParts args close_paren vs ws × SpellsBrackets by ws xs
       × (ys : List Token) × (xs ≡ mark dot ∷ word n ∷ mark open_paren ∷ ys) × IsMethodName n × SpellsParts more close_paren ys us

@@ -40,6 +40,7 @@ mutual
     item : Arg → Step
     access : Accessor → Sub → OptionalSub → Step
     method : Text → Parts named → Step
+    text_method : Text → Parts named → Step
     group : Parts named → OptionalArg → Text → Parts named → Step
     rolling : Parts named → Text → Parts named → Step
     expanding : Parts named → Text → Parts named → Step

@@ -1,6 +1,6 @@
 -- The tables that names stand for were paid for.
 use Rattle.{
-  meaning_script.{proofs.cells.Common.{arith, ◌≡◌, refl, sym, subst, ℕ, ◌+◌, ◌≤◌, ◌^◌, nat_le, nat_tests, List, [], ◌∷◌, ◌++◌, length, map, max, Bool, true, false, ◌&&◌, ◌||◌, if◌then◌else◌, codes, is_some, get, Option, Some, None, IfSome, Result, Ok, Err, IfOk, All-head, All-tail, inl, inr, Text, same_text, Contents, FaultValue}, specs.{charge.Charge.{answer_charge, select_charge, setting_charge}, language.Tree.{Expr, Step, Action, Statement}, tables.{Table.{Table}, Valid.{within_limits}, Value.{Entry, cell, table, NamedGiven, key_given}}, method.{Charges.{call_charge}, Calls.{has_method, call_result}, Functions.{function_result}, Readers.{reads_file, file_name_of, read_result}}, call.{declared.Function.TheVariants.{ReadCsv}, Signature.{function_named}}, form.Select.{length_result}, select.{Select.{plain, through, select_result}, Set.{removal_result}}, Spent.{Spent, spent_for}, State.{State, no_names, without_name, value_rows, entry_rows, held_rows, most_rows_of, most_rows}, Reading.{Files, Reading, Reads, at_once, costing, after, goes_on, then_read, of_bytes, path_of_name, of_path}, Expression.{named_by, value_of_name, where_named, made, value_of, stepped, sub_of, second_of, brackets_of, given_of, named_of, target_of}, Statement.{Answer, done, refused, then_answer, with_value, with_set, set_answer, assigned, statement_result}, Run.{Ending, usage, syntax, RunStep, RunResult, least_peak, spent_of, told_charge, IsPeak, after_fault, after_answer, fetched, statements_result, with_line, too_large_line, syntax_line, not_found_line, IsScriptResult, IsFileResult}}},
+  meaning_script.{proofs.cells.Common.{arith, ◌≡◌, refl, sym, subst, ℕ, ◌+◌, ◌≤◌, ◌^◌, nat_le, nat_tests, List, [], ◌∷◌, ◌++◌, length, map, max, Bool, true, false, ◌&&◌, ◌||◌, if◌then◌else◌, codes, is_some, get, Option, Some, None, IfSome, Result, Ok, Err, IfOk, All-head, All-tail, inl, inr, Text, same_text, Contents, FaultValue}, specs.{charge.Charge.{answer_charge, select_charge, setting_charge}, language.Tree.{Expr, Step, Action, Statement}, tables.{Table.{Table}, Valid.{within_limits}, Value.{Entry, cell, table, NamedGiven, key_given}}, method.{Charges.{call_charge}, Calls.{has_method, has_attribute, call_result}, StrCalls.{has_str_method}, Functions.{function_result}, Readers.{reads_file, file_name_of, read_result}}, call.{declared.Function.TheVariants.{ReadCsv}, Signature.{function_named}}, form.Select.{length_result}, select.{Select.{plain, through, select_result}, Set.{removal_result}}, Spent.{Spent, spent_for}, State.{State, no_names, without_name, value_rows, entry_rows, held_rows, most_rows_of, most_rows}, Reading.{Files, Reading, Reads, at_once, costing, after, goes_on, then_read, of_bytes, path_of_name, of_path}, Expression.{named_by, value_of_name, where_named, made, value_of, stepped, sub_of, second_of, brackets_of, given_of, named_of, target_of}, Statement.{Answer, done, refused, then_answer, with_value, with_set, set_answer, assigned, statement_result}, Run.{Ending, usage, syntax, RunStep, RunResult, least_peak, spent_of, told_charge, IsPeak, after_fault, after_answer, fetched, statements_result, with_line, too_large_line, syntax_line, not_found_line, IsScriptResult, IsFileResult}}},
   meaning_laws.{specs.{Validity.{IsValidObject, IsValidEntry, IsValidState, LeavesValid, HasHeldLiterals, IsHeldAction}, Paid.{IsPaid, LeavesPaid, PaidIn, PaysForTables, HasPeak}}, proofs.{LiteralLaws.{AreHeld, script_held}, PaidForms.{Within, under_rows, costs_cells, select_within, assign_within, removal_within}, PaidCalls.{call_within}, StatementLaws.{value_of_keeps, statement_keeps}}},
 }
 use Rattle.meaning_script.specs.language.Tree as tree
@@ -92,6 +92,11 @@ module _ (files : Files) (s : State) (valid : IsValidState s) where
       named_pays (has_method v n) n paid _
       (after_any (entry_rows v) paid (named_of files s args) _ le
       (λ gs later le. costing_pays (call_charge v (calls.plain n) gs) (call_result v (calls.plain n) gs) (entry_rows v) later le (call_within v (calls.plain n) gs h)))
+  step_pays v (tree.text_method n args) paid h le =
+      named_pays (has_attribute v (codes "str")) (codes "str") paid _
+      (named_pays (has_str_method n) n paid _
+      (after_any (entry_rows v) paid (named_of files s args) _ le
+      (λ gs later le. costing_pays (call_charge v (calls.on_texts n) gs) (call_result v (calls.on_texts n) gs) (entry_rows v) later le (call_within v (calls.on_texts n) gs h))))
   step_pays v (tree.group args by n more) paid h le =
       named_pays (has_method v (codes "groupby")) (codes "groupby") paid _
       (after_any (entry_rows v) paid (named_of files s args) _ le

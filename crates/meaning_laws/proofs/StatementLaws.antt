@@ -1,6 +1,6 @@
 -- A statement leaves a valid state of a valid one.
 use Rattle.{
-  meaning_script.{proofs.cells.Common.{arith, ℕ, List, All-nil, All-cons, Bool, if◌then◌else◌, codes, is_some, Option, Some, None, IfSome, Result, Ok, Err, IfOk, All, Text, Contents, FaultValue}, specs.{charge.Charge.{answer_charge}, language.Tree.{Expr, Step, Arg, Parts, bare, named, Action}, tables.{Table.{Table}, Valid.{IsValid}, Value.{Entry, NamedGiven}}, call.Signature.{function_named}, method.{Calls.{has_method}, Concat.{tables_of}, Readers.{read_result}}, State.{State, without_name}, Reading.{Files, Reading, Reads, at_once, costing, then_read, of_bytes, of_path}, Expression.{target_of, value_of_name, where_named, made, value_of, stepped, sub_of, second_of, brackets_of, given_of, part_of, parts_of, pairs_of, named_of}, Statement.{Answer, then_answer, with_value, set_answer, statement_result}}},
+  meaning_script.{proofs.cells.Common.{arith, ℕ, List, All-nil, All-cons, Bool, if◌then◌else◌, codes, is_some, Option, Some, None, IfSome, Result, Ok, Err, IfOk, All, Text, Contents, FaultValue}, specs.{charge.Charge.{answer_charge}, language.Tree.{Expr, Step, Arg, Parts, bare, named, Action}, tables.{Table.{Table}, Valid.{IsValid}, Value.{Entry, NamedGiven}}, call.Signature.{function_named}, method.{Calls.{has_method, has_attribute}, StrCalls.{has_str_method}, Concat.{tables_of}, Readers.{read_result}}, State.{State, without_name}, Reading.{Files, Reading, Reads, at_once, costing, then_read, of_bytes, of_path}, Expression.{target_of, value_of_name, where_named, made, value_of, stepped, sub_of, second_of, brackets_of, given_of, part_of, parts_of, pairs_of, named_of}, Statement.{Answer, then_answer, with_value, set_answer, statement_result}}},
   meaning_laws.{specs.Validity.{IsValidObject, IsValidEntry, IsValidGiven, IsValidArgument, AreValidArguments, IsValidState, LeavesValid, HasHeldLiterals, IsHeldArgument, IsHeldAction}, proofs.{Words.{Keeps}, InfixLaws.{infix_result_keeps, sign_result_keeps}, ReachLaws.{select_result_keeps, length_result_keeps}, SetLaws.{assign_result_keeps, removal_result_keeps}, GroupLaws.{grouped_result_keeps}, WindowLaws.{rolling_result_keeps, expanding_result_keeps}, CsvLaws.{read_result_keeps}, ArgumentLaws.{more_valid}, CallLaws.{call_result_keeps, function_result_keeps}}},
 }
 use Rattle.meaning_script.specs.language.Tree as tree
@@ -83,6 +83,9 @@ module _ (files : Files) (s : State) (valid : IsValidState s) where
         after_any IsValidEntry (sub_of files s first) _ (λ g. after_any IsValidEntry (second_of files s second) _ (λ k. select_result_keeps v _ _ _ h))
     step_keeps v (tree.method n args) h =
         named_keeps (has_method v n) n _ (read_keeps AreValidArguments IsValidEntry (named_of files s args) _ (arguments_valid args) (λ gs k. call_result_keeps v (calls.plain n) gs h k))
+    step_keeps v (tree.text_method n args) h =
+        named_keeps (has_attribute v (codes "str")) (codes "str") _
+        (named_keeps (has_str_method n) n _ (read_keeps AreValidArguments IsValidEntry (named_of files s args) _ (arguments_valid args) (λ gs k. call_result_keeps v (calls.on_texts n) gs h k)))
     step_keeps v (tree.group args by n more) h =
         named_keeps (has_method v (codes "groupby")) (codes "groupby") _
         (after_any IsValidEntry (named_of files s args) _ (λ g. after_any IsValidEntry (brackets_of files s by) _ (λ k. after_any IsValidEntry (named_of files s more) _ (λ gs. grouped_result_keeps v g k n gs h))))

@@ -13,7 +13,8 @@ use Rattle.meaning_method.specs.form.Infix.{infix_result, sign_result}
 use Rattle.meaning_method.specs.form.Select.{length_result}
 use Rattle.meaning_method.specs.select.Select.{Way, plain, through, select_result}
 use Rattle.meaning_method.specs.Calls as calls
-use Rattle.meaning_method.specs.Calls.{has_method, call_result}
+use Rattle.meaning_method.specs.Calls.{has_method, has_attribute, call_result}
+use Rattle.meaning_method.specs.StrCalls.{has_str_method}
 use Rattle.meaning_method.specs.Functions.{function_result}
 use Rattle.meaning_method.specs.Readers.{reads_file, file_name_of, read_result}
 use Rattle.meaning_charge.specs.Charge.{answer_charge, select_charge}
@@ -76,6 +77,9 @@ abbrev mutual
   stepped files s v (tree.item a) = then_read (given_of files s a) (λ g. selected v plain (key_given g) None)
   stepped files s v (tree.access by first second) = then_read (sub_of files s first) (λ g. then_read (second_of files s second) (λ h. selected v (through by) g h))
   stepped files s v (tree.method n args) = where_named (has_method v n) n (then_read (named_of files s args) (called v (calls.plain n)))
+  stepped files s v (tree.text_method n args) =
+      where_named (has_attribute v (codes "str")) (codes "str")
+      (where_named (has_str_method n) n (then_read (named_of files s args) (called v (calls.on_texts n))))
   stepped files s v (tree.group args by n more) =
       where_named (has_method v (codes "groupby")) (codes "groupby")
       (then_read (named_of files s args) (λ g. then_read (brackets_of files s by) (λ h. then_read (named_of files s more) (called v (calls.grouped g h n)))))

@@ -37,8 +37,3 @@ pub one_so : (a b : Bool) (P : Type 0) → (a ≡ true → P) → (b ≡ true �
 one_so true b P first second is = first refl
 one_so false true P first second is = second refl
 one_so false false P first second is = absurd (true≢false (sym is))
-
-pub none_so : (a b : Bool) → a || b ≡ false → (a ≡ false) × (b ≡ false)
-none_so true b is = absurd (true≢false is)
-none_so false true is = absurd (true≢false is)
-none_so false false is = (refl, refl)

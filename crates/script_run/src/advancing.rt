@@ -77,8 +77,7 @@ pub fn advance<F: Files, O: Sink, E: Sink>(
         statement.now.line (state_of session.old) status
         (at files.old out.old err.old) (at files.new out.new err.new))) }
 
-    ensures within { IfOk result (λ advanced. was_refused advanced ≡ false →
-        IsWithinCharge session.old → IsWithinCharge session.new) }
+    ensures within { IsWithinCharge session.old → IsWithinCharge session.new }
     ensures ends { IfErr result IsCutShort }
     ensures input { IfErr result (λ status. status ≡ Status.Input →
         HasRisen (F.seen files.old).faults (F.seen files.new).faults) }

@@ -15,7 +15,7 @@ use crate::words::{copied_name, selector_of};
 use cell_core::Code;
 use frame_store::{Argument, Entries, Item, Items, Named, NamedList, Selector, Subscript, Value};
 use outside_io::Files;
-use script_state::{EvalFault, FileNames, Work, evaluated, expect_function};
+use script_state::{EvalFault, FileNames, Work, evaluated, expect_function, expect_str_method};
 use script_tree::{Arg, ArgList, ArgPairs, Args, Expr, Step, Sub};
 
 /// The value of an expression, its parts from left to right. The refusal is the first fault of a part or of the
@@ -90,6 +90,12 @@ fn after<F: Files>(
             let method = work.expect_method(on, name.as_str())?;
             let args = arguments(work, files, names, args)?;
             evaluated(work.method(on, method, name.as_str(), &args))
+        }
+        Step::Text(name, args) => {
+            work.expect_texts(on)?;
+            expect_str_method(work.alloc(), name.as_str())?;
+            let args = arguments(work, files, names, args)?;
+            evaluated(work.on_texts(on, name.as_str(), &args))
         }
         Step::Group(args, by, name, more) => {
             let call = Link::Groupby.linked(args, by, name, more);

@@ -62,7 +62,7 @@ impl Session {
     /// where a call of `files` failed; and want of memory. After each of them names, tables and the charge are as they
     /// were, each object lies on the blocks on which it lay, and no more is held. A file isn't there (`NoFile`) only where
     /// its name isn't among `names`, or a fetch of this call found none. A statement that is done adds its charge to that of
-    /// the session, and raises what is held by its charge at most; so where none was refused, the peak is at most the charge.
+    /// the session, and raises what is held by its charge at most; so the peak is at most the charge of the session.
     /// It is at least the rows of each table with a column that a name stands for.
     ///
     /// Where `files` tells its contents, the meaning is that of these contents, with as many fetches; a call that ends by
@@ -88,7 +88,7 @@ impl Session {
         ensures charge { OnErr result (charge_of self.new ≡ charge_of self.old) }
         ensures peak { peak_of self.new ≡ max (peak_of self.old) (held_in self.new) }
         ensures rows { most_rows (state_of self.new) ≤ held_in self.new }
-        ensures within { OnOk result (IsWithinCharge self.old → IsWithinCharge self.new) }
+        ensures within { IsWithinCharge self.old → IsWithinCharge self.new }
         ensures longer { IsLonger (texts_of self.old) (texts_of self.new) }
         ensures live { LiveAreNamed self.new }
         ensures valid { AreValid (live_of self.new) }

@@ -34,6 +34,7 @@ pub fn last_step<F: Files>(
             Ok((selector_of(*by), first, second))
         }
         Step::Method(_, _)
+        | Step::Text(_, _)
         | Step::Group(_, _, _, _)
         | Step::Rolling(_, _, _)
         | Step::Expanding(_, _, _) => Err(EvalFault::Refused(Code::WrongKind)),

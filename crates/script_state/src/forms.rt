@@ -11,7 +11,9 @@ ghost use Rattle.meaning_laws.specs.form.Infix.{infix_result, sign_result};
 ghost use Rattle.meaning_laws.specs.form.Select.{length_result};
 ghost use Rattle.meaning_laws.specs.select.Select.{select_result};
 ghost use Rattle.meaning_laws.specs.select.Set.{assign_result, removal_result};
-ghost use Rattle.meaning_laws.specs.method.Calls.{call_result, has_method, plain};
+ghost use Rattle.std.specs.Prelude.{codes};
+ghost use Rattle.meaning_laws.specs.method.Calls.{call_result, has_method, has_attribute, plain, on_texts};
+ghost use Rattle.meaning_laws.specs.method.StrCalls.{has_str_method};
 ghost use Rattle.meaning_laws.specs.method.Functions.{made_by};
 ghost use Rattle.meaning_laws.specs.charge.Charge.{answer_charge, select_charge, setting_charge};
 ghost use Rattle.meaning_laws.specs.method.Charges.{call_charge};
@@ -40,6 +42,7 @@ use column_operators::Operator;
 use frame_calls::{
     Between, function_called, function_named, method_behind, method_called, method_of,
 };
+use frame_late::{has_texts, text_exists};
 use frame_set::NewValue;
 use frame_store::{Argument, NamedList, ObjId, OpFault, Selector, Subscript, Value};
 use meaning_call::{Function, Method};
@@ -214,6 +217,44 @@ impl Work {
         note(&mut self.temps, made);
         let cells = method_cells(&self.store, method, rows, columns, made);
         self.charge = charged(self.charge, cells);
+        Ok(made)
+    }
+
+    /// That the value has texts behind `str`, and else an `AttributeError` of `str`, or want of memory.
+    pub fn expect_texts(&self, on: Value) -> Result<(), EvalFault>
+        requires { IsLive (tables_in self.now) on }
+        ensures known { (texts : List OneText) → OnOk result
+            (has_attribute (entry_of (tables_in self.now) texts on) (codes "str") ≡ true) }
+        ensures fault { (texts : List OneText) → IfErr result (λ f. IsNoAttribute f (codes "str")
+            (has_attribute (entry_of (tables_in self.now) texts on) (codes "str"))) }
+    {
+        if has_texts(&self.store, on) {
+            return Ok(());
+        }
+        Err(no_attribute(self.alloc, "str"))
+    }
+
+    /// What a method of texts gives behind `str`: a new object. The refusals are those of [`frame_late::method`], in
+    /// its order.
+    pub fn on_texts(&mut self, on: Value, name: &str, args: &NamedList) -> Result<Value, OpFault>
+        requires on { IsKnownValue (world_of self.old) on }
+        requires arguments { AreKnownArguments (world_of self.old) args.now }
+        ensures { let w = world_of self.old in
+            let given = arguments_in w args.now in
+            FormsIn result (call_charge (entry_in w on) (on_texts name.now) given)
+            (call_result (entry_in w on) (on_texts name.now) given) self.old self.new }
+    {
+        self.temps.reserve(1)?;
+        let made = frame_late::method(
+            self.alloc,
+            &mut self.store,
+            &mut self.dict,
+            on,
+            name,
+            args.as_slice(),
+        )?;
+        note(&mut self.temps, made);
+        self.charge = charged(self.charge, answer_cells(&self.store, made));
         Ok(made)
     }
 
@@ -467,6 +508,17 @@ pub fn expect_function(alloc: Global, name: &str) -> Result<Function, EvalFault>
         Some(function) => Ok(function),
         None => Err(no_attribute(alloc, name)),
     }
+}
+
+/// That there is a method of texts of this name, and else an `AttributeError` that gives the name, or want of memory.
+pub fn expect_str_method(alloc: Global, name: &str) -> Result<(), EvalFault>
+    ensures known { OnOk result (has_str_method name.now ≡ true) }
+    ensures fault { IfErr result (λ f. IsNoAttribute f name.now (has_str_method name.now)) }
+{
+    if text_exists(name) {
+        return Ok(());
+    }
+    Err(no_attribute(alloc, name))
 }
 
 // The fault of a name that isn't there.

@@ -1,7 +1,7 @@
 -- What is in the grammar is read.
 use Rattle.{
-  script_tokens.{proofs.cells.Common.{◌≡◌, ℕ, zero, suc, ◌≤◌, Bool, false, List, ◌∷◌, length, Option, Some, None, refl, arith, inl, inr, ◌⊎◌, codes, nat_eq, Text, Binary}, specs.language.{Token.{Token, word, op, mark, Mark, equals, dot, comma, colon, open_paren, close_paren, open_bracket, close_bracket, close_brace}, Tree.{Unary, Literal, Expr, Step, Sub, OptionalSub, OptionalArg, OptionalExpr, Tagging, bare, named, keyed, Tag, Arg, Parts, name, literal, unary, binary, after, len, make, paren, item, access, method, group, rolling, expanding, key, span, no_sub, some_sub, no_arg, some_arg, no_expr, some_expr, expr, many, row, table, nothing, no_parts, more_parts}, Depth.{depth, step_depth, sub_depth, optional_sub_depth, optional_arg_depth, optional_expr_depth, arg_depth, parts_depth}, Grammar.{level, IsMethodName, SpellsTag, SpellsComma, SpellsExpr, SpellsStep, SpellsSecond, SpellsBrackets, SpellsSub, SpellsBound, SpellsStride, SpellsArg, SpellsParts}}},
-  script_syntax.{specs.Reading.{dotted_at, call_at, after_word, may_follow, call_of, accessor_at, maker_at, len_at, Reader, and_then, or_else, pick, after_mark, name_at, operator_at, sign_at, begins_step, ends_bound, Call, plain, grouped, rolled, expanded, past_comma, keyword_at, keyword_for, key_at, tag_at, has_name, item_at, bracketed, enclosed, part_at, parts, all_arguments, atom, bound, stride, span_after, sub_from, sub_at, second, subscripts, brackets, named_call, called, call, dotted, step_from, step, steps, postfix, signed, operators, expr_with, expr_from, unparted, opened, argument_with, expr_at, argument_at, word_at}, proofs.{Starts.{StartsExpr, StartsArg, expr_starts, arg_starts, part_starts, arg_no_mark, arg_no_end, expr_no_end, arg_no_target, Ends, EndsBound, mark_ends, step_begins, Closes, EndsSub, stride_ends}, Gives.{method_is, word_same, other_mark, name_reads, reserved_is_none, target_reads, operator_reads, operator_below, none_above, minus_reads, guard_reads, literal_reads, word_no_mark, no_len, literal_plain, item_yes, as_item_reads, as_part_reads, past_comma_reads, at_close_reads}, Takes.{mark_same, MayCome, may_come, CallIs, no_operator, level_small, not_zero, tilde_reads, mark_takes}, Sound.{FirstComes, expr_sound}, Shorter.{parts_shorter, expr_shorter, step_shorter, arg_shorter, tag_shorter, comma_shorter}}},
+  script_tokens.{proofs.cells.Common.{◌≡◌, ℕ, zero, suc, ◌≤◌, Bool, false, List, ◌∷◌, length, Option, Some, None, refl, arith, inl, inr, ◌⊎◌, codes, nat_eq, Text, Binary}, specs.language.{Token.{Token, word, op, mark, Mark, equals, dot, comma, colon, open_paren, close_paren, open_bracket, close_bracket, close_brace}, Tree.{Unary, Literal, Expr, Step, Sub, OptionalSub, OptionalArg, OptionalExpr, Tagging, bare, named, keyed, Tag, Arg, Parts, name, literal, unary, binary, after, len, make, paren, item, access, method, text_method, group, rolling, expanding, key, span, no_sub, some_sub, no_arg, some_arg, no_expr, some_expr, expr, many, row, table, nothing, no_parts, more_parts}, Depth.{depth, step_depth, sub_depth, optional_sub_depth, optional_arg_depth, optional_expr_depth, arg_depth, parts_depth}, Grammar.{level, IsMethodName, IsTextMethodName, SpellsTag, SpellsComma, SpellsExpr, SpellsStep, SpellsSecond, SpellsBrackets, SpellsSub, SpellsBound, SpellsStride, SpellsArg, SpellsParts}}},
+  script_syntax.{specs.Reading.{dotted_at, opened_at, call_at, text_call_at, after_word, may_follow, call_of, accessor_at, maker_at, len_at, Reader, and_then, or_else, pick, after_mark, name_at, operator_at, sign_at, begins_step, ends_bound, Call, plain, grouped, rolled, expanded, past_comma, keyword_at, keyword_for, key_at, tag_at, has_name, item_at, bracketed, enclosed, part_at, parts, all_arguments, atom, bound, stride, span_after, sub_from, sub_at, second, subscripts, brackets, named_call, called, call, text_call, dotted, step_from, step, steps, postfix, signed, operators, expr_with, expr_from, unparted, opened, argument_with, expr_at, argument_at, word_at}, proofs.{Starts.{StartsExpr, StartsArg, expr_starts, arg_starts, part_starts, arg_no_mark, arg_no_end, expr_no_end, arg_no_target, Ends, EndsBound, mark_ends, step_begins, Closes, EndsSub, stride_ends}, Gives.{method_is, text_method_is, word_same, other_mark, name_reads, reserved_is_none, target_reads, operator_reads, operator_below, none_above, minus_reads, guard_reads, literal_reads, word_no_mark, no_len, literal_plain, item_yes, as_item_reads, as_part_reads, past_comma_reads, at_close_reads}, Takes.{mark_same, MayCome, may_come, CallIs, no_operator, level_small, not_zero, tilde_reads, mark_takes}, Sound.{FirstComes, expr_sound}, Shorter.{parts_shorter, expr_shorter, step_shorter, arg_shorter, tag_shorter, comma_shorter}}},
 }
 use Rattle.script_syntax.specs.At as at
 
@@ -133,11 +133,11 @@ len_steps = grind (arith, reserved_is_none, word_no_mark, word_same, mark_ends, 
 
 call_is_read : (n : Text) (q : Parts named) (room : ℕ) (vs us : List Token) → IsMethodName n → ReadsArgs q → SpellsParts q close_paren vs us → parts_depth q ≤ room
     → at.named_call room (mark dot ∷ word n ∷ mark open_paren ∷ vs) ≡ Some ((n, q), us)
-unfolding named_call and_then call_at pick dotted_at word_at
+unfolding named_call and_then call_at opened_at pick dotted_at word_at
 call_is_read = grind (arith, mark_same, method_is)
 
 make_steps : (n : Text) (q : Parts named) → ReadsArgs q → (l : ℕ) → HasSteps l (make n q)
-unfolding signed atom or_else and_then sign_at postfix maker_at call_at pick dotted_at word_at
+unfolding signed atom or_else and_then sign_at postfix maker_at call_at opened_at pick dotted_at word_at
 make_steps = grind (arith, reserved_is_none, word_no_mark, no_len, word_same, mark_same, method_is)
 
 after_steps : (x : Expr) (p : Step) → ReadsExpr x → ReadsStep p → (l : ℕ) → HasSteps l (after x p)
@@ -274,6 +274,11 @@ call_reads_as : (c : Call) (w : Text) (q : Parts named) (room : ℕ) (vs ws : Li
 unfolding dotted call or_else and_then step step_from brackets call_of pick dotted_at word_at
 call_reads_as = grind (arith, other_mark, mark_same, method_is)
 
+text_call_is_read : (n : Text) (q : Parts named) (room : ℕ) (vs us : List Token) → IsTextMethodName n → ReadsArgs q → SpellsParts q close_paren vs us → parts_depth q ≤ room
+    → at.text_call room (mark dot ∷ word n ∷ mark open_paren ∷ vs) ≡ Some (text_method n q, us)
+unfolding text_call and_then text_call_at opened_at pick dotted_at word_at
+text_call_is_read = grind (arith, mark_same, text_method_is)
+
 group_reads : (q : Parts named) (by : OptionalArg) (n : Text) (p : Parts named) → ReadsArgs q → ReadsOptional by → ReadsArgs p → ReadsStep (group q by n p)
 unfolding called and_then
 group_reads q by n p r b k room ts us (vs, ws, xs, e, s, t, ys, f, h, u) g d =
@@ -314,6 +319,7 @@ mutual
   step_is_read (item a) = grind (arith, mark_ends, arg_is_read a)
   step_is_read (access by s t) = grind (arith, second_ends, sub_is_read s, second_is_read t)
   step_is_read (method n q) = grind (arith, call_reads_as plain n q, args_read q (parts_are_read q))
+  step_is_read (text_method n q) = grind (arith, text_call_is_read n q, args_read q (parts_are_read q))
   step_is_read (group r by n q) = group_reads r by n q (args_read r (parts_are_read r)) (optional_is_read by) (args_read q (parts_are_read q))
   step_is_read (rolling r n q) = rolling_reads r n q (args_read r (parts_are_read r)) (args_read q (parts_are_read q))
   step_is_read (expanding r n q) = expanding_reads r n q (args_read r (parts_are_read r)) (args_read q (parts_are_read q))

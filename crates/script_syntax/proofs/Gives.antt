@@ -1,8 +1,8 @@
 -- What the small readers give.
 use Rattle.{
-  script_tokens.{proofs.cells.Common.{lt-ltb, eqb-true, leb_tells, ◌≡◌, ℕ, ◌<◌, ◌≤◌, true, false, List, ◌∷◌, Some, None, refl, arith, codes, list_any, Text, same_text, Binary}, specs.language.{Token.{Token, word, op, mark, Mark, equals, comma, open_paren}, Tree.{minus, sub, Tagging, Literal, Expr, Step, Arg, after}, Depth.{depth}, Grammar.{reserved_words, IsPart, IsName, IsMethodName, level, begins_int, begins_paren, SpellsLiteral, IsItem, IsTarget, SpellsEnd}}},
+  script_tokens.{proofs.cells.Common.{lt-ltb, eqb-true, leb_tells, ◌≡◌, ℕ, ◌<◌, ◌≤◌, true, false, List, ◌∷◌, Some, None, refl, arith, codes, list_any, Text, same_text, Binary}, specs.language.{Token.{Token, word, op, mark, Mark, equals, comma, open_paren}, Tree.{minus, sub, Tagging, Literal, Expr, Step, Arg, after}, Depth.{depth}, Grammar.{reserved_words, IsPart, IsName, IsMethodName, IsTextMethodName, level, begins_int, begins_paren, SpellsLiteral, IsItem, IsTarget, SpellsEnd}}},
   std.proofs.lemmas.Bool.{leb-false, le-leb},
-  script_syntax.{specs.Reading.{and_then, or_else, pick, after_mark, after_word, word_at, text_at, ended, is_reserved, is_method_name, name_at, target_at, dotted_at, call_at, len_at, maker_at, operator_at, sign_at, positive, negative, na_at, constant_at, negative_at, literal_at, is_item, as_item, as_part, past_comma, is_target, split, guard, closed, end_at}, proofs.{Tools.{text_same}, Takes.{mark_same}}},
+  script_syntax.{specs.Reading.{and_then, or_else, pick, after_mark, after_word, word_at, text_at, ended, is_reserved, is_method_name, is_text_method_name, name_at, target_at, dotted_at, opened_at, call_at, len_at, maker_at, operator_at, sign_at, positive, negative, na_at, constant_at, negative_at, literal_at, is_item, as_item, as_part, past_comma, is_target, split, guard, closed, end_at}, proofs.{Tools.{text_same}, Takes.{mark_same}}},
 }
 
 pub word_same : (w : Text) (us : List Token) → after_word w (word w ∷ us) ≡ Some us
@@ -34,6 +34,10 @@ target_reads = search (name_reads, mark_same)
 pub method_is : (n : Text) → IsMethodName n → is_method_name n ≡ true
 unfolding is_method_name is_reserved pick
 method_is n h = rw (h.0, h.1) refl
+
+pub text_method_is : (n : Text) → IsTextMethodName n → is_text_method_name n ≡ true
+unfolding is_text_method_name pick
+text_method_is = grind (arith, method_is)
 
 -- ---- operators and signs
 
@@ -90,7 +94,7 @@ pub record IsPlain (ts : List Token) : Type 0 where
   pub no_maker : maker_at ts ≡ None
 
 pub literal_plain : (v : Literal) (ts us : List Token) → SpellsLiteral v ts us → IsPlain ts
-unfolding name_at word_at is_reserved after_mark len_at maker_at after_word and_then call_at dotted_at pick
+unfolding name_at word_at is_reserved after_mark len_at maker_at after_word and_then call_at opened_at dotted_at pick
 literal_plain = grind (arith, no_paren)
 
 -- ---- parts

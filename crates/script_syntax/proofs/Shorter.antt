@@ -1,5 +1,5 @@
 -- A part of a statement has a token, and an expression of a level is one of each lower level.
-use Rattle.script_tokens.{proofs.cells.Common.{ℕ, ◌<◌, ◌≤◌, ◌⊎◌, List, length, arith}, specs.language.{Token.{Token, Mark}, Tree.{Expr, Step, Sub, OptionalSub, OptionalArg, OptionalExpr, Tagging, bare, named, keyed, Tag, Arg, Parts, name, literal, unary, binary, after, len, make, paren, item, access, method, group, rolling, expanding, key, span, no_sub, some_sub, no_arg, some_arg, no_expr, some_expr, expr, many, row, table, no_parts, more_parts}, Grammar.{SpellsLiteral, SpellsTag, SpellsComma, SpellsExpr, SpellsStep, SpellsSecond, SpellsBrackets, SpellsSub, SpellsBound, SpellsStride, SpellsArg, SpellsParts}}}
+use Rattle.script_tokens.{proofs.cells.Common.{ℕ, ◌<◌, ◌≤◌, ◌⊎◌, List, length, arith}, specs.language.{Token.{Token, Mark}, Tree.{Expr, Step, Sub, OptionalSub, OptionalArg, OptionalExpr, Tagging, bare, named, keyed, Tag, Arg, Parts, name, literal, unary, binary, after, len, make, paren, item, access, method, text_method, group, rolling, expanding, key, span, no_sub, some_sub, no_arg, some_arg, no_expr, some_expr, expr, many, row, table, no_parts, more_parts}, Grammar.{SpellsLiteral, SpellsTag, SpellsComma, SpellsExpr, SpellsStep, SpellsSecond, SpellsBrackets, SpellsSub, SpellsBound, SpellsStride, SpellsArg, SpellsParts}}}
 use Rattle.script_tokens.specs.language.Tree as tree
 
 pub literal_shorter : (v : tree.Literal) (ts us : List Token) → SpellsLiteral v ts us → length us < length ts
@@ -31,6 +31,7 @@ mutual
   step_shorter (item a) = grind (arith, arg_shorter a)
   step_shorter (access by s t) = grind (arith, sub_shorter s, second_shorter t)
   step_shorter (method n r) = grind (arith, parts_shorter r)
+  step_shorter (text_method n r) = grind (arith, parts_shorter r)
   step_shorter (group r by n q) = grind (arith, parts_shorter r, optional_shorter by, parts_shorter q)
   step_shorter (rolling r n q) = grind (arith, parts_shorter r, parts_shorter q)
   step_shorter (expanding r n q) = grind (arith, parts_shorter r, parts_shorter q)

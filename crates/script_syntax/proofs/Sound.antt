@@ -1,7 +1,7 @@
 -- What is read is in the grammar, and no deeper than was allowed.
 use Rattle.{
-  script_tokens.{proofs.cells.Common.{◌≡◌, ℕ, zero, suc, ◌≤◌, Bool, List, ◌∷◌, length, Some, None, refl, arith, eqb_tells, Binary}, specs.language.{Token.{Token, op, mark, Mark, close_paren}, Tree.{binary, Expr, Step, Sub, Tagging, Tag, Arg, Parts, no_parts, more_parts}, Depth.{depth, step_depth, sub_depth, optional_sub_depth, optional_arg_depth, optional_expr_depth, arg_depth, parts_depth}, Grammar.{level, left_level, IsItem, IsPart, SpellsTag, SpellsComma, SpellsExpr, SpellsStep, SpellsSecond, SpellsBrackets, SpellsSub, SpellsBound, SpellsStride, SpellsArg, SpellsParts}}},
-  script_syntax.{proofs.{Starts.{Closes, part_starts}, Tools.{Only, Sound, guard_takes}, Takes.{mark_takes, word_takes, name_takes, dotted_takes, call_takes, len_takes, maker_takes, operator_takes, sign_takes, literal_takes, accessor_takes, call_of_takes, item_is, comma_takes, MayCome, may_come, tag_takes, part_takes, no_operator, no_tokens, level_small}, Shorter.{expr_shorter, lower}, Gives.{operator_reads}}, specs.Reading.{and_then, or_else, pick, as_item, operator_at, past_comma, item_at, bracketed, enclosed, has_name, part_at, parts, all_arguments, atom, bound, stride, span_after, sub_from, sub_at, second, subscripts, brackets, named_call, called, call, dotted, step_from, step, steps, postfix, signed, operators, expr_with, expr_from, unparted, opened, argument_with, expr_at, argument_at}},
+  script_tokens.{proofs.cells.Common.{◌≡◌, ℕ, zero, suc, ◌≤◌, Bool, true, false, List, ◌∷◌, length, Option, Some, None, refl, arith, eqb_tells, codes, Text, same_text, Binary}, specs.language.{Token.{Token, word, op, mark, Mark, dot, open_paren, close_paren}, Tree.{binary, Expr, Step, Sub, Tagging, Tag, Arg, Parts, no_parts, more_parts}, Depth.{depth, step_depth, sub_depth, optional_sub_depth, optional_arg_depth, optional_expr_depth, arg_depth, parts_depth}, Grammar.{level, left_level, IsTextMethodName, IsItem, IsPart, SpellsTag, SpellsComma, SpellsExpr, SpellsStep, SpellsSecond, SpellsBrackets, SpellsSub, SpellsBound, SpellsStride, SpellsArg, SpellsParts}}},
+  script_syntax.{proofs.{Starts.{Closes, part_starts}, Tools.{Only, Sound, guard_takes, text_is}, Takes.{mark_takes, word_takes, name_takes, dotted_takes, call_takes, text_call_takes, len_takes, maker_takes, operator_takes, sign_takes, literal_takes, accessor_takes, call_of_takes, item_is, comma_takes, MayCome, may_come, tag_takes, part_takes, no_operator, no_tokens, level_small}, Shorter.{expr_shorter, lower}, Gives.{operator_reads}}, specs.Reading.{text_call_at, and_then, or_else, pick, as_item, operator_at, past_comma, item_at, bracketed, enclosed, has_name, part_at, parts, all_arguments, atom, bound, stride, span_after, sub_from, sub_at, second, subscripts, brackets, named_call, called, call, text_call, dotted, step_from, step, steps, postfix, signed, operators, expr_with, expr_from, unparted, opened, argument_with, expr_at, argument_at}},
 }
 use Rattle.script_syntax.specs.At as at
 
@@ -38,6 +38,21 @@ parts_comma last no_parts close ts us vs c p s f = grind (arith, comma_takes)
 parts_comma {by} last (more_parts tag a r) close ts us vs c p (ws, xs, ys, t, i, q, e, s) f =
     let starts = part_starts by tag a us ws xs t q in
     (grind (arith, comma_takes, starts), (may_come by last tag).0 f)
+
+-- what goes on from a value, and what a test lets be read
+then_only : {A B : Type 0} (P : A → Type 0) (Q : B → Type 0) (o : Option A) (go : A → Option B) → Only P o → ((a : A) → P a → Only Q (go a)) → Only Q (and_then o go)
+unfolding and_then
+then_only P Q None go h so = tt
+then_only P Q (Some a) go h so = so a h
+
+pick_only : {B : Type 0} (Q : B → Type 0) (test : Bool) (o : Option B) → (test ≡ true → Only Q o) → Only Q (pick test o None)
+unfolding pick
+pick_only Q true o so = so refl
+pick_only Q false o so = tt
+
+-- the name of a method of texts, after a dot and before a parenthesis
+abbrev IsTextCall : List Token → Text × List Token → Type 0
+IsTextCall ts n = (ts ≡ mark dot ∷ word n.0 ∷ mark open_paren ∷ n.1) × IsTextMethodName n.0
 
 -- the level of what is read so far
 own_level : Expr → ℕ
@@ -125,9 +140,18 @@ module _ (room : ℕ) (inner_sound : (l : ℕ) (ts : List Token) → l ≤ 6 →
   unfolding brackets bracketed and_then or_else
   brackets_sound = grind (arith, mark_takes)
 
+  -- what stands after a dot and a word is a method of texts, where the word is `str`
+  text_call_sound : (w : Text) (ts : List Token) → Only (IsStep room (mark dot ∷ word w ∷ ts)) (pick (same_text w (codes "str")) (at.text_call room ts) None)
+  unfolding text_call
+  text_call_sound w ts =
+      let Q : Step × List Token → Type 0 = IsStep room (mark dot ∷ word w ∷ ts) in
+      pick_only Q (same_text w (codes "str")) _
+      (λ e. then_only (IsTextCall ts) Q (text_call_at ts) _ (text_call_takes ts)
+      (λ n h. then_only (IsParts close_paren room n.1) Q (at.all_arguments room n.1) _ (all_sound n.1) (λ r s. ((n.1, cc (text_is w (codes "str") e, h.0), h.1, s.0), s.1))))
+
   step_sound : Sound (at.step room) (IsStep room)
   unfolding step step_from dotted subscripts call called named_call and_then or_else
-  step_sound = grind (arith, brackets_sound, dotted_takes, mark_takes, call_of_takes, all_sound, call_takes, accessor_takes, sub_sound, second_sound)
+  step_sound = grind (arith, brackets_sound, dotted_takes, mark_takes, call_of_takes, all_sound, call_takes, text_call_sound, accessor_takes, sub_sound, second_sound)
 
   steps_sound : (ts : List Token) (n : ℕ) (x : Expr) (us : List Token) → IsExpr (suc room) 7 ts (x, us) → Only (IsExpr (suc room) 7 ts) (at.steps room n x us)
   unfolding steps and_then pick

@@ -1,7 +1,7 @@
 -- What the small readers take.
 use Rattle.{
-  script_tokens.{proofs.cells.Common.{leb-true, ltb-true, eqb-true, eq-eqb, leb_tells, eqb_tells, ◌≡◌, ◌↔◌, ℕ, ◌≤◌, Bool, true, false, List, ◌∷◌, length, Some, None, refl, arith, ◌⊎◌, codes, nat_eq, Text, Binary}, specs.language.{Token.{Token, word, op, mark, Mark, equals, dot, comma, tilde, open_paren}, Tree.{Unary, minus, invert, sub, Tagging, bare, named, keyed, Tag, Expr, Arg, after}, Grammar.{IsName, IsMethodName, accessor_word, level, begins_int, SpellsLiteral, IsItem, IsPart, MayFollow, SpellsTag, IsTarget, SpellsEnd}}},
-  script_syntax.{specs.Reading.{and_then, or_else, pick, after_mark, after_word, word_at, text_at, ended, is_reserved, is_method_name, name_at, target_at, dotted_at, call_at, len_at, maker_at, operator_at, sign_at, positive, negative, na_at, constant_at, negative_at, literal_at, accessor_at, Call, plain, grouped, rolled, expanded, call_of, is_item, as_item, past_comma, keyword_at, may_follow, keyword_for, key_at, tag_at, has_name, as_part, is_target, split, closed, end_at}, proofs.Tools.{Only, Sound, text_is, text_tells}},
+  script_tokens.{proofs.cells.Common.{leb-true, ltb-true, eqb-true, eq-eqb, leb_tells, eqb_tells, ◌≡◌, ◌↔◌, ℕ, ◌≤◌, Bool, true, false, List, ◌∷◌, length, Some, None, refl, arith, ◌⊎◌, codes, nat_eq, Text, Binary}, specs.language.{Token.{Token, word, op, mark, Mark, equals, dot, comma, tilde, open_paren}, Tree.{Unary, minus, invert, sub, Tagging, bare, named, keyed, Tag, Expr, Arg, after}, Grammar.{IsName, IsMethodName, IsTextMethodName, accessor_word, level, begins_int, SpellsLiteral, IsItem, IsPart, MayFollow, SpellsTag, IsTarget, SpellsEnd}}},
+  script_syntax.{specs.Reading.{and_then, or_else, pick, after_mark, after_word, word_at, text_at, ended, is_reserved, is_method_name, is_text_method_name, name_at, target_at, dotted_at, opened_at, call_at, text_call_at, len_at, maker_at, operator_at, sign_at, positive, negative, na_at, constant_at, negative_at, literal_at, accessor_at, Call, plain, grouped, rolled, expanded, call_of, is_item, as_item, past_comma, keyword_at, may_follow, keyword_for, key_at, tag_at, has_name, as_part, is_target, split, closed, end_at}, proofs.Tools.{Only, Sound, text_is, text_tells}},
 }
 use Rattle.script_tokens.specs.language.Tree as tree
 
@@ -33,9 +33,21 @@ is_method : (w : Text) → is_method_name w ≡ true → IsMethodName w
 unfolding is_method_name is_reserved pick
 is_method = grind arith
 
+opened_takes : Sound opened_at (λ ts y. ts ≡ mark dot ∷ word y.0 ∷ mark open_paren ∷ y.1)
+unfolding opened_at and_then
+opened_takes = grind (arith, dotted_takes, mark_takes)
+
 pub call_takes : Sound call_at (λ ts y. (ts ≡ mark dot ∷ word y.0 ∷ mark open_paren ∷ y.1) × IsMethodName y.0)
 unfolding call_at and_then pick
-call_takes = grind (arith, dotted_takes, mark_takes, is_method)
+call_takes = grind (arith, opened_takes, is_method)
+
+is_text_method : (w : Text) → is_text_method_name w ≡ true → IsTextMethodName w
+unfolding is_text_method_name pick
+is_text_method = grind (arith, is_method, text_is)
+
+pub text_call_takes : Sound text_call_at (λ ts y. (ts ≡ mark dot ∷ word y.0 ∷ mark open_paren ∷ y.1) × IsTextMethodName y.0)
+unfolding text_call_at and_then pick
+text_call_takes = grind (arith, opened_takes, is_text_method)
 
 pub len_takes : Sound len_at (λ ts us. ts ≡ word (codes "len") ∷ mark open_paren ∷ us)
 unfolding len_at and_then

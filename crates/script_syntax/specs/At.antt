@@ -37,6 +37,9 @@ module _ (room : ℕ) where
   abbrev pub call : Text → Reader Step
   call = reading.call room (expr_at room) (argument_at room)
 
+  abbrev pub text_call : Reader Step
+  text_call = reading.text_call room (expr_at room) (argument_at room)
+
   abbrev pub named_call : Reader (Text × Parts named)
   named_call = reading.named_call room (expr_at room) (argument_at room)
 

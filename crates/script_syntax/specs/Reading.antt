@@ -4,7 +4,7 @@ use Rattle.std.specs.List.{list_any}
 use Rattle.script_tokens.specs.cells.Text.{Text, same_text}
 use Rattle.script_tokens.specs.language.Token.{Token, word, int, text, op, mark, Mark, equals, dot, comma, colon, tilde, open_paren, close_paren, open_bracket, close_bracket, open_brace, close_brace, byte_of}
 use Rattle.script_tokens.specs.language.Tree as tree
-use Rattle.script_tokens.specs.language.Tree.{Unary, minus, invert, Binary, sub, Accessor, loc, iloc, at, iat, Literal, Expr, Step, Sub, OptionalSub, OptionalArg, OptionalExpr, Tagging, bare, named, keyed, Tag, Arg, Parts, Action, name, literal, unary, binary, after, len, make, paren, item, access, method, group, rolling, expanding, key, span, no_sub, some_sub, no_arg, some_arg, no_expr, some_expr, expr, many, row, table, nothing, no_parts, more_parts, import_pandas, bind, put, drop_name, drop_column, print}
+use Rattle.script_tokens.specs.language.Tree.{Unary, minus, invert, Binary, sub, Accessor, loc, iloc, at, iat, Literal, Expr, Step, Sub, OptionalSub, OptionalArg, OptionalExpr, Tagging, bare, named, keyed, Tag, Arg, Parts, Action, name, literal, unary, binary, after, len, make, paren, item, access, method, text_method, group, rolling, expanding, key, span, no_sub, some_sub, no_arg, some_arg, no_expr, some_expr, expr, many, row, table, nothing, no_parts, more_parts, import_pandas, bind, put, drop_name, drop_column, print}
 use Rattle.script_tokens.specs.language.Depth.{depth}
 use Rattle.script_tokens.specs.language.Grammar.{reserved_words, form_words, level, begins_int, begins_paren, begins_minus, most_depth}
 
@@ -61,6 +61,9 @@ is_reserved w = list_any (same_text w) reserved_words
 unfoldable pub is_method_name : Text → Bool
 is_method_name w = pick (is_reserved w) false (pick (list_any (same_text w) form_words) false true)
 
+unfoldable pub is_text_method_name : Text → Bool
+is_text_method_name w = pick (same_text w (codes "len")) true (is_method_name w)
+
 unfoldable pub name_at : Reader Text
 name_at ts = word_at ts >>= λ w. pick (is_reserved w.0) None (Some w)
 
@@ -72,9 +75,17 @@ target_at ts = name_at ts >>= λ n. after_mark equals n.1 >>= λ us. Some (n.0, 
 unfoldable pub dotted_at : Reader Text
 dotted_at ts = after_mark dot ts >>= word_at
 
+-- `.word(`
+unfoldable pub opened_at : Reader Text
+opened_at ts = dotted_at ts >>= λ w. after_mark open_paren w.1 >>= λ us. Some (w.0, us)
+
 -- `.name(`, of no form of its own
 unfoldable pub call_at : Reader Text
-call_at ts = dotted_at ts >>= λ w. after_mark open_paren w.1 >>= λ us. pick (is_method_name w.0) (Some (w.0, us)) None
+call_at ts = opened_at ts >>= λ w. pick (is_method_name w.0) (Some w) None
+
+-- `.name(` after `str`
+unfoldable pub text_call_at : Reader Text
+text_call_at ts = opened_at ts >>= λ w. pick (is_text_method_name w.0) (Some w) None
 
 -- `len(`
 unfoldable pub len_at : List Token → Option (List Token)
@@ -307,11 +318,17 @@ module _ (room : ℕ) (inner : ℕ → Reader Expr) (argument : Reader Arg) wher
   unfoldable pub call : Text → Reader Step
   call w ts = call_of w >>= λ c. all_arguments ts >>= λ r. called c w r.0 r.1
 
+  -- a method of texts, after `str`
+  unfoldable pub text_call : Reader Step
+  text_call ts = text_call_at ts >>= λ n. all_arguments n.1 >>= λ r. Some (text_method n.0 r.0, r.1)
+
   -- a step after its dot and its word
   unfoldable pub dotted : Text → Reader Step
   dotted w ts =
       or_else (after_mark open_paren ts)
-      (after_mark open_bracket ts >>= λ us. accessor_at w >>= λ by. subscripts by us)
+      (or_else (after_mark open_bracket ts)
+      (pick (same_text w (codes "str")) (text_call ts) None)
+      (λ us. accessor_at w >>= λ by. subscripts by us))
       (λ us. call w us)
 
   -- a step that begins with these brackets, if there are any

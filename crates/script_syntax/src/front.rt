@@ -82,7 +82,7 @@ pub(crate) fn is_form_word(word: &str) -> bool
 {
     matches!(
         word,
-        "loc" | "iloc" | "at" | "iat" | "groupby" | "rolling" | "expanding"
+        "loc" | "iloc" | "at" | "iat" | "groupby" | "rolling" | "expanding" | "str"
     )
 }
 
@@ -92,6 +92,14 @@ pub(crate) fn is_method_name(word: &str) -> bool
     ensures { result ≡ spec.is_method_name word.now }
 {
     !is_reserved(word) && !is_form_word(word)
+}
+
+// Whether a word names a method of texts, after `str`.
+#[tactic(auto, unfolding(crate::specs::Reading::is_text_method_name, crate::specs::Reading::pick))]
+fn is_text_method_name(word: &str) -> bool
+    ensures { result ≡ spec.is_text_method_name word.now }
+{
+    word == "len" || is_method_name(word)
 }
 
 // A name and what follows it.
@@ -125,14 +133,35 @@ pub(crate) fn dotted_at<'t, 'a>(tokens: &'t [Token<'a>]) -> Option<(&'a str, &'t
     word_at(rest)
 }
 
+// The word in `.word(`, and what follows.
+#[tactic(auto, unfolding(crate::specs::Reading::opened_at, crate::specs::Reading::and_then))]
+fn opened_at<'t, 'a>(tokens: &'t [Token<'a>]) -> Option<(&'a str, &'t [Token<'a>])>
+    ensures { word_of result ≡ spec.opened_at (tokens_of tokens.now) }
+{
+    let (word, rest) = dotted_at(tokens)?;
+    let rest = after_mark(rest, Mark::OpenParen)?;
+    Some((word, rest))
+}
+
 // The name in `.name(`, of no form of its own, and what follows.
 #[tactic(auto, unfolding(crate::specs::Reading::call_at, crate::specs::Reading::and_then, crate::specs::Reading::pick))]
 pub(crate) fn call_at<'t, 'a>(tokens: &'t [Token<'a>]) -> Option<(&'a str, &'t [Token<'a>])>
     ensures { word_of result ≡ spec.call_at (tokens_of tokens.now) }
 {
-    let (name, rest) = dotted_at(tokens)?;
-    let rest = after_mark(rest, Mark::OpenParen)?;
+    let (name, rest) = opened_at(tokens)?;
     if !is_method_name(name) {
+        return None;
+    }
+    Some((name, rest))
+}
+
+// The name in `.name(` after `str`, and what follows.
+#[tactic(auto, unfolding(crate::specs::Reading::text_call_at, crate::specs::Reading::and_then, crate::specs::Reading::pick))]
+pub(crate) fn text_call_at<'t, 'a>(tokens: &'t [Token<'a>]) -> Option<(&'a str, &'t [Token<'a>])>
+    ensures { word_of result ≡ spec.text_call_at (tokens_of tokens.now) }
+{
+    let (name, rest) = opened_at(tokens)?;
+    if !is_text_method_name(name) {
         return None;
     }
     Some((name, rest))

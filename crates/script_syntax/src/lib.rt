@@ -34,5 +34,5 @@ pub use script_tokens::Binary;
 pub use script_tree::{
     Accessor, Action, Arg, ArgList, ArgPairs, Args, Expr, Literal, Script, Statement, Step, Sub,
     Unary, access_of, expanding_of, group_of, list_of, make_of, method_of, rolling_of, span_of,
-    table_of, tuple_of,
+    table_of, text_method_of, tuple_of,
 };

@@ -8,7 +8,7 @@ ghost use Rattle.script_syntax.specs.Nests.{Nests};
 ghost use Rattle.script_syntax.specs.At as at;
 
 use crate::front::{
-    Call, accessor_at, after_mark, call_at, call_of, dotted_at, ends_bound, expect,
+    Call, accessor_at, after_mark, call_at, call_of, dotted_at, ends_bound, expect, text_call_at,
 };
 use crate::grammar::Grammar;
 use crate::node::{Found, as_item, or_drop};
@@ -17,7 +17,7 @@ use cell_core::Words;
 use script_tokens::{Mark, Token};
 use script_tree::{
     Accessor, Arg, Args, Expr, Step, Sub, access_of, expanding_of, group_of, method_of, rolling_of,
-    span_of,
+    span_of, text_method_of,
 };
 use std::alloc::Global;
 
@@ -26,7 +26,7 @@ impl<
     A: for<'t, 'a> Fn(Global, &'t [Token<'a>], usize) -> Found<'t, 'a, Arg>,
 > Grammar<E, A> {
     // A step.
-    #[tactic(auto, unfolding(crate::specs::Reading::step, crate::specs::Reading::step_from, crate::specs::Reading::dotted, crate::specs::Reading::and_then, crate::specs::Reading::or_else))]
+    #[tactic(auto, unfolding(crate::specs::Reading::step, crate::specs::Reading::step_from, crate::specs::Reading::dotted, crate::specs::Reading::and_then, crate::specs::Reading::or_else, crate::specs::Reading::pick))]
     pub(crate) fn step<'t, 'a>(&self, tokens: &'t [Token<'a>]) -> Found<'t, 'a, Step>
         requires { Nests E.Fn A.Fn self.now.expr self.now.argument self.now.room }
         ensures { Finds step_of step_depth self.now.room result
@@ -42,11 +42,31 @@ impl<
         if let Some(rest) = after_mark(rest, Mark::OpenParen) {
             return self.call(word, rest);
         }
-        let rest = expect(rest, Mark::OpenBracket)?;
-        let Some(accessor) = accessor_at(word) else {
+        if let Some(rest) = after_mark(rest, Mark::OpenBracket) {
+            let Some(accessor) = accessor_at(word) else {
+                return Err(Refusal::Syntax);
+            };
+            return self.subscripts(accessor, rest);
+        }
+        if word != "str" {
+            return Err(Refusal::Syntax);
+        }
+        self.text_call(rest)
+    }
+
+    // A method of texts, after `str`.
+    #[tactic(auto, unfolding(crate::specs::Reading::text_call, crate::specs::Reading::and_then))]
+    fn text_call<'t, 'a>(&self, tokens: &'t [Token<'a>]) -> Found<'t, 'a, Step>
+        requires { Nests E.Fn A.Fn self.now.expr self.now.argument self.now.room }
+        ensures { Finds step_of step_depth self.now.room result
+            (at.text_call self.now.room (tokens_of tokens.now)) }
+    {
+        let Some((name, rest)) = text_call_at(tokens) else {
             return Err(Refusal::Syntax);
         };
-        self.subscripts(accessor, rest)
+        let name = Words::from_text(self.alloc, name)?;
+        let (args, depth, rest) = self.arguments(rest)?;
+        Ok((text_method_of(name, args), depth, rest))
     }
 
     // A step with parentheses, after the first of them.

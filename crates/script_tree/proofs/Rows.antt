@@ -35,6 +35,9 @@ expr_of-Make = search (rules, named_of_row-items, the_lemmas)
 pub step_of-Method : (w : Words) (l : Args) → step_of (step.Method w l) ≡ tree.method w (parts (named_parts_of l))
 step_of-Method = search (rules, named_of_row-items, the_lemmas)
 
+pub step_of-Text : (w : Words) (l : Args) → step_of (step.Text w l) ≡ tree.text_method w (parts (named_parts_of l))
+step_of-Text = search (rules, named_of_row-items, the_lemmas)
+
 pub step_of-Rolling : (l : Args) (w : Words) (m : Args) → step_of (step.Rolling l w m) ≡ tree.rolling (parts (named_parts_of l)) w (parts (named_parts_of m))
 step_of-Rolling = search (rules, named_of_row-items, the_lemmas)
 

@@ -57,6 +57,7 @@ abbrev mutual
   step_of (step.Item a) = tree.item (arg_of a)
   step_of (step.Access' k x y) = tree.access (accessor_of k) (sub_of x) (optional_sub_of y)
   step_of (step.Method' n shape row) = tree.method n (named_of_row row)
+  step_of (step.Text' n shape row) = tree.text_method n (named_of_row row)
   step_of (step.Group' shape row a n shape' row') = tree.group (named_of_row row) (optional_arg_of a) n (named_of_row row')
   step_of (step.Rolling' shape row n shape' row') = tree.rolling (named_of_row row) n (named_of_row row')
   step_of (step.Expanding' shape row n shape' row') = tree.expanding (named_of_row row) n (named_of_row row')

@@ -43,6 +43,13 @@ pub fn method_of(name: Words, args: Args) -> Step
     Step::Method(name, args)
 }
 
+/// `.str.name(args)`
+pub fn text_method_of(name: Words, args: Args) -> Step
+    ensures { step_of result ≡ tree.text_method name (tree.parts (named_parts_of args)) }
+{
+    Step::Text(name, args)
+}
+
 /// `.groupby(keys)[selection].name(args)`
 pub fn group_of(keys: Args, selection: Option<Arg>, name: Words, args: Args) -> Step
     ensures { step_of result

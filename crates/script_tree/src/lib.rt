@@ -20,7 +20,7 @@ mod tree;
 
 pub use build::{
     access_of, expanding_of, group_of, list_of, make_of, method_of, rolling_of, span_of, table_of,
-    tuple_of,
+    text_method_of, tuple_of,
 };
 pub use literal::{Accessor, Literal, Unary};
 pub use parts::{ArgList, ArgPairs, Args};

@@ -62,6 +62,8 @@ pub enum Step {
     Access(Accessor, Sub, Option<Sub>),
     /// `.name(args)`
     Method(Words, Args),
+    /// `.str.name(args)`
+    Text(Words, Args),
     /// `.groupby(args)[arg].name(args)`, where `[arg]` may be absent.
     Group(Args, Option<Arg>, Words, Args),
     /// `.rolling(args).name(args)`

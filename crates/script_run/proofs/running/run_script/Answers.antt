@@ -1,4 +1,4 @@
-use Rattle.{script_session.{proofs.{cells.Common.{◌≡◌, ◌≢◌, ◌+◌, ◌∙◌, ◌||◌, ap, drop, refl, subst, sym, arith, true, IfSome, Contents, Text}, script_state.Rides.{serves_both, serves_self}}, specs.{script.{Reading.{Reading}, State.{State, no_names}, Statement.{Answer, statement_result}, Run.{RunResult, statements_result}}, script_state.Reads.{files_in, paths_of}, Session.{state_of}}}, std.proofs.Common.{ap₂, true≢false}, script_tree.specs.{View.{action_of, statement_of}, ScriptView.{statements_of}}, script_words.specs.CommandLine.{flags_of}, script_run.{specs.{Errors.{Reports}, Ends.{outside, EndsWithLine}, Steps.{tally_of, was_refused, after_turn, ComesTo, GoesOn, Stops}, declared.status.Status.{Status, TheVariants.{Done, Usage}}}, proofs.{StepLaws.{Written}, Options.{both_so, none_so, one_so, only_so, some-always, some-both, some-weaker}, RunLaws.{comes_more, comes_none, ends_nothing, left_is, next-result, none_left}, StatsLaws.{cut_left, done_plain, done_stated, fault_stated, stops_stated}, ErrorLaws.{IsSoFar, leaves_done, leaves_later, leaves_refused, leaves_stats, never_usage, reports_nothing, reports_turn}}}}
+use Rattle.{script_session.{proofs.{cells.Common.{◌≡◌, ◌≢◌, ◌+◌, ◌∙◌, ◌||◌, ap, drop, refl, subst, sym, arith, true, IfSome, Contents, Text}, script_state.Rides.{serves_both, serves_self}}, specs.{script.{Reading.{Reading}, State.{State, no_names}, Statement.{Answer, statement_result}, Run.{RunResult, statements_result}}, script_state.Reads.{files_in, paths_of}, Session.{state_of}}}, std.proofs.Common.{ap₂, true≢false}, script_tree.specs.{View.{action_of, statement_of}, ScriptView.{statements_of}}, script_words.specs.CommandLine.{flags_of}, script_run.{specs.{Errors.{Reports}, Ends.{outside, EndsWithLine}, Steps.{tally_of, was_refused, after_turn, ComesTo, GoesOn, Stops}, declared.status.Status.{Status, TheVariants.{Done, Usage}}}, proofs.{StepLaws.{Written}, Options.{both_so, one_so, only_so, some-always, some-both, some-weaker}, RunLaws.{comes_more, comes_none, ends_nothing, left_is, next-result, none_left}, StatsLaws.{cut_left, done_plain, done_stated, fault_stated, stops_stated}, ErrorLaws.{IsSoFar, leaves_done, leaves_later, leaves_refused, leaves_stats, never_usage, reports_nothing, reports_turn}}}}
 use Rattle.script_run.proofs.running.run_script.Goals as goal
 
 pub returns-in-Err-clause-told : goal.returns-in-Err-clause-told
@@ -33,7 +33,7 @@ pub loop-i-init : goal.loop-i-init
 loop-i-init g c = record {
   told = some-always _ _ (λ held. comes_none _ _ _ _ (ap (λ s. statements_result c.args.flags.keep_going (files_in c.args.names.now held) s (statements_of c.args.script.now)) (sym c.new-session.ensures.state)) c.new-session.ensures.charge);
   keeps = λ is. absurd (true≢false (sym is));
-  within = λ _. c.new-session.ensures.within;
+  within = c.new-session.ensures.within;
   lines = search reports_nothing;
   serves = search serves_self;
   out_faults = omega arith;
@@ -101,7 +101,7 @@ loop-i-preserved g c =
           subst (λ r. ComesTo (whole held) r after old new) (left_is keep_going c.loop-i.faulted rejected keeps (go held state))
           (comes_more keep_going c.loop-i.faulted rejected (whole held) (rest held) (answer held) line first state (go held) before after old mid new come (next held) on)));
       keeps = one_so _ _ _ c.loop-i.invariant.keeps (λ so. keeps (is ∙ so));
-      within = λ none. let parts = none_so _ _ none in c.in-Ok.ensures.within (is ∙ parts.1) (c.loop-i.invariant.within parts.0);
+      within = c.in-Ok.ensures.within c.loop-i.invariant.within;
       lines = subst (λ f. Reports (paths_of c.args.names.now) old.files.absences new.files.absences (IsSoFar (c.loop-i.faulted || f)) old.err new.err) is
           (reports_turn _ (flags_of c.args.flags) c.loop-i.faulted c.loop-i.invariant.keeps _ _ _ c.loop-i.invariant.serves.absences c.in-Ok.ensures.serves.absences _ _ _ c.loop-i.invariant.lines rejected c.in-Ok.ensures.lines);
       serves = search serves_both;
@@ -138,7 +138,7 @@ returns-then-flags-clause-told g c =
     some-weaker _ (λ held. ComesTo (whole held) (after_turn true c.loop-i.faulted (rest held)) tally old mid) _ c.loop-i.invariant.told (λ held come bounds.
     let none = none_left keep_going (files_in c.args.names.now held) ss c.loop-i.i (state_of c.loop-i.session) (omega (arith, c.len-i-end.ensures, c.loop-i-test.false)) in
     let all = subst (λ r. ComesTo (whole held) r tally old mid) (ap₂ (after_turn true) c.if-faulted.false none) come in
-    rw c.if-flags.true (done_stated (whole held) tally c.end_stats.result old mid new all (c.loop-i.invariant.within c.if-faulted.false).peak refl refl c.end_stats.ensures.ended))
+    rw c.if-flags.true (done_stated (whole held) tally c.end_stats.result old mid new all c.loop-i.invariant.within.peak refl refl c.end_stats.ensures.ended))
 
 pub returns-then-flags-clause-errors : goal.returns-then-flags-clause-errors
 returns-then-flags-clause-errors g c =

@@ -15,7 +15,7 @@ invariant-loop-i g l =
           (after_turn true l.faulted (statements_result l.flags.keep_going (files_in l.names held) (state_of l.session) (drop l.i (statements_of l.script)))) (tally_of l.session)
           (at l.fn.files l.fn.out l.fn.err) (at l.files l.out l.err));
       keeps : l.faulted ≡ true → l.flags.keep_going ≡ true;
-      within : l.faulted ≡ false → IsWithinCharge l.session;
+      within : IsWithinCharge l.session;
       lines : Reports (paths_of l.names) (g.F.Files.seen l.fn.files).absences (g.F.Files.seen l.files).absences (IsSoFar l.faulted) (g.E.Sink.seen l.fn.err).written (g.E.Sink.seen l.err).written;
       serves : Serves (g.F.Files.seen l.fn.files) (g.F.Files.seen l.files);
       out_faults : (g.O.Sink.seen l.fn.out).faults ≤ (g.O.Sink.seen l.out).faults;

@@ -1,8 +1,8 @@
 use Rattle.{
-  std.specs.Borrow.{Bor},
-  script_state.{proofs.{cells.Common.{rules, refl, length, ◌≡◌, sym, ◌∙◌, ap, subst, Some, None, arith, Option, append-nil, List, is_some, IfSome, Text}, Evaluations.{evaluates_by, apart, flat, spent, known_after, seen_after, stops, goes_on, adds, makes, stays, forms, knows_none, names_value, writes_out}, Worlds.{of_value, of_items, of_argument, of_pairs, of_arguments, of_subscript, seen_kept, keeps_both, brackets_seen, brackets_kept}, Rides.{cost_nothing, then_gives}, laws.{FormFaults.{sign_result_fault, infix_result_fault, length_result_fault}, SelectFaults.{select_result_fault}, CallFaults.{call_result_fault}}}, specs.{language.{Tree.{bare, named, keyed}, Depth.{depth, step_depth}}, tables.Value.{Entry, one, entries, Given, NamedGiven}, call.Signature.{function_named}, select.Select.{plain, through}, method.Calls.{has_method}, script_tokens.View.{binary_of}, script.{Reading.{Reads, gives, then_read}, Expression.{called, where_named}}, Work.{world_of}, frame_calls.Calls.{chain_of, IsKnownBetween}}},
+  std.specs.{Borrow.{Bor}, Prelude.{codes}},
+  script_state.{proofs.{cells.Common.{rules, refl, length, ◌≡◌, sym, ◌∙◌, ap, subst, Some, None, arith, Option, append-nil, List, is_some, IfSome, Text}, Evaluations.{evaluates_by, apart, flat, spent, known_after, seen_after, stops, goes_on, adds, makes, stays, forms, knows_none, names_value, writes_out}, Worlds.{of_value, of_items, of_argument, of_pairs, of_arguments, of_subscript, seen_kept, keeps_both, brackets_seen, brackets_kept}, Rides.{cost_nothing, then_gives}, laws.{FormFaults.{sign_result_fault, infix_result_fault, length_result_fault}, SelectFaults.{select_result_fault}, CallFaults.{call_result_fault}}}, specs.{language.{Tree.{bare, named, keyed}, Depth.{depth, step_depth}}, tables.Value.{Entry, one, entries, Given, NamedGiven}, call.Signature.{function_named}, select.Select.{plain, through}, method.{Calls.{has_method, has_attribute}, StrCalls.{has_str_method}}, script_tokens.View.{binary_of}, script.{Reading.{Reads, gives, then_read}, Expression.{called, where_named}}, Work.{world_of}, frame_calls.Calls.{chain_of, IsKnownBetween}}},
   frame_store.{proofs.RowLaws.{item_of-Row, argument_of-Table}, specs.{declared.arguments.{Named.{Named}, Argument.{Argument}}, World.{World, arguments_in, entry_in, subscript_in, IsKnownArgument, AreKnownArguments}}},
-  script_tree.{specs.View.{expr_of, step_of, arg_of, parts_of, named_parts_of, pair_parts_of, sub_of as view_sub}, proofs.Rows.{expr_of-Make, step_of-Method, step_of-Group, step_of-Rolling, step_of-Expanding, arg_of-Many, arg_of-Row, arg_of-Table}},
+  script_tree.{specs.View.{expr_of, step_of, arg_of, parts_of, named_parts_of, pair_parts_of, sub_of as view_sub}, proofs.Rows.{expr_of-Make, step_of-Method, step_of-Text, step_of-Group, step_of-Rolling, step_of-Expanding, arg_of-Many, arg_of-Row, arg_of-Table}},
   script_session.{specs.{Parts.{brackets_in}, Links.{link_name, between_of, chain_meant}, declared.link.Link.{Link}}, proofs.{Gathering.{gathered, gathers_first, gathers_next, gathers_none}, Refusing.{refuses_kind}, Parts.{reads_items, reads_pairs, reads_arguments, parts_end, pairs_end, no_items, no_pairs, no_arguments, items_push, pairs_push, arguments_push, items_known, pairs_known, arguments_known, key_known, span_known, row_known, table_known}, Trees.{part_depth, sub_of-Span, step_of-Access}}},
 }
 use Rattle.script_state.specs.method.Calls as calls
@@ -133,6 +133,36 @@ after-returns-in_ok-args-in-Method g t c =
     rw (ap step_of c.in-Method.is ∙ step_of-Method _ _, rw c.as_str.ensures at (c.in_ok-method-in-Method.ensures.known c.args.work.now.dict))
     (rw (← seen_after x of_value c.requires, ← c.as_str-in-Method.ensures) (goes_on _ x
     (forms _ _ (call_result_fault (entry_in (world_of c.arguments.new.work) c.args.on) (calls.plain c.as_str-in-Method.result.now) _) c.evaluated-in-Method.ensures c.method.ensures)))
+
+pub after-returns-in_err-expect_texts-in-Text : goal.after-returns-in_err-expect_texts-in-Text
+after-returns-in_err-expect_texts-in-Text g t c =
+    rw (ap step_of c.in-Text.is ∙ step_of-Text _ _) (knows_none _ _ (has_attribute (entry_in (world_of c.args.work.now) c.args.on) (codes "str")) _ (grind arith) c.from_residual-in_err-expect_texts-in-Text.ensures.1)
+
+pub after-returns-in_err-expect_str_method-in-Text : goal.after-returns-in_err-expect_str_method-in-Text
+after-returns-in_err-expect_str_method-in-Text g t c =
+    rw (ap step_of c.in-Text.is ∙ step_of-Text _ _, c.in_ok-expect_texts-in-Text.ensures.known c.args.work.now.dict) (knows_none _ _ (has_str_method c.in-Text.name) _ (grind arith) c.from_residual-in_err-expect_str_method-in-Text.ensures.1)
+
+pub after-arguments-requires-in-Text : goal.after-arguments-requires-in-Text
+after-arguments-requires-in-Text g t c =
+    let deep = ap step_depth (ap step_of c.in-Text.is ∙ step_of-Text _ _) in
+    grind arith
+
+pub after-returns-in_err-args-in-Text : goal.after-returns-in_err-args-in-Text
+after-returns-in_err-args-in-Text g t c =
+    rw (ap step_of c.in-Text.is ∙ step_of-Text _ _, c.in_ok-expect_texts-in-Text.ensures.known c.args.work.now.dict, rw c.as_str-in-Text.ensures at c.in_ok-expect_str_method-in-Text.ensures.known)
+    (stops _ c.in_err-args-in-Text.ensures (search))
+
+pub after-on_texts-requires : goal.after-on_texts-requires
+after-on_texts-requires g t c =
+    let x = c.in_ok-args-in-Text.ensures in
+    record { on = known_after x of_value c.requires; arguments = x.found }
+
+pub after-returns-in_ok-args-in-Text : goal.after-returns-in_ok-args-in-Text
+after-returns-in_ok-args-in-Text g t c =
+    let x = c.in_ok-args-in-Text.ensures in
+    rw (ap step_of c.in-Text.is ∙ step_of-Text _ _, c.in_ok-expect_texts-in-Text.ensures.known c.args.work.now.dict, rw c.as_str-in-Text.ensures at c.in_ok-expect_str_method-in-Text.ensures.known)
+    (rw (← seen_after x of_value c.requires, ← c.as_str-in-Text-2.ensures) (goes_on _ x
+    (forms _ _ (call_result_fault (entry_in (world_of c.arguments-in-Text.new.work) c.args.on) (calls.on_texts c.as_str-in-Text-2.result.now) _) c.evaluated-in-Text.ensures c.on_texts.ensures)))
 
 -- what a chain is seen as
 chain_seen : (w : World) (link : Link) (args : Bor (List Named)) (by : Bor (Option Argument)) (name : Text) → chain_of w (between_of link args by) name ≡ chain_meant link (arguments_in w args.now) (brackets_in w by.now) name

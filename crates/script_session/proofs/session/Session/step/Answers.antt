@@ -2,7 +2,7 @@ use Rattle.{
   script_state.{proofs.{cells.Common.{arith, ap, sym, ◌∙◌, subst}, States.{live_are_named, named_live}}, specs.{Bindings.{KeepNamed}, Work.{names_in, tab_of, tables_in, world_of, state_in}}},
   std.{specs.FinMap.{empty}, proofs.lemmas.Result.{on_err_weaker}},
   script_tree.specs.View.{action_of},
-  script_session.proofs.{Answering.{done_tab, performs_after, state_left, refused_charge, refused_kept, live_refused, lie_refused, held_refused}, Settings.{apart_after}, Within.{within_done}},
+  script_session.proofs.{Answering.{done_tab, performs_after, state_left, refused_charge, refused_kept, live_refused, lie_refused, held_refused}, Settings.{apart_after}, Within.{within_step}},
 }
 use Rattle.script_session.proofs.session.Session.step.Goals as goal
 
@@ -65,4 +65,5 @@ returns-clause-rows g c = omega (arith, c.held.ensures.least, c.held.ensures.hel
 
 pub returns-clause-within : goal.returns-clause-within
 returns-clause-within g c =
-    within_done _ _ _ _ _ _ _ _ c.perform-result.result (returns-clause-answers g c empty) (omega (arith, c.charge-charge.ensures, c.charge-charge.type_inv)) (returns-clause-peak g c)
+    within_step _ _ _ _ _ _ _ _ c.perform-result.result (returns-clause-answers g c empty) (omega (arith, c.charge-charge.ensures, c.charge-charge.type_inv)) (returns-clause-peak g c)
+    (returns-clause-charge g c) (returns-clause-held g c)

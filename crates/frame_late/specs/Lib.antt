@@ -1,0 +1,2 @@
+pub mod StrOps
+pub mod Told
