@@ -1,5 +1,5 @@
-//! Tests of groups, joins, concatenations, reshaping and windows, with values from pandas, and of the numbers of keys
-//! on which they rest.
+//! Tests of groups, joins, as-of merges, concatenations, reshaping and windows, with values from pandas, and of the numbers
+//! of keys on which they rest.
 #![tactic(auto)]
 
 #[cfg(test)]
@@ -8,6 +8,8 @@ mod codes;
 mod groups;
 #[cfg(test)]
 mod joins;
+#[cfg(test)]
+mod nearest;
 #[cfg(test)]
 mod reshapes;
 #[cfg(test)]

@@ -1,4 +1,4 @@
-//! Tests of cells, columns, methods of texts, axes and sorts, of the pool and the store, and of printed frames: what no
+//! Tests of cells, columns, methods of texts, axes and sorts, of the pool and the store, and of printed frames and frames as JSON: what no
 //! clause says, and what no script reaches.
 #![tactic(auto)]
 
@@ -8,6 +8,8 @@ mod axes;
 mod cells;
 #[cfg(test)]
 mod columns;
+#[cfg(test)]
+mod json;
 #[cfg(test)]
 mod managers;
 #[cfg(test)]

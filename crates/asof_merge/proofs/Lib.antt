@@ -1,0 +1,4 @@
+pub mod WalkLaws
+pub mod KeyLaws
+pub mod GroupLaws
+pub mod MergeLaws
