@@ -71,10 +71,11 @@ def nullable(column):
 
 
 def set_column(frame, key, value, plain=pandas.DataFrame.__setitem__):
-    """Sets a column, with a nullable kind where the value is a scalar or a list."""
+    """Sets each column of a label, with a nullable kind where the value is a scalar or a list."""
     plain(frame, key, value)
     if isinstance(value, (str, int, list)) and not isinstance(key, list) and pandas.api.types.is_hashable(key):
-        plain(frame, key, nullable(frame[key]))
+        for place in frame.columns.get_indexer_for([key]):
+            frame.isetitem(place, nullable(frame.iloc[:, place]))
 
 
 def prepare():

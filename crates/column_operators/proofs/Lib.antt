@@ -4,4 +4,5 @@ pub mod Scalars
 pub mod QuotientLaws
 pub mod MarkLaws
 pub mod RowLaws
+pub mod VectorLaws
 pub mod Hints

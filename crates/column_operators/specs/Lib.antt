@@ -4,3 +4,4 @@ pub mod Joins
 pub mod Pairs
 pub mod Quotients
 pub mod Marks
+pub mod Vectors

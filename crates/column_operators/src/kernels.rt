@@ -20,13 +20,12 @@ use crate::operators::{
 };
 use crate::ops::{Operator, Relation, Task, relation_of, task_of};
 use crate::pairs::Constant;
+use crate::vectors::{VectorOp, VectorOrder, VectorSide, Vectored, by_vectors};
 use cell_core::{Cell, TextDict, TextId};
 use column_core::{
     Borrowed, ColRef, Column, Dense, Lane, Nothing, Plain, RowFault, RowOp, Same, Source, by_rows,
 };
-use nullable_array::{
-    ArrayFault, ByNumber, ByText, ByTruth, Order, PairOp, Side, by_sides, text_column,
-};
+use nullable_array::{ArrayFault, ByNumber, ByText, ByTruth, PairOp, Side, by_sides, text_column};
 use std::alloc::Global;
 
 /// The operator on each two cells that stand side by side. The columns have one length.
@@ -253,7 +252,7 @@ fn beside_lane<T: Operand>(
     }
 }
 
-fn beside_side<T: Operand, A: Side<T>>(
+fn beside_side<T: Operand, A: VectorSide<T>>(
     alloc: Global,
     task: Task,
     a: A,
@@ -412,8 +411,29 @@ fn operate_sides<X: Copy, Y: Copy, U: Plain, O: PairOp<X, Y, U>, A: Side<X>, B: 
     Ok(U::column(rows))
 }
 
+// The same of an operation that makes a strip of rows at a time.
+#[inline(always)]
+fn operate_vectors<
+    X: Vectored,
+    U: Plain + Vectored,
+    O: VectorOp<X, U>,
+    A: VectorSide<X>,
+    B: VectorSide<X>,
+>(alloc: Global, op: &O, a: &A, b: &B) -> Result<Column, ArrayFault>
+    requires { A.count_of a.now ≡ B.count_of b.now }
+    ensures given { IfOk result (λ c. (texts : List (List ℕ)) → AreGiven texts c.cells) }
+    ensures answer { (texts : List (List ℕ)) → Answers texts result
+        (column_of U.kind zero_division
+        (map_rows (λ z. datum texts (U.cell z))
+        (try_rows (A.count_of a.now)
+        (λ k. O.row_of op.now (A.row_of a.now k) (B.row_of b.now k))))) }
+{
+    let rows = by_vectors(alloc, op, a, b)?;
+    Ok(U::column(rows))
+}
+
 // Which values of two sides are in a relation. Each relation has a loop of its own, with one comparison in it.
-fn compare_sides<T: Copy + Drop, K: Order<T> + Drop, A: Side<T>, B: Side<T>>(
+fn compare_sides<T: Vectored, K: VectorOrder<T> + Drop, A: VectorSide<T>, B: VectorSide<T>>(
     alloc: Global,
     order: K,
     relation: Relation,
@@ -438,7 +458,7 @@ fn compare_sides<T: Copy + Drop, K: Order<T> + Drop, A: Side<T>, B: Side<T>>(
 }
 
 #[inline(always)]
-fn compare_by<T: Copy + Drop, K: Order<T> + Drop, A: Side<T>, B: Side<T>>(
+fn compare_by<T: Vectored, K: VectorOrder<T> + Drop, A: VectorSide<T>, B: VectorSide<T>>(
     alloc: Global,
     order: K,
     relation: Relation,
@@ -451,13 +471,13 @@ fn compare_by<T: Copy + Drop, K: Order<T> + Drop, A: Side<T>, B: Side<T>>(
         Answers texts result
         (compared texts relation (K.cmp order) (A.count_of a) (A.row_of a) (B.row_of b)) }
 {
-    operate_sides(alloc, &Compare { order, relation }, a, b)
+    operate_vectors(alloc, &Compare { order, relation }, &a, &b)
 }
 
 /// A value on which operators work without a dictionary.
-pub(crate) trait Operand: Plain {
+pub(crate) trait Operand: Plain + Vectored {
     /// What an operator does to two sides.
-    fn on_sides<A: Side<Self>, B: Side<Self>>(
+    fn on_sides<A: VectorSide<Self>, B: VectorSide<Self>>(
         alloc: Global,
         task: Task,
         a: A,
@@ -470,7 +490,7 @@ pub(crate) trait Operand: Plain {
             (column_value texts (column_with Self.kind Self.cell (B.count_of b) (B.row_of b)))) };
 
     /// What it does to a side before a value that is the same in each row.
-    fn on_side_before<A: Side<Self>>(
+    fn on_side_before<A: VectorSide<Self>>(
         alloc: Global,
         task: Task,
         a: A,
@@ -500,22 +520,22 @@ pub(crate) trait Operand: Plain {
 }
 
 impl Operand for i64 {
-    fn on_sides<A: Side<i64>, B: Side<i64>>(
+    fn on_sides<A: VectorSide<i64>, B: VectorSide<i64>>(
         alloc: Global,
         task: Task,
         a: A,
         b: B,
     ) -> Result<Column, ArrayFault> {
         match task {
-            Task::Sum => operate_sides(alloc, &Sum, a, b),
-            Task::Difference => operate_sides(alloc, &Difference, a, b),
-            Task::Product => operate_sides(alloc, &Product, a, b),
+            Task::Sum => operate_vectors(alloc, &Sum, &a, &b),
+            Task::Difference => operate_vectors(alloc, &Difference, &a, &b),
+            Task::Product => operate_vectors(alloc, &Product, &a, &b),
             Task::Compare(relation) => compare_sides(alloc, ByNumber, relation, a, b),
             _ => Self::on_rows(alloc, task, &a, &b),
         }
     }
 
-    fn on_side_before<A: Side<i64>>(
+    fn on_side_before<A: VectorSide<i64>>(
         alloc: Global,
         task: Task,
         a: A,
@@ -570,22 +590,22 @@ impl Operand for i64 {
 }
 
 impl Operand for bool {
-    fn on_sides<A: Side<bool>, B: Side<bool>>(
+    fn on_sides<A: VectorSide<bool>, B: VectorSide<bool>>(
         alloc: Global,
         task: Task,
         a: A,
         b: B,
     ) -> Result<Column, ArrayFault> {
         match task {
-            Task::Both => operate_sides(alloc, &Both, a, b),
-            Task::Either => operate_sides(alloc, &Either, a, b),
-            Task::OneOf => operate_sides(alloc, &OneOf, a, b),
+            Task::Both => operate_vectors(alloc, &Both, &a, &b),
+            Task::Either => operate_vectors(alloc, &Either, &a, &b),
+            Task::OneOf => operate_vectors(alloc, &OneOf, &a, &b),
             Task::Compare(relation) => compare_sides(alloc, ByTruth, relation, a, b),
             _ => Self::on_rows(alloc, task, &a, &b),
         }
     }
 
-    fn on_side_before<A: Side<bool>>(
+    fn on_side_before<A: VectorSide<bool>>(
         alloc: Global,
         task: Task,
         a: A,

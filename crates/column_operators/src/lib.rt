@@ -6,7 +6,8 @@
 //! given, and its answer is a definition on these cells. `+` alone makes texts, which it adds to the dictionary: for the
 //! other operators [`pure_binary`] and [`pure_with_scalar`] only read it.
 //! An operator is what it does (`Task`) on the values of a row (`operators`); where these lie side by side with their
-//! flags, flags and values are made each by itself (`pairs`), and quotients by one divisor by its inverse (`divisors`).
+//! flags, flags and values are made each by itself (`pairs`), for sixteen rows at a time by vectors (`vectors`), and
+//! quotients by one divisor by its inverse (`divisors`).
 //!
 //! ```text
 //! let mut price = Column::new(alloc, Kind::Int64);
@@ -26,6 +27,7 @@ mod missing;
 mod operators;
 mod ops;
 mod pairs;
+mod vectors;
 
 pub use kernels::{binary, invert, pure_binary, pure_with_scalar, with_scalar};
 pub use membership::isin;

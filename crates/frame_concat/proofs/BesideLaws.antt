@@ -1,13 +1,5 @@
 -- Parts side by side.
-use Rattle.{
-  frame_parts.proofs.{Common.{IsSome, option_map, flat_map, range_with_len, list_all, pointwise, ◌++◌, slice_index_or, ◌≡◌, ◌<◌, ◌+◌, refl, ap, sym, arith, ℕ, pos, Bool, true, false, List, [], ◌∷◌, map, length, All, Option, Some, None, Result, Ok, Err, take, if◌then◌else◌, length-map, map-append, length-append, take_more, length-replicate, list_all-map, All-map, All-nil, All-cons, All-tail, All-same, AllPass-from_list_all, nat_tests, AxisValue, HaveLevels, nameless_axis, AreDistinct, AreGiven, Label, Cell, Na, Frame, Text, LabelValue, int, fault_of, limit, FaultValue, bad_value, levels, met_rows, most_rows, reindexed, All-append as all_append, IsSettled, NumberedTable, Table, tuple_value, ColumnOf, heading_value, table_value, IsWhole, table, Entry, finished, limited, unless_repeated, within_limits, same_tuple, on_rows, labels_value, headings_value, Refuses, Makes, IsSingle, HaveRows, columns_of, table_with, axis_of, IsKnownTable, OpFault, Refused, NoMemory, settled_by, labels_part, columns_part, columns_given, columns_settled, table_settled, tuple_by_number, tuples_settled, settled_tuples, on_rows_seen, on_rows_given, value_decides, blocks_value, CellBlock, IsPlaceOf}, label_align.SameLaws.{tuples_decide}},
-  column_core.proofs.cells.Common.{pointwise_decides, inr, append-nil, flat_map-append},
-  frame_concat.{proofs.{PartLaws.{Axes, HasLevels, AreAxesOf, each_tuples, all_named, all_levels, Parts, Headings, parts_settled, numbered_labels, labels_each, levels_as}, PlaceLaws.{united_all, flat_seen, each_of}}, specs.{declared.{asked.Asked.{Asked}, parts.Naming.TheVariants.{Columns}}, Asked.{asked_value}, Parts.{parts_value, AreKnownParts, name_at, have_same_levels}, Headings.{numbered}, Beside.{met_beside, AreBlocks, IsAxisFor}, Axes.{HasLevelsOf, levels_of, named_after, IsAlike}}},
-  merge_concat.specs.Axes.{tuples_of_each},
-  cell_core.specs.declared.code.Code.TheVariants.{RepeatedLabel},
-  meaning_method.specs.{join.Concat.{united, are_equal, repeated_on_any, labels_concatenated, unless_repeated as unless_label, ConcatRefusal, first_axis}, Concat.{Concatenation, rows_met, labels_of_tables, table_beside, unless_label_twice, headings_beside, numbered_from, name_of_all, columns_beside, level_names_of_all}},
-  frame_select.{proofs.{HeadingLaws.{repeated_seen, different}, RefusalLaws.{repeated_settled}}, specs.Headings.{NamesRepeated, repeated_heading}},
-}
+use Rattle.{frame_parts.proofs.{Common.{IsSome, option_map, flat_map, range_with_len, list_all, pointwise, ◌++◌, slice_index_or, ◌≡◌, ◌<◌, ◌+◌, refl, ap, sym, arith, ℕ, pos, Bool, true, false, List, [], ◌∷◌, map, length, All, Option, Some, None, Result, Ok, Err, take, if◌then◌else◌, length-map, map-append, length-append, take_more, length-replicate, list_all-map, All-map, All-nil, All-cons, All-tail, All-same, AllPass-from_list_all, nat_tests, AxisValue, HaveLevels, nameless_axis, AreDistinct, AreGiven, Label, Cell, Na, Frame, Text, LabelValue, int, fault_of, limit, FaultValue, bad_value, levels, met_rows, most_rows, reindexed, All-append as all_append, IsSettled, NumberedTable, Table, tuple_value, ColumnOf, heading_value, table_value, IsWhole, table, Entry, limited, within_limits, same_tuple, on_rows, labels_value, headings_value, Refuses, Makes, IsSingle, HaveRows, columns_of, table_with, axis_of, IsKnownTable, settled_by, labels_part, columns_part, columns_given, columns_settled, table_settled, tuple_by_number, tuples_settled, settled_tuples, on_rows_seen, on_rows_given, value_decides, blocks_value, CellBlock, IsPlaceOf}, label_align.SameLaws.{tuples_decide}}, column_core.proofs.cells.Common.{pointwise_decides, inr, append-nil, flat_map-append}, frame_concat.{proofs.{BelowLaws.{many_rows}, PartLaws.{Axes, HasLevels, AreAxesOf, each_tuples, all_named, all_levels, Parts, Headings, parts_settled, numbered_labels, labels_each, levels_as}, PlaceLaws.{united_all, flat_seen, each_of}}, specs.{declared.{asked.Asked.{Asked}, parts.Naming.TheVariants.{Columns}}, Asked.{asked_value}, Parts.{parts_value, AreKnownParts, name_at, have_same_levels}, Headings.{numbered}, Beside.{met_beside, AreBlocks, IsAxisFor}, Axes.{HasLevelsOf, levels_of, named_after, IsAlike}}}, merge_concat.specs.Axes.{tuples_of_each}, cell_core.specs.declared.code.Code.TheVariants.{RepeatedLabel}, meaning_method.specs.{join.Concat.{united, are_equal, repeated_on_any, labels_concatenated, unless_repeated as unless_label, ConcatRefusal, first_axis}, Concat.{Concatenation, rows_met, labels_of_tables, table_beside, unless_label_twice, headings_beside, numbered_from, name_of_all, columns_beside, level_names_of_all}}}
 use Rattle.column_core.specs.cells.Fault as fault
 use Rattle.meaning_method.specs.join.Concat as join
 use Rattle.row_keys.specs.Keys as numbers
@@ -114,6 +106,39 @@ module _ (texts : List Text) where
   first_labels [] t _ some at copied = grind arith
   first_labels (s ∷ ss) t _ some at copied = cc
 
+-- the frame that is meant
+module _ (texts : List Text) (parts : Parts) (known : AreKnownParts texts parts) (all : Bool) (axis : AxisValue) (list slice : Headings) (listed : list ≡ all_numbered all parts) (sliced : slice ≡ list) where
+  abbrev seen_parts : List Table
+  seen_parts = parts_value texts parts
+
+  abbrev frame_meant : Table
+  frame_meant = table_beside seen_parts all (labels_value texts axis.tuples)
+
+  limited_by : limited frame_meant ≡ (if within_limits (length axis.tuples) (length list) then Ok (table frame_meant) else Err limit)
+  limited_by = grind (arith, columns_count, numbered_count, length-map)
+
+  pub beyond_axis : within_limits (length axis.tuples) (length list) ≡ false → limited frame_meant ≡ Err limit
+  beyond_axis beyond = cc limited_by
+
+  -- the frame that is made on an axis, with these headings
+  module _ (count : ℕ) (new : AxisValue) (named : record { tuples : new.tuples ≡ axis.tuples; names : headings_value texts new.names ≡ named_after (headings_value texts axis.names) count seen_parts; given : IsSettled headings_value texts new.names }) (called : Option Label) (built : List CellBlock)
+      (made_of : record { blocks : AreBlocks texts (length axis.tuples) built; columns : blocks_value texts built ≡ flat_map (columns_beside (labels_value texts axis.tuples)) seen_parts }) where
+    abbrev frame : NumberedTable
+    frame = table_with Frame new record { columns_name = called; labels = slice } (columns_of built)
+
+    pub frame_whole : IsWhole frame
+    frame_whole = grind (arith, numbered_count, columns_count, length-map, numbered_some)
+
+    module _ (given : IsSettled labels_value texts axis.tuples) (levels : HasLevelsOf parts axis.names) (counted : count ≡ length axis.names) (calls : record { name : heading_value texts called ≡ name_of_all (map (name_at Columns) seen_parts); given : IsSettled heading_value texts called }) where
+      frame_seen : table_value texts frame ≡ frame_meant
+      frame_seen = grind (arith, level_names_so, headings_so texts all parts)
+
+      frame_given : IsSettled table_value texts frame
+      frame_given = rw (sliced, listed) (table_settled _ _ calls.given named.given (rw named.tuples given) (headings_known _ _ _ known) (columns_settled _ _ made_of.blocks.given))
+
+      pub frame_is : within_limits (length axis.tuples) (length list) ≡ true → (t : NumberedTable) → t ≡ frame → Makes texts (Ok t) (limited frame_meant)
+      frame_is = grind (arith, limited_by, frame_seen, frame_given)
+
 module _ (texts : List Text) (distinct : AreDistinct texts) (parts : Parts) (known : AreKnownParts texts parts) where
   abbrev P : List Label → Type 0
   P = IsSettled tuple_value texts
@@ -160,7 +185,7 @@ module _ (texts : List Text) (distinct : AreDistinct texts) (parts : Parts) (kno
     chosen : told ≡ unless_label twice all_labels
     chosen = cc (each_tuples axes parts is, apart)
 
-    met_meant : (o : Option (List Label)) → twice ≡ o → met_beside T C ≡ unless_label_twice (option_map (tuple_value texts) o) (finished (table_beside T asked.renumbered (labels_value texts all_labels)))
+    met_meant : (o : Option (List Label)) → twice ≡ o → met_beside T C ≡ unless_label_twice (option_map (tuple_value texts) o) (limited (table_beside T asked.renumbered (labels_value texts all_labels)))
     met_meant = grind (arith, twice_labels, united_labels)
 
     -- the labels
@@ -174,7 +199,7 @@ module _ (texts : List Text) (distinct : AreDistinct texts) (parts : Parts) (kno
       met_once : repeated_on_any same_tuple (labels_of_tables T) ≡ None
       met_once = cc (twice_labels, opened.0)
 
-      pub met_found : met_beside T C ≡ finished (table_beside T asked.renumbered (labels_value texts labels))
+      pub met_found : met_beside T C ≡ limited (table_beside T asked.renumbered (labels_value texts labels))
       met_found = cc (met_meant _ opened.0, opened.1)
 
       pub met_given : IsSettled labels_value texts labels
@@ -188,71 +213,21 @@ module _ (texts : List Text) (distinct : AreDistinct texts) (parts : Parts) (kno
     met_twice label is = let found : twice ≡ Some label = grind (arith, chosen) in (met_meant _ found, twice_given _ found)
 
     -- too many labels
-    pub met_many : told ≡ Err join.too_large → (met_beside T C ≡ finished (table_beside T asked.renumbered (labels_value texts all_labels))) × (most_rows < length (labels_value texts all_labels))
+    pub met_many : told ≡ Err join.too_large → met_beside T C ≡ Err limit
     met_many is =
         let opened : (twice ≡ None) × (most_rows < length all_labels) = grind (arith, chosen, nat_tests) in
-        grind (arith, met_meant None, length-map)
-
-  -- the frame that is meant
-  module _ (all : Bool) where
-    abbrev H : Headings
-    H = all_numbered all parts
-
-    module _ (labels : List (List LabelValue)) where
-      abbrev made : Table
-      made = table_beside T all labels
-
-      finished_by : (repeated : Option Label) → repeated_heading H ≡ repeated → finished made ≡ unless_repeated (heading_value texts repeated) (limited made)
-      finished_by = grind (arith, headings_so texts all parts, repeated_seen, headings_known)
-
-      pub headings_refused : (why : OpFault) → NamesRepeated why (repeated_heading H) → Makes texts (Err why) (finished made)
-      headings_refused (Refused code) named = grind (arith, finished_by _ named.1, repeated_settled, headings_known)
-      headings_refused NoMemory _ = tt
-
-      pub beyond_limits : repeated_heading H ≡ None → within_limits (length labels) (length H) ≡ false → finished made ≡ Err limit
-      beyond_limits = grind (arith, finished_by, columns_count, numbered_count)
-
-      finished_so : repeated_heading H ≡ None → within_limits (length labels) (length H) ≡ true → finished made ≡ Ok (table made)
-      finished_so none = grind (arith, finished_by _ none, columns_count, numbered_count)
-
-    -- the frame that is made on an axis, with these headings
-    module _ (axis : AxisValue) (list slice : Headings) (listed : list ≡ H) (sliced : slice ≡ list) (none : repeated_heading slice ≡ None) where
-      abbrev frame_meant : Table
-      frame_meant = table_beside T all (labels_value texts axis.tuples)
-
-      numbered_none : repeated_heading H ≡ None
-      numbered_none = cc
-
-      pub beyond_axis : within_limits (length axis.tuples) (length list) ≡ false → finished frame_meant ≡ Err limit
-      beyond_axis = grind (arith, beyond_limits (labels_value texts axis.tuples) numbered_none, length-map)
-
-      module _ (count : ℕ) (new : AxisValue) (named : record { tuples : new.tuples ≡ axis.tuples; names : headings_value texts new.names ≡ named_after (headings_value texts axis.names) count T; given : IsSettled headings_value texts new.names }) (called : Option Label) (built : List CellBlock)
-          (made_of : record { blocks : AreBlocks texts (length axis.tuples) built; columns : blocks_value texts built ≡ flat_map (columns_beside (labels_value texts axis.tuples)) T }) where
-        abbrev frame : NumberedTable
-        frame = table_with Frame new record { columns_name = called; labels = slice } (columns_of built)
-
-        pub frame_whole : IsWhole frame
-        frame_whole = grind (arith, numbered_none, numbered_count, columns_count, length-map, numbered_some, different)
-
-        module _ (given : IsSettled labels_value texts axis.tuples) (levels : HasLevelsOf parts axis.names) (counted : count ≡ length axis.names) (calls : record { name : heading_value texts called ≡ name_of_all (map (name_at Columns) T); given : IsSettled heading_value texts called }) where
-          frame_seen : table_value texts frame ≡ frame_meant
-          frame_seen = grind (arith, level_names_so, headings_so texts all parts)
-
-          frame_given : IsSettled table_value texts frame
-          frame_given = rw (sliced, listed) (table_settled _ _ calls.given named.given (rw named.tuples given) (headings_known _ _ _ known) (columns_settled _ _ made_of.blocks.given))
-
-          pub frame_is : within_limits (length axis.tuples) (length list) ≡ true → (t : NumberedTable) → t ≡ frame → Makes texts (Ok t) (finished frame_meant)
-          frame_is = grind (arith, finished_so (labels_value texts axis.tuples) numbered_none, frame_seen, frame_given, length-map)
+        let beyond : within_limits (length (labels_value texts all_labels)) (length (table_beside T asked.renumbered (labels_value texts all_labels)).columns) ≡ false = many_rows (length (labels_value texts all_labels)) _ (grind (arith, opened.1, length-map all_labels (tuple_value texts))) in
+        grind (arith, met_meant None opened.0, beyond)
 
   -- what is meant by equal labels and by others
   module _ (axes : Axes) (is : AreAxesOf axes parts) (asked : Asked) where
     abbrev other : Result Entry FaultValue
     other = meant.same_levels T (met_beside T (asked_value texts asked))
 
-    beside_by : (b : Bool) → are_equal numbers.same_tuple (tuples_of_each axes) ≡ b → meant.beside T (asked_value texts asked) ≡ (if b then finished (table_beside T asked.renumbered (first_axis (labels_of_tables T))) else other)
+    beside_by : (b : Bool) → are_equal numbers.same_tuple (tuples_of_each axes) ≡ b → meant.beside T (asked_value texts asked) ≡ (if b then limited (table_beside T asked.renumbered (first_axis (labels_of_tables T))) else other)
     beside_by = grind (arith, equal_labels, each_tuples)
 
-    pub beside_equal : (t : NumberedTable) (axis : AxisValue) → 0 < length parts → t ≡ slice_index_or parts 0 t → are_equal numbers.same_tuple (tuples_of_each axes) ≡ true → axis ≡ axis_of t → meant.beside T (asked_value texts asked) ≡ finished (table_beside T asked.renumbered (labels_value texts axis.tuples))
+    pub beside_equal : (t : NumberedTable) (axis : AxisValue) → 0 < length parts → t ≡ slice_index_or parts 0 t → are_equal numbers.same_tuple (tuples_of_each axes) ≡ true → axis ≡ axis_of t → meant.beside T (asked_value texts asked) ≡ limited (table_beside T asked.renumbered (labels_value texts axis.tuples))
     beside_equal t _ some at same copied = grind (arith, beside_by _ same, first_labels)
 
     pub beside_met : are_equal numbers.same_tuple (tuples_of_each axes) ≡ false → meant.beside T (asked_value texts asked) ≡ (if have_same_levels parts then met_beside T (asked_value texts asked) else Err (bad_value levels))

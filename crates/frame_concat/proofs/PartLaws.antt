@@ -1,26 +1,32 @@
 -- Parts: their headings, columns, names and rows, by numbers as with their texts, and the objects of a list as parts.
-use Rattle.{
-  frame_parts.proofs.Common.{sym, ◌≡◌, ◌<◌, ◌+◌, refl, ℕ, suc, Bool, true, false, List, [], ◌∷◌, length, take, slice_index_or, Option, None, arith, ◌++◌, ◌∙◌, ap, not, map, All, ◌-◌, subst, zero, fold, drop, slice_set, nat_eq, Some, replicate, Result, if◌then◌else◌, take_more, length-map, map-append, take_more_set, drop_more, length-append, length-replicate, list_any_none, list_all-map, All-map, All-tail, All-push, All-same, map-range_with_len_more, length-range_with_len, AllPass-from_list_all, map-map, nat_tests, drop-cons, ◌≢◌, AllPairs, IsSome, IfSome, IfOk, list_all, list_any, position_or_len, range_with_len, flat_map, option_map, Bor, Label, Frame, AreDistinct, tuple_value, column_at, NumberedTable, column_value, heading_value, table_value, Table, IsSettled, AreHeadings, IsWhole, object_in, GivenList, headings_value, labels_value, IsKnownTable, item_of, items_of, AreLiveItems, IsLiveItem, Tables, Item, ObjId, axis_of, headings_part, columns_name_part, level_names_part, object_settled, Text, distinct, LabelValue, label_datum, common_name, HaveLevels, AxisValue, range_axis, nameless_axis, default_seen},
-  column_core.proofs.cells.Common.{get_or-take, length-take-le, flat_map-map, fold-map, filter_passes, AllPairs-filter, AllPairs-cons, length-flat_map, position, Vec},
-  std.proofs.lemmas.List.{append_assoc, Elements.{All-from_get_or, filter_agree}},
-  frame_select.proofs.{PlaceLaws.{heading_settled, heading_seen}, HeadingLaws.{heading_decides, same_seen, head_settled, rest_settled}, AnswerLaws.{column_seen}, PickedLaws.{list_is}},
-  indexmap.specs.IndexSet.{insert_key},
-  cell_core.specs.declared.memory.NoMemory.{NoMemory},
-  frame_concat.{specs.{Parts.{same_heading, column_sought, parts_value, headings_of_each, AreKnownParts, name_at, have_same_levels, AreOf, AreSettledParts}, declared.parts.{Sought.{Sought, TheVariants.{Under}}, Naming.{Naming, TheVariants.{Columns, Level, Series}}}, Columns.{kind_sought, rows_in}, Axes.{names_of_levels, axis_seen, levels_with, levels_of, named_after}, Headings.{common_headings}, Asked.{keys_value, KeysFit}}, proofs.PlaceLaws.{map_given, united_seen, united_all, flat_seen, each_of}},
-  meaning_method.specs.{Concat.{labels_of_tables, column_under, kind_under, kept_names, level_names_of_all, name_of_all, tables_from, tables_of, rows_below}, join.Concat.{united, labels_under}},
-  frame_store.specs.Arguments.{IsLiveObject},
-  merge_concat.specs.Axes.{HaveLevelsOfFirst, levels_of_first, tuples_below, levels_below},
-}
+use Rattle.{frame_parts.proofs.Common.{sym, ◌≡◌, ◌<◌, ◌≤◌, ◌+◌, refl, ℕ, suc, Bool, true, false, List, [], ◌∷◌, length, take, slice_index_or, Option, None, arith, ◌++◌, ◌∙◌, ap, ◌&&◌, map, All, ◌-◌, subst, zero, fold, drop, slice_set, nat_eq, Some, replicate, Result, if◌then◌else◌, length-map, map-append, take_more_set, drop_more, length-append, All-cons, length-replicate, list_all-map, All-map, All-tail, All-push, All-same, map-range_with_len_more, length-range_with_len, AllPass-from_list_all, map-map, nat_tests, drop-cons, IsSome, IfSome, IfOk, list_all, list_any, position_or_len, range_with_len, flat_map, option_map, lookup, pointwise, Bor, Label, Frame, AreDistinct, tuple_value, ColumnOf, no_column, Cell, column_at, NumberedTable, column_value, heading_value, table_value, Table, IsSettled, AreHeadings, IsWhole, object_in, GivenList, headings_value, labels_value, IsKnownTable, item_of, items_of, AreLiveItems, IsLiveItem, distinct, Tables, Item, ObjId, axis_of, headings_part, columns_name_part, level_names_part, object_settled, Text, LabelValue, label_datum, common_name, HaveLevels, AxisValue, range_axis, nameless_axis, default_seen}, column_core.proofs.cells.Common.{drop_all, flat_map-map, fold-map, length-flat_map, position, position_from, append-nil, pointwise_decides, Vec}, std.{proofs.lemmas.{List.{append_assoc, Elements.{All-from_get_or, filter_agree}}, Iterator.Adapters.{position_from-zero}, Option.{slice_get-get_or, slice_get_past}}, specs.Option.{is_some}}, frame_select.proofs.{PlaceLaws.{heading_settled, heading_seen}, HeadingLaws.{heading_decides, same_seen, shared_seen, head_settled, rest_settled, position_inside}, AnswerLaws.{column_seen}, PickedLaws.{list_is}}, cell_core.specs.declared.memory.NoMemory.{NoMemory}, frame_select.specs.Headings.{shared_heading, HaveFirstPlaces}, frame_concat.{specs.{Parts.{same_heading, column_sought, parts_value, headings_of_each, repeated_in_any, AreKnownParts, name_at, have_same_levels, AreOf, AreSettledParts}, declared.parts.{Sought.{Sought, TheVariants.{At, Under}}, Naming.{Naming, TheVariants.{Columns, Level, Series}}}, Columns.{kind_sought, rows_in}, Axes.{names_of_levels, axis_seen, levels_with, levels_of, named_after}, Headings.{common_headings}, Asked.{keys_value, KeysFit}}, proofs.PlaceLaws.{map_given, united_seen, united_all, equal_seen as all_equal_seen, rest_of, flat_seen, each_of}}, meaning_method.specs.{Concat.{labels_of_tables, column_under, kind_under, kept_names, level_names_of_all, name_of_all, tables_from, tables_of, rows_below}, join.Concat.{united, are_equal, labels_under}}, frame_store.specs.Arguments.{IsLiveObject}, merge_concat.specs.Axes.{HaveLevelsOfFirst, levels_of_first, tuples_below, levels_below}}
 use Rattle.frame_parts.specs.form.Finish as finish
 use Rattle.meaning_method.specs.Concat as meant
 
--- a heading that isn't among those before it
-not_before : (h : Option Label) (hs : List (Option Label)) → ((k : ℕ) → k < length hs → slice_index_or hs k None ≢ h) → list_any (same_heading h) hs ≡ false
-not_before h hs apart = list_any_none (same_heading h) hs (All-from_get_or (λ g. same_heading h g ≡ false) hs None (λ k lt. grind (arith, heading_decides, apart k lt)))
+-- a heading that has a place stands somewhere
+stands_somewhere : {X : Type 0} (p : X → Bool) (n : ℕ) (xs : List X) → is_some (position_from p n xs) ≡ list_any p xs
+stands_somewhere p n [] = refl
+stands_somewhere p n (x ∷ xs) = grind (arith, stands_somewhere p (n + 1) xs)
 
-pub one_more_heading : (hs keys keys' : List (Option Label)) (place : ℕ) (h : Option Label) → AllPairs (λ a b. a ≢ b) hs → place < length hs → h ≡ slice_index_or hs place None
-    → keys ≡ take place hs → keys' ≡ insert_key same_heading keys h → keys' ≡ take (place + 1) hs
-one_more_heading = grind (arith, length-take-le, get_or-take, not_before, take_more)
+-- one heading more, before the others: it stands again where it had a place
+module _ (hs : List (Option Label)) (p : ℕ) (d h : Option Label) (entries : List (Option Label × ℕ)) (lt : p < length hs) (is : h ≡ slice_index_or hs p d) (first : HaveFirstPlaces entries (p + 1) (drop (p + 1) hs)) where
+  again : list_any (same_heading h) (drop (p + 1) hs) ≡ is_some (lookup (same_heading h) entries)
+  again = sym (ap is_some (first h) ∙ stands_somewhere (same_heading h) (p + 1) (drop (p + 1) hs))
+
+  pub shared_more : is_some (lookup (same_heading h) entries) ≡ true → h ≡ shared_heading (drop p hs) []
+  shared_more there = grind (arith, drop_more hs p d lt, again, append-nil)
+
+  pub shared_same : is_some (lookup (same_heading h) entries) ≡ false → shared_heading (drop (p + 1) hs) [] ≡ shared_heading (drop p hs) []
+  shared_same gone = grind (arith, drop_more hs p d lt, again, append-nil)
+
+-- a heading stands in a part where it has a first place
+pub has_heading : (entries : List (Option Label × ℕ)) (hs : List (Option Label)) (h : Option Label) → HaveFirstPlaces entries 0 hs → is_some (lookup (same_heading h) entries) ≡ list_any (same_heading h) hs
+has_heading entries hs h first = ap is_some (first h) ∙ stands_somewhere (same_heading h) 0 hs
+
+pub place_inside : (entries : List (Option Label × ℕ)) (hs : List (Option Label)) (h : Option Label) (place count : ℕ) → HaveFirstPlaces entries 0 hs → length hs ≡ count → Some place ≡ lookup (same_heading h) entries → place < count
+place_inside entries hs h place count first counted there =
+    let inside : place < 0 + length hs = position_inside (same_heading h) 0 hs place (sym (first h) ∙ sym there) in
+    omega (arith, inside, counted)
 
 -- the parts with their texts, which were given
 pub parts_settled : (texts : List Text) (parts : List NumberedTable) → AreKnownParts texts parts → IsSettled parts_value texts parts
@@ -38,6 +44,27 @@ module _ (texts : List Text) where
   pub headings_united : (inner : Bool) (parts : List NumberedTable) → AreDistinct texts → AreKnownParts texts parts
       → headings_value texts (united same_heading inner (headings_of_each parts)) ≡ united finish.same_heading inner (headings_of_each (parts_value texts parts))
   headings_united inner parts distinct known = rw (each_seen parts) (sym (united_seen _ _ _ _ (λ x y f g. sym (same_seen _ x y distinct f g)) _ _ (headings_each _ known)))
+
+  -- whether all have the headings of the first, and the first one that a part repeats
+  pub same_headings_seen : (parts : List NumberedTable) → AreDistinct texts → AreKnownParts texts parts → are_equal finish.same_heading (headings_of_each (parts_value texts parts)) ≡ are_equal same_heading (headings_of_each parts)
+  same_headings_seen parts distinct known = rw (each_seen parts) (all_equal_seen _ _ _ _ (λ x y f g. sym (same_seen _ x y distinct f g)) _ (headings_each _ known))
+
+  pub repeated_seen : (parts : List NumberedTable) → AreDistinct texts → AreKnownParts texts parts → meant.repeated_in_any (parts_value texts parts) ≡ heading_value texts (repeated_in_any parts)
+  repeated_seen [] _ _ = refl
+  repeated_seen (t ∷ ts) distinct known =
+      let given = headings_part _ t (known 0 t (omega arith)).given in
+      let own = shared_seen texts t.headings [] distinct given (λ more. refl) in
+      let others = repeated_seen ts distinct (All-tail (IsKnownTable texts) t ts known) in
+      grind (arith, own, others)
+
+  shared_given : (hs : List (Option Label)) → IsSettled headings_value texts hs → IsSettled heading_value texts (shared_heading hs [])
+  shared_given [] _ = λ more. refl
+  shared_given (h ∷ hs) settled = λ more. grind (arith, head_settled heading_value texts h hs settled more, shared_given hs (rest_settled heading_value texts h hs settled) more)
+
+  pub repeated_given : (parts : List NumberedTable) → AreKnownParts texts parts → IsSettled heading_value texts (repeated_in_any parts)
+  repeated_given [] _ = λ more. refl
+  repeated_given (t ∷ ts) known = λ more.
+      grind (arith, shared_given t.headings (headings_part _ t (known 0 t (omega arith)).given) more, repeated_given ts (All-tail (IsKnownTable texts) t ts known) more)
 
   pub united_given : (inner : Bool) (parts : List NumberedTable) → AreKnownParts texts parts → IsSettled headings_value texts (united same_heading inner (headings_of_each parts))
   united_given _ _ known = λ more. map_given (IsSettled heading_value texts) _ _ (λ h here. here more) _ (united_all (IsSettled heading_value texts) _ _ _ (headings_each _ known))
@@ -62,8 +89,49 @@ module _ (texts : List Text) where
         grind (arith, column_under_seen t (known 0 t (omega arith)), kind_under_seen ts (All-tail (IsKnownTable texts) t _ known))
 
 -- the column of a part that is sought by its heading's place
-pub column_told : (t view : NumberedTable) (sought : Sought) (h : Option Label) (keys : List (Option Label)) (place : Option ℕ) → sought ≡ Under h → t ≡ view → keys ≡ t.headings → place ≡ position (same_heading h) keys → option_map (column_at t.columns) place ≡ column_sought sought view
-column_told = grind arith
+pub column_told : (t view : NumberedTable) (sought : Sought) (h : Option Label) (entries : List (Option Label × ℕ)) (place : Option ℕ) → sought ≡ Under h → t ≡ view → HaveFirstPlaces entries 0 t.headings → place ≡ lookup (same_heading h) entries
+    → option_map (column_at t.columns) place ≡ column_sought sought view
+column_told t _ _ h _ _ is same first at = grind (arith, is, same, at, first h, position_from-zero (same_heading h) t.headings)
+
+-- whether the others have the headings of the first
+module _ (parts : List NumberedTable) (t : NumberedTable) (some : 1 ≤ length parts) (at : t ≡ slice_index_or parts 0 t) where
+  abbrev others : List NumberedTable
+  others = take (length parts - 1) (drop 1 parts)
+
+  abbrev pub alike : NumberedTable → Bool
+  alike u = pointwise same_heading t.headings u.headings
+
+  equal_by : are_equal same_heading (headings_of_each parts) ≡ list_all alike others
+  equal_by = go parts some at ∙ ap (list_all alike) (sym (rest_of parts))
+    where
+      go : (parts : List NumberedTable) → 1 ≤ length parts → t ≡ slice_index_or parts 0 t → are_equal same_heading (headings_of_each parts) ≡ list_all alike (drop 1 parts)
+      go [] some at = grind arith
+      go (s ∷ ss) some at = list_all-map (pointwise same_heading s.headings) (λ (u : NumberedTable). u.headings) ss ∙ (λ i. list_all (λ u. pointwise same_heading (sym at i).headings u.headings) ss)
+
+  pub unequal_at : (k : ℕ) (other : NumberedTable) → k < length others → other ≡ slice_index_or others k other → list_all alike (drop k others) ≡ list_all alike others → alike other ≡ false → false ≡ are_equal same_heading (headings_of_each parts)
+  unequal_at k other lt here before apart =
+      let more : list_all alike (drop k others) ≡ alike (slice_index_or others k other) && list_all alike (drop (k + 1) others) = ap (list_all alike) (drop_more others k other lt) in
+      let first : alike (slice_index_or others k other) ≡ false = ap alike (sym here) ∙ apart in
+      sym (equal_by ∙ sym before ∙ more ∙ ap (λ b. b && list_all alike (drop (k + 1) others)) first)
+
+  pub equal_all : (k : ℕ) → length others ≤ k → list_all alike (drop k others) ≡ list_all alike others → true ≡ are_equal same_heading (headings_of_each parts)
+  equal_all k beyond before = sym (equal_by ∙ sym before ∙ ap (list_all alike) (drop_all k others beyond))
+
+-- parts of equal headings have as many
+pub equal_counts : (parts : List NumberedTable) (t : NumberedTable) → 0 < length parts → t ≡ slice_index_or parts 0 t → are_equal same_heading (headings_of_each parts) ≡ true → All (λ s. length s.headings ≡ length t.headings) parts
+equal_counts [] t some at equal = grind arith
+equal_counts (s ∷ ss) t some at equal =
+    let each : list_all (λ (u : NumberedTable). pointwise same_heading s.headings u.headings) ss ≡ true = sym (list_all-map (pointwise same_heading s.headings) (λ (u : NumberedTable). u.headings) ss) ∙ equal in
+    let long : All (λ (u : NumberedTable). length u.headings ≡ length s.headings) ss = λ k d lt. ap length (sym ((pointwise_decides heading_decides _ _).0 (AllPass-from_list_all _ _ each k d lt))) in
+    rw at (All-cons (λ (u : NumberedTable). length u.headings ≡ length s.headings) s ss refl long)
+
+-- the column of a part at a place, if it has one there
+module _ (t view : NumberedTable) (sought : Sought) (place count : ℕ) (is : sought ≡ At place) (same : t ≡ view) (counted : count ≡ length t.columns) where
+  pub column_there : (c : ColumnOf Cell) → place < count → column_at t.columns place ≡ c → Some c ≡ column_sought sought view
+  column_there c lt here = rw (is, ← same) (ap (λ (x : ColumnOf Cell). Some x) (sym here) ∙ sym (slice_get-get_or t.columns place no_column (omega (arith, lt, counted))))
+
+  pub no_column_there : count ≤ place → None ≡ column_sought sought view
+  no_column_there beyond = rw (is, ← same) (sym (slice_get_past t.columns place (omega (arith, beyond, counted))))
 
 -- labels of several parts by their numbers, and by their texts
 abbrev pub numbered_labels : List NumberedTable → List (List (List Label))
@@ -71,16 +139,6 @@ numbered_labels parts = map (λ t. t.labels) parts
 
 pub labels_each : (texts : List Text) (parts : List NumberedTable) → labels_of_tables (parts_value texts parts) ≡ map (map (tuple_value texts)) (numbered_labels parts)
 labels_each texts parts = simp map-map
-
--- headings that differ
-distinct_apart : (xs : List (Option Label)) → AllPairs (λ a b. a ≢ b) (distinct same_heading xs)
-distinct_apart [] = grind arith
-distinct_apart (x ∷ xs) = AllPairs-cons (λ a b. a ≢ b) x _ (grind (arith, heading_decides, filter_passes)) (AllPairs-filter (λ a b. a ≢ b) (λ d. not (same_heading d x)) _ (distinct_apart xs))
-
-united_apart : (inner : Bool) (parts : List NumberedTable) → All (λ t. AllPairs (λ a b. a ≢ b) t.headings) parts → AllPairs (λ a b. a ≢ b) (united same_heading inner (headings_of_each parts))
-united_apart _ [] _ = grind arith
-united_apart true (t ∷ ts) apart = AllPairs-filter (λ a b. a ≢ b) _ _ (apart 0 t (omega arith))
-united_apart false (t ∷ ts) _ = distinct_apart _
 
 -- the names of levels, one by one
 pub none_common : (b : Option LabelValue) → common_name None b ≡ None
@@ -142,13 +200,18 @@ pub levels_as : (texts : List Text) (parts : List NumberedTable) → meant.have_
 levels_as _ [] = refl
 levels_as texts (t ∷ ts) = list_all-map _ (table_value texts) ts ∙ (λ i. list_all (λ s. nat_eq (length-map t.level_names (heading_value texts) i) (length-map s.level_names (heading_value texts) i)) ts)
 
--- the headings of frames
+-- the headings of frames, of the first and of all
+pub first_headings : (texts : List Text) (parts : List NumberedTable) (t : NumberedTable) → AreOf Frame parts → AreKnownParts texts parts → 0 < length parts → t ≡ slice_index_or parts 0 t → AreHeadings Frame None t.headings
+first_headings texts parts t of known some at =
+    let whole : IsWhole t = subst IsWhole (sym at) (known 0 t some).whole in
+    let frame : t.shape ≡ Frame = ap (λ (t : NumberedTable). t.shape) at ∙ of 0 t some in
+    record { single = λ e. cc; nameless = λ e. refl; labelled = λ e. whole.headings.labelled frame }
+
 pub frame_headings : (texts : List Text) (inner : Bool) (ts : List NumberedTable) → AreOf Frame ts → AreKnownParts texts ts → AreHeadings Frame None (united same_heading inner (headings_of_each ts))
 frame_headings _ _ ts of known = record {
   single = λ e. cc;
   nameless = λ e. refl;
   labelled = λ e. united_all IsSome _ _ _ (All-map (All IsSome) (λ t. t.headings) ts (λ k d lt. (known k d lt).whole.headings.labelled (of k d lt)));
-  different = λ e. united_apart _ ts (λ k d lt. (known k d lt).whole.headings.different (of k d lt));
 }
 
 -- the tables that are put together, and headings

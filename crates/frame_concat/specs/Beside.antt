@@ -11,7 +11,7 @@ use Rattle.multi_index.specs.Axes.{AxisValue}
 use Rattle.frame_store.specs.tables.Settled.{IsSettled}
 use Rattle.frame_store.specs.tables.Table.{NumberedTable, Table}
 use Rattle.frame_store.specs.tables.Value.{Entry}
-use Rattle.frame_parts.specs.form.Finish.{finished}
+use Rattle.frame_parts.specs.form.Finish.{limited}
 use Rattle.frame_parts.specs.form.Infix.{same_tuple}
 use Rattle.meaning_method.specs.Concat.{Concatenation, rows_met, labels_of_tables, table_beside, unless_label_twice}
 use Rattle.frame_store.specs.Shown.{labels_value}
@@ -33,4 +33,4 @@ pub record AreBlocks (texts : List Text) (rows : ℕ) (blocks : List CellBlock) 
 abbrev pub met_beside : List Table → Concatenation → Result Entry FaultValue
 met_beside ts c =
     unless_label_twice (repeated_on_any same_tuple (labels_of_tables ts))
-    (finished (table_beside ts c.renumbered (united same_tuple c.inner (labels_of_tables ts))))
+    (limited (table_beside ts c.renumbered (united same_tuple c.inner (labels_of_tables ts))))

@@ -6,21 +6,12 @@ use Rattle.cell_core.specs.declared.cell.Cell.{Cell}
 use Rattle.cell_core.specs.declared.cell.Cell.TheVariants as cell
 use Rattle.cell_core.specs.declared.cell.Kind.{Kind}
 use Rattle.cell_core.specs.declared.cell.Kind.TheVariants.{Int64}
-use Rattle.cell_core.specs.declared.cell.Label.{Label}
-use Rattle.cell_core.specs.declared.grid.Shape.{Shape}
-use Rattle.cell_core.specs.declared.grid.Shape.TheVariants as shape
 use Rattle.meaning_method.specs.join.Concat.{same_kind}
 use Rattle.merge_concat.specs.declared.parts.Part.{Part}
 use Rattle.merge_concat.specs.declared.parts.Part.TheVariants.{Cells, Missing}
 use Rattle.frame_store.specs.tables.Table.{ColumnOf, NumberedTable}
 use Rattle.frame_concat.specs.declared.parts.Sought.{Sought}
-use Rattle.frame_concat.specs.declared.parts.Sought.TheVariants.{Only, Under}
 use Rattle.frame_concat.specs.Parts.{column_sought}
-
--- the column of each part that is sought for a column of the answer
-abbrev pub sought_by : Shape → Option Label → Sought
-sought_by shape.Series heading = Only
-sought_by shape.Frame heading = Under heading
 
 -- the kind of the first column that there is
 abbrev pub kind_sought : Sought → List NumberedTable → Kind
@@ -52,12 +43,12 @@ cells_or_missing sought t = unwrap_or (option_map (λ c. c.cells) (column_sought
 abbrev pub stacked : List NumberedTable → Sought → ColumnOf Cell
 stacked parts sought = record { kind = kind_sought sought parts; cells = flat_map (cells_or_missing sought) parts }
 
--- the columns of all headings
-abbrev pub all_kinds_meet : List NumberedTable → Shape → List (Option Label) → Bool
-all_kinds_meet parts s headings = list_all (λ h. kinds_meet parts (sought_by s h)) headings
+-- all columns that are sought
+abbrev pub all_kinds_meet : List NumberedTable → List Sought → Bool
+all_kinds_meet parts columns = list_all (kinds_meet parts) columns
 
-abbrev pub columns_stacked : List NumberedTable → Shape → List (Option Label) → List (ColumnOf Cell)
-columns_stacked parts s headings = map (λ h. stacked parts (sought_by s h)) headings
+abbrev pub columns_stacked : List NumberedTable → List Sought → List (ColumnOf Cell)
+columns_stacked parts columns = map (stacked parts) columns
 
 -- how many rows the parts have together
 abbrev pub rows_in : List NumberedTable → ℕ

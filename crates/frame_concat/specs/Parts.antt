@@ -1,10 +1,9 @@
 -- The columns and names of the tables that are put together.
 use Rattle.std.specs.Prelude.{◌≡◌, Bool, true, nat_eq, List, [], ◌∷◌, length, slice_get, slice_index_or, position, map, Option, None, All}
-use Rattle.std.specs.Option.{option_map, option_eq}
+use Rattle.std.specs.Option.{option_map}
 use Rattle.std.specs.List.{list_all}
 use Rattle.cell_core.specs.declared.cell.Cell.{Cell}
 use Rattle.cell_core.specs.declared.cell.Label.{Label}
-use Rattle.cell_core.specs.contracts.cell.LabelPartialEq.TheImpl.{eq-value}
 use Rattle.cell_core.specs.declared.grid.Shape.{Shape}
 use Rattle.column_core.specs.cells.Text.{Text}
 use Rattle.frame_store.specs.tables.Settled.{IsSettled}
@@ -12,21 +11,17 @@ use Rattle.frame_store.specs.tables.Table.{ColumnOf, TableOf, NumberedTable, Tab
 use Rattle.frame_store.specs.Objects.{Tables}
 use Rattle.frame_store.specs.Shown.{shown}
 use Rattle.frame_store.specs.World.{IsKnownTable}
+use Rattle.meaning_method.specs.join.Pairs.{or_else}
+use Rattle.frame_select.specs.Headings.{shared_heading}
+pub use Rattle.frame_select.specs.Headings.{same_heading}
 use Rattle.frame_concat.specs.declared.parts.Sought.{Sought}
-use Rattle.frame_concat.specs.declared.parts.Sought.TheVariants.{Only, Under}
+use Rattle.frame_concat.specs.declared.parts.Sought.TheVariants.{At, Under}
 use Rattle.frame_concat.specs.declared.parts.Naming.{Naming}
 use Rattle.frame_concat.specs.declared.parts.Naming.TheVariants.{Columns, Level, Series}
 
--- equal labels of columns, where equal texts have one number
-abbrev pub same_number : Label → Label → Bool
-same_number a b = eq-value.it a b
-
-abbrev pub same_heading : Option Label → Option Label → Bool
-same_heading a b = option_eq same_number a b
-
 -- the column that is sought
 abbrev pub column_sought : Sought → NumberedTable → Option (ColumnOf Cell)
-column_sought Only t = slice_get t.columns 0
+column_sought (At place) t = slice_get t.columns place
 column_sought (Under h) t = option_map (column_at t.columns) (position (same_heading h) t.headings)
 
 -- the name that is sought
@@ -42,6 +37,11 @@ parts_value texts parts = map (table_value texts) parts
 -- the headings of each part
 abbrev pub headings_of_each : {L C : Type 0} → List (TableOf L C) → List (List (Option L))
 headings_of_each parts = map (λ t. t.headings) parts
+
+-- of the first part that repeats a heading, the first such heading
+abbrev pub repeated_in_any : List NumberedTable → Option Label
+repeated_in_any [] = None
+repeated_in_any (t ∷ ts) = or_else (shared_heading t.headings []) (repeated_in_any ts)
 
 -- all parts have as many levels as the first
 abbrev pub have_same_levels : List NumberedTable → Bool

@@ -5,7 +5,7 @@ ghost use Rattle.cell_core.specs.declared.cell.Cell.TheVariants.{Na};
 ghost use Rattle.column_core.specs.Moves.{IsPlaceOf};
 ghost use Rattle.column_core.specs.cells.Cell.{LabelValue};
 ghost use Rattle.frame_store.specs.tables.Settled.{IsSettled};
-ghost use Rattle.frame_parts.specs.form.Finish.{finished};
+ghost use Rattle.frame_parts.specs.form.Finish.{limited};
 ghost use Rattle.frame_parts.specs.form.Infix.{on_rows};
 ghost use Rattle.row_keys.specs.Keys.{same_tuple};
 ghost use Rattle.merge_concat.specs.Axes.{tuples_of_each};
@@ -28,7 +28,7 @@ use crate::parts::{Naming, Part};
 use cell_core::{Code, Gaps, Grid, NoMemory, Reason, Shape, TextDict};
 use column_core::take;
 use frame_parts::{rows_of_labels, within_limits};
-use frame_select::different_headings;
+use frame_select::heading_list;
 use frame_store::{Blocks, ObjRef, OpFault, Table};
 use merge_concat::{MergeFault, concat_columns, have_same_labels};
 use multi_index::Axis;
@@ -109,14 +109,12 @@ fn on_axis(
     requires given { IsSettled labels_value dict.now axis.tuples }
     requires axis { All (IsAxisFor dict.now axis) parts.now }
     requires levels { HasLevelsOf parts.now axis.names }
-    ensures { Makes dict.now result (finished (meant.table_beside
+    ensures { Makes dict.now result (limited (meant.table_beside
         (parts_value dict.now parts.now) renumbered (labels_value dict.now axis.tuples))) }
 {
-    // Equal texts have equal numbers: `TextDict::len` says so.
-    let _ = dict.len();
     let list = headings_beside(alloc, parts, renumbered)?;
     let columns_name = name_of_all(dict, parts, Naming::Columns);
-    let headings = different_headings(alloc, columns_name, &list)?;
+    let headings = heading_list(alloc, columns_name, &list)?;
     if !within_limits(axis.len(), list.len()) {
         return Err(OpFault::Refused(Code::Limit));
     }
@@ -124,26 +122,6 @@ fn on_axis(
     let levels = axis.levels();
     let axis = named(dict, axis, parts, levels);
     Ok(Table::new(Shape::Frame, axis, headings, blocks))
-}
-
-// Why there is no frame of too many rows: two labels of its columns are equal, or it is beyond the limits.
-#[tactic(auto, using(crate::proofs::Hints::too_many))]
-fn too_many(
-    alloc: Global,
-    dict: &TextDict,
-    parts: &[Part<'_>],
-    renumbered: bool,
-) -> Result<Table, OpFault>
-    requires known { AreKnownParts dict.now parts.now }
-    ensures { (labels : List (List LabelValue)) → 2 ^ 26 < length labels
-        → Makes dict.now result (finished (meant.table_beside
-        (parts_value dict.now parts.now) renumbered labels)) }
-{
-    // Equal texts have equal numbers: `TextDict::len` says so.
-    let _ = dict.len();
-    let list = headings_beside(alloc, parts, renumbered)?;
-    different_headings(alloc, None, &list)?;
-    Err(OpFault::Refused(Code::Limit))
 }
 
 // Rows that meet by labels, each of which stands once in each part.
@@ -175,7 +153,7 @@ fn met(
         Err(MergeFault::DuplicateLabels(label)) => {
             Err(OpFault::Refused(Code::RepeatedLabel(label)))
         }
-        Err(MergeFault::TooLarge) => too_many(alloc, dict, parts, asked.renumbered),
+        Err(MergeFault::TooLarge) => Err(OpFault::Refused(Code::Limit)),
         Err(MergeFault::NoMemory) => Err(OpFault::NoMemory),
         Err(MergeFault::MixedKinds) | Err(MergeFault::NotOneToOne(_, _)) => unreachable!(),
     }

@@ -93,22 +93,22 @@ fn concatenated(
 ///
 /// `pd.concat(objects, axis=0, join="outer", ignore_index=False, keys=None)` puts a list of Series and frames together
 /// ("Merge, join, concatenate and compare" in the pandas user guide). On axis 0 the rows stand one part after the
-/// other: of Series a Series, of frames a frame of the columns that any part has, in the order of first sight, or with
-/// `join="inner"` of those that all have; cells that a part lacks are missing. `ignore_index=True` numbers the rows,
-/// and `keys` gives each part a label in one level more. On axis 1 the columns stand side by side. The rows keep their
-/// labels where all parts have the same; else they meet by their labels, which are all that any part has, or with
-/// `join="inner"` those that all have. Nameless Series are numbered from 0 on, and with `ignore_index=True` all
-/// columns. Names of levels and of the columns stay where all parts have them.
+/// other: of Series a Series, of frames a frame. Where all frames have the same labels of columns, in the same order,
+/// columns meet by position, equal labels too; else the columns are those that any part has, in the order of first
+/// sight, or with `join="inner"` those that all have, and cells that a part lacks are missing. `ignore_index=True`
+/// numbers the rows, and `keys` gives each part a label in one level more. On axis 1 the columns stand side by side,
+/// whatever labels they have. The rows keep their labels where all parts have the same; else they meet by their labels,
+/// which are all that any part has, or with `join="inner"` those that all have. Nameless Series are numbered from 0 on,
+/// and with `ignore_index=True` all columns. Names of levels and of the columns stay where all parts have them.
 ///
 /// # Errors
 ///
 /// In this order: `WrongKind` or `BadValue(Argument)` where the arguments aren't bound, the latter also for an empty
 /// list and for `keys` beside `ignore_index=True`; `WrongKind` for `keys` on axis 1; `BadValue(Length)` where there
 /// aren't as many keys as parts; on axis 0 `WrongKind` for Series beside frames; `BadValue(Levels)` for different
-/// numbers of levels, on axis 1 only where labels differ; on axis 1 `RepeatedLabel` for the first label that stands
-/// twice in a part where labels differ, and `BadValue(Repeated)` for two columns of one label; on axis 0 `WrongKind`
-/// for a column that has different kinds; `Limit` for more than four levels, and for a table beyond the limits.
-/// `NoMemory` may come in place of any answer.
+/// numbers of levels, on axis 1 only where labels differ; where labels along the other axis differ, `RepeatedLabel` for
+/// the first one that stands twice in a part; on axis 0 `WrongKind` for a column that has different kinds; `Limit` for
+/// more than four levels, and for a table beyond the limits. `NoMemory` may come in place of any answer.
 pub fn concat(
     alloc: Global,
     store: &Store,

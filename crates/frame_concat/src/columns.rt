@@ -1,28 +1,45 @@
 // Columns of parts, one below the other.
 ghost use Rattle.std.specs.Prelude.{◌≡◌, ◌≤◌, ◌^◌, true, List, map, All, IfOk};
+ghost use Rattle.std.specs.List.{range_with_len};
 ghost use Rattle.column_core.specs.cells.Text.{Text};
 ghost use Rattle.frame_store.specs.tables.Valid.{IsWhole};
 ghost use Rattle.frame_store.specs.Parts.{table_column, IsSingle};
 ghost use Rattle.frame_store.specs.Shown.{columns_value};
 ghost use Rattle.frame_parts.specs.Makes.{blocks_value};
+ghost use Rattle.frame_concat.specs.declared.parts.Sought.TheVariants.{At, Under};
 ghost use Rattle.frame_concat.specs.Parts.{column_sought};
-ghost use Rattle.frame_concat.specs.Columns.{sought_by, kind_sought, fits_kind, kinds_meet, all_kinds_meet, piece_of, stacked, columns_stacked, rows_in};
+ghost use Rattle.frame_concat.specs.Columns.{kind_sought, fits_kind, kinds_meet, all_kinds_meet, piece_of, stacked, columns_stacked, rows_in};
 
 use crate::parts::{Part, Sought};
-use cell_core::{Grid, Kind, Label, NoMemory, Shape};
+use cell_core::{Grid, Kind, Label, NoMemory};
 use column_core::Column;
 use frame_store::Blocks;
 use merge_concat::{Part as Piece, concat_parts};
 use std::alloc::Global;
 
-// Which column of each part is sought for a column of the answer.
-fn sought_by(shape: Shape, heading: Option<Label>) -> Sought
-    ensures { result ≡ sought_by shape heading }
+// The columns at the first places of each part.
+pub(crate) fn columns_in_order(alloc: Global, count: usize) -> Result<Vec<Sought>, NoMemory>
+    ensures { IfOk result (λ made. made.items ≡ map At (range_with_len 0 count)) }
 {
-    match shape {
-        Shape::Series => Sought::Only,
-        Shape::Frame => Sought::Under(heading),
+    let mut columns = Vec::new(alloc);
+    for place in 0..count {
+        columns.push(Sought::At(place))?;
     }
+    Ok(columns)
+}
+
+// The columns under these headings.
+pub(crate) fn columns_under(
+    alloc: Global,
+    headings: &[Option<Label>],
+) -> Result<Vec<Sought>, NoMemory>
+    ensures { IfOk result (λ made. made.items ≡ map Under headings.now) }
+{
+    let mut columns = Vec::new(alloc);
+    for heading in headings {
+        columns.push(Sought::Under(*heading))?;
+    }
+    Ok(columns)
 }
 
 // The kind of the first column that there is.
@@ -61,11 +78,11 @@ fn kinds_meet(parts: &[Part<'_>], sought: Sought) -> bool
 }
 
 // Whether all columns have one kind each.
-pub(crate) fn all_kinds_meet(parts: &[Part<'_>], shape: Shape, headings: &[Option<Label>]) -> bool
-    ensures { result ≡ all_kinds_meet parts.now shape headings.now }
+pub(crate) fn all_kinds_meet(parts: &[Part<'_>], columns: &[Sought]) -> bool
+    ensures { result ≡ all_kinds_meet parts.now columns.now }
 {
-    for heading in headings {
-        if !kinds_meet(parts, sought_by(shape, *heading)) {
+    for sought in columns {
+        if !kinds_meet(parts, *sought) {
             return false;
         }
     }
@@ -119,21 +136,20 @@ fn stacked(
 pub(crate) fn stacked_columns(
     alloc: Global,
     parts: &[Part<'_>],
-    shape: Shape,
-    headings: &[Option<Label>],
+    columns: &[Sought],
     rows: usize,
 ) -> Result<Blocks, NoMemory>
     requires whole { All IsWhole parts.now }
-    requires meet { all_kinds_meet parts.now shape headings.now ≡ true }
+    requires meet { all_kinds_meet parts.now columns.now ≡ true }
     requires rows { rows ≡ rows_in parts.now }
     requires few { rows ≤ 2 ^ 26 }
     ensures single { IfOk result (All IsSingle) }
     ensures columns { IfOk result (λ made. (texts : List Text) → blocks_value texts made
-        ≡ columns_value texts (columns_stacked parts.now shape headings.now)) }
+        ≡ columns_value texts (columns_stacked parts.now columns.now)) }
 {
     let mut made = Blocks::new(alloc);
-    for heading in headings {
-        let column = stacked(alloc, parts, sought_by(shape, *heading), rows)?;
+    for sought in columns {
+        let column = stacked(alloc, parts, *sought, rows)?;
         made.push(column.into_block())?;
     }
     Ok(made)

@@ -5,7 +5,8 @@ ghost use Rattle.frame_store.specs.tables.Settled.{IsSettled};
 ghost use Rattle.frame_store.specs.tables.Table.{heading_value};
 ghost use Rattle.meaning_method.specs.Concat as meant;
 ghost use Rattle.meaning_method.specs.Concat.{is_series};
-ghost use Rattle.frame_concat.specs.Parts.{name_at, parts_value, have_same_levels, AreKnownParts};
+ghost use Rattle.meaning_method.specs.join.Concat.{are_equal};
+ghost use Rattle.frame_concat.specs.Parts.{name_at, parts_value, same_heading, headings_of_each, repeated_in_any, have_same_levels, AreKnownParts};
 
 use crate::parts::{Naming, Part};
 use cell_core::{Grid, Label, Shape, TextDict};
@@ -60,6 +61,33 @@ pub(crate) fn are_frames(parts: &[Part<'_>]) -> bool
         }
     }
     true
+}
+
+// Whether all parts have the headings of the first, one by one.
+pub(crate) fn have_same_headings(parts: &[Part<'_>]) -> bool
+    ensures { result ≡ are_equal same_heading (headings_of_each parts.now) }
+{
+    let [first, others @ ..] = parts else {
+        return true;
+    };
+    for other in others {
+        if first.headings() != other.headings() {
+            return false;
+        }
+    }
+    true
+}
+
+// Of the first part that repeats a heading, the first such heading.
+pub(crate) fn repeated_in_any(parts: &[Part<'_>]) -> Option<Label>
+    ensures { result ≡ repeated_in_any parts.now }
+{
+    for part in parts {
+        if let Some(label) = part.repeated() {
+            return Some(label);
+        }
+    }
+    None
 }
 
 // Whether all parts have as many levels as the first.

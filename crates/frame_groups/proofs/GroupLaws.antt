@@ -1,11 +1,12 @@
 -- Tables that have a row for each group.
 use Rattle.{
-  frame_parts.proofs.Common.{arith, ◌≡◌, ◌∙◌, refl, ap, sym, ℕ, Bool, true, false, ◌&&◌, List, [], ◌∷◌, ◌++◌, map, length, All, Option, None, if◌then◌else◌, length-map, length-append, map-append, length-map-range_with_len, All-append, IsSome, list_all, Label, WrongKind, Frame, Text, CellValue, LabelValue, AreGiven, then_value, CellBlock, CellColumn, IsSettled, ColumnOf, NumberedTable, Table, table_value, heading_value, column_value, IsWhole, AxisValue, range_axis, default_labels, column_of_value, blocks_value, default_seen, table_column, AreColumnsOf, headings_value, labels_value, Refuses, columns_name_part},
+  frame_parts.proofs.Common.{arith, ◌≡◌, ◌∙◌, refl, ap, sym, ℕ, Bool, true, false, ◌&&◌, List, [], ◌∷◌, ◌++◌, map, length, All, Option, None, if◌then◌else◌, length-map, length-append, map-append, length-map-range_with_len, All-append, IsSome, list_all, Label, WrongKind, Frame, Text, CellValue, LabelValue, AreGiven, then_value, CellBlock, CellColumn, IsSettled, ColumnOf, NumberedTable, Table, table_value, heading_value, column_value, IsWhole, AxisValue, range_axis, default_labels, column_of_value, blocks_value, default_seen, table_column, AreColumnsOf, headings_value, labels_value, Refuses, columns_name_part, unless_repeated},
+  frame_parts.specs.form.Finish.{first_shared},
   frame_labels.{proofs.{IndexingLaws.{labelled, headings_seen}, GroupLaws.{key_labels_settled}}, specs.{Levels.{row_labels}, method.Groups.{keys_of, groups_of, headings_of, grouped_rows, group_answer}}},
   frame_select.specs.{select.Select.{shown_as}, Selected.{headings_at}},
   factorize.specs.group.{Rows.{GroupsValue}, Reductions.{group_sizes}},
   group_by.specs.{declared.ops.GroupOp.{GroupOp}, Operations.{reduction_of}},
-  frame_groups.{specs.{declared.{columns.ColumnCall.TheVariants.{Reduced}, grouping.Grouping.{Grouping}, values.Values.{Values}}, Columns.{takes_at, made_at, AreBlocks}, Grouped.{grouping_seen, values_seen}, Tables.{HasHeadings, IsAxis, group_labels, group_names, group_headings, group_keys}}, proofs.{ColumnLaws.{if_taken, each_is, boxed, one_more_block, one_more_value}, ShownLaws.{IsMade}, RowLaws.{headings_are, own_settled}}},
+  frame_groups.{specs.{declared.{columns.ColumnCall.TheVariants.{Reduced}, grouping.Grouping.{Grouping}, values.Values.{Values}}, Columns.{takes_at, made_at, AreBlocks}, Grouped.{grouping_seen, values_seen}, Tables.{HasHeadings, IsAxis, group_labels, group_names, key_headings, group_headings, shared_key, group_keys}}, proofs.{ColumnLaws.{if_taken, each_is, boxed, one_more_block, one_more_value}, ShownLaws.{IsMade}, RowLaws.{headings_are, own_settled}}},
 }
 use Rattle.column_core.specs.Columns as kernel
 use Rattle.frame_labels.specs.method.Groups as meant
@@ -13,6 +14,9 @@ use Rattle.frame_labels.specs.method.Groups as meant
 -- the table of groups, whether the keys are labels or columns
 abbrev headings_by : Bool → Table → List ℕ → List (Option LabelValue) → List (Option LabelValue)
 headings_by b t keys hs = if b then hs else headings_of t keys ++ hs
+
+abbrev keys_by : Bool → Table → List ℕ → List (Option LabelValue)
+keys_by b t keys = if b then [] else headings_of t keys
 
 abbrev pub group_table : Table → meant.Grouping → List (Option LabelValue) → List (ColumnOf CellValue) → Table
 group_table t g hs columns =
@@ -26,7 +30,7 @@ group_table t g hs columns =
     }
 
 module _ (t : Table) (g : meant.Grouping) (single : Bool) (hs : List (Option LabelValue)) (columns : List (ColumnOf CellValue)) where
-  pub grouped_is : grouped_rows t g single hs columns ≡ shown_as false (single && g.as_index) (group_table t g hs columns)
+  pub grouped_is : grouped_rows t g single hs columns ≡ unless_repeated (first_shared (keys_by g.as_index t g.keys) hs) (shown_as false (single && g.as_index) (group_table t g hs columns))
   grouped_is = grind arith
 
 -- how many rows it has
@@ -43,6 +47,16 @@ module _ (texts : List Text) (t : NumberedTable) (g : Grouping) where
 
   pub group_headings_seen : (own : List (Option Label)) → headings_by g.as_index T g.keys (headings_value texts own) ≡ headings_value texts (group_headings t g own)
   group_headings_seen own = grind (arith, map-append (heading_value texts) (headings_at t g.keys) own, headings_are texts t g.keys (headings_at t g.keys) refl)
+
+  keys_seen : keys_by g.as_index T g.keys ≡ headings_value texts (key_headings t g)
+  keys_seen = grind (arith, headings_are texts t g.keys (headings_at t g.keys) refl)
+
+  pub key_headings_settled : IsSettled table_value texts t → IsSettled headings_value texts (key_headings t g)
+  key_headings_settled = grind (arith, own_settled)
+
+  -- no key that is a column shares its label, or one does
+  pub shared_is : (hs : List (Option LabelValue)) (own : List (Option Label)) → hs ≡ headings_value texts own → first_shared (keys_by g.as_index T g.keys) hs ≡ shared_key texts t g own
+  shared_is hs own is = cc (keys_seen, is)
 
   pub group_headings_settled : (own : List (Option Label)) → IsSettled table_value texts t → IsSettled headings_value texts own → IsSettled headings_value texts (group_headings t g own)
   group_headings_settled = grind (arith, map-append, own_settled)
@@ -93,8 +107,11 @@ module _ (texts : List Text) (t : NumberedTable) (g : Grouping) (v : Values) (op
   pub reduced_refused : list_all (takes_at (Reduced op) t) v.places ≡ false → Refuses texts WrongKind (group_answer U gs (values_seen texts v) (meant.reduced (reduction_of op)))
   reduced_refused is = search reduced_meant
 
-  pub reduced_shown : list_all (takes_at (Reduced op) t) v.places ≡ true → group_answer U gs (values_seen texts v) (meant.reduced (reduction_of op)) ≡ shown_as false (v.single && g.as_index) reduced_table
-  reduced_shown is = reduced_meant _ is ∙ grouped_is U gs _ _ _
+  pub reduced_shown : (own : List (Option Label)) → own ≡ headings_at t v.places → list_all (takes_at (Reduced op) t) v.places ≡ true
+      → group_answer U gs (values_seen texts v) (meant.reduced (reduction_of op)) ≡ unless_repeated (shared_key texts t g own) (shown_as false (v.single && g.as_index) reduced_table)
+  reduced_shown own owned is =
+      reduced_meant _ is ∙ grouped_is U gs _ _ _
+      ∙ ap (λ shared. unless_repeated shared (shown_as false (v.single && g.as_index) reduced_table)) (shared_is texts t g _ own (headings_are texts t v.places own owned))
 
   pub reduced_headings : (own labels : List (Option Label)) (count : ℕ) → own ≡ headings_at t v.places → labels ≡ group_headings t g own → count ≡ length (keys_of U gs) → HasHeadings texts labels count reduced_table
   reduced_headings own _ _ owned is counted = record {
@@ -118,6 +135,11 @@ module _ (texts : List Text) (t : NumberedTable) (g : Grouping) (heading : Optio
 
   abbrev pub size_table : Table
   size_table = group_table S s (meant.size_heading g.as_index ∷ []) size_column
+
+  pub size_shown : (any : meant.Values) → group_answer S s any meant.size ≡ unless_repeated (shared_key texts t g (heading ∷ [])) (shown_as false g.as_index size_table)
+  size_shown any =
+      grouped_is S s true _ _
+      ∙ ap (λ shared. unless_repeated shared (shown_as false g.as_index size_table)) (shared_is texts t g _ (heading ∷ []) (cc named))
 
   pub size_headings : (labels : List (Option Label)) (count : ℕ) → labels ≡ group_headings t g (heading ∷ []) → count ≡ length (keys_of S s) → HasHeadings texts labels count size_table
   size_headings _ _ is counted = record {

@@ -1,23 +1,33 @@
 -- New tables, and what is tested before they are made.
 use Rattle.{
-  frame_parts.proofs.Common.{◌≡◌, refl, arith, ℕ, Bool, true, false, List, map, length, All, Option, None, Result, Ok, Err, AreDistinct, Limit, Label, Frame, Text, AreGiven, FaultValue, CellBlock, AxisValue, IsSettled, NumberedTable, Table, table_value, heading_value, Entry, table, within_limits, blocks_value, OpFault, Refused, NoMemory, HeadingList, block_column, table_of, headings_value, Makes, table_settled, columns_settled},
-  frame_select.{specs.{select.Select.{shown_as}, Headings.{NamesRepeated, repeated_heading}}, proofs.{HeadingLaws.{repeated_seen}, RefusalLaws.{repeated_settled}}},
+  frame_parts.proofs.Common.{◌≡◌, refl, arith, ℕ, Bool, true, false, List, map, length, All, IsSome, AreHeadings, Option, None, Result, Ok, Err, AreDistinct, Limit, Label, LabelValue, Frame, Text, AreGiven, FaultValue, CellBlock, AxisValue, IsSettled, NumberedTable, Table, table_value, heading_value, Entry, table, within_limits, blocks_value, OpFault, Refused, NoMemory, HeadingList, block_column, table_of, headings_value, Makes, table_settled, columns_settled},
+  frame_parts.specs.form.Finish.{first_shared, unless_repeated},
+  frame_select.{specs.{select.Select.{shown_as}, Headings.{NamesRepeated, shared_heading}}, proofs.{HeadingLaws.{shared_seen}, RefusalLaws.{shared_settled}}},
   frame_labels.proofs.TableLaws.{limited_within},
-  frame_groups.specs.Tables.{shape_if, name_if, headings_if, shown_if, HasHeadings, MayShow, IsAxis},
+  frame_groups.specs.Tables.{shape_if, name_if, headings_if, shown_if, HasHeadings, MayShow, NamesShared, IsAxis},
 }
 
-module _ (texts : List Text) (labels : List (Option Label)) (rows : ℕ) (t : Table) (h : HasHeadings texts labels rows t) where
-  -- a frame
-  module _ (distinct : AreDistinct texts) (settled : IsSettled headings_value texts labels) where
-    pub frame_shows : repeated_heading labels ≡ None → within_limits rows (length labels) ≡ true → shown_as false false t ≡ Ok (table t)
-    frame_shows = grind (arith, repeated_seen, limited_within)
+-- so many rows and columns, within the limits or beyond them
+module _ (texts : List Text) (labels : List (Option Label)) (rows : ℕ) (single : Bool) (t : Table) (h : HasHeadings texts labels rows t) where
+  pub within_shows : within_limits rows (length labels) ≡ true → shown_as false single t ≡ Ok (table (shown_if single t))
+  within_shows = grind (arith, limited_within)
 
-    pub frame_beyond : repeated_heading labels ≡ None → within_limits rows (length labels) ≡ false → MayShow {X = HeadingList} texts (Err (Refused Limit)) false t
-    frame_beyond = grind (arith, repeated_seen)
+  pub beyond_shows : within_limits rows (length labels) ≡ false → MayShow {X = HeadingList} texts (Err (Refused Limit)) single t
+  beyond_shows = grind arith
 
-    pub frame_repeated : (why : OpFault) → NamesRepeated why (repeated_heading labels) → MayShow {X = HeadingList} texts (Err why) false t
-    frame_repeated (Refused code) named = (grind (arith, repeated_seen), search repeated_settled)
-    frame_repeated NoMemory _ = tt
+-- headings of a Series, or of a frame
+pub headings_fit : (single : Bool) (name : Option Label) (labels : List (Option Label)) → (single ≡ true → length labels ≡ 1) → (single ≡ false → All IsSome labels) → AreHeadings (shape_if single) (name_if single name) labels
+headings_fit true _ _ one some = record { single = λ e. one refl; nameless = λ e. refl; labelled = λ e. cc }
+headings_fit false _ _ one some = record { single = λ e. cc; nameless = λ e. cc; labelled = λ e. some refl }
+
+-- labels of which one is shared, or none
+module _ (texts : List Text) (hs others : List (Option Label)) (distinct : AreDistinct texts) (settled : IsSettled headings_value texts hs) (given : IsSettled headings_value texts others) where
+  pub none_shared : shared_heading hs others ≡ None → first_shared (headings_value texts hs) (headings_value texts others) ≡ None
+  none_shared is = grind (arith, shared_seen)
+
+  pub one_shared : (why : OpFault) → NamesRepeated why (shared_heading hs others) → NamesShared texts why (first_shared (headings_value texts hs) (headings_value texts others))
+  one_shared (Refused code) named = λ rest. (grind (arith, shared_seen), search shared_settled)
+  one_shared NoMemory _ = tt
 
 -- the table that was made is the one that is meant
 abbrev pub made_table : Bool → AxisValue → Option Label → List (Option Label) → List CellBlock → NumberedTable
@@ -54,3 +64,11 @@ made_is texts single t _ axis name labels blocks _ made m is shows headed tabled
 -- why no table is made
 pub refused_is : (texts : List Text) (single : Bool) (t : Table) (meant : Result Entry FaultValue) (why : OpFault) → meant ≡ shown_as false single t → MayShow {X = HeadingList} texts (Err why) single t → Makes texts (Err why) meant
 refused_is = grind arith
+
+-- or of which one is shared
+pub stands_again : (texts : List Text) (shared : Option LabelValue) (rest meant : Result Entry FaultValue) (why : OpFault) → meant ≡ unless_repeated shared rest → NamesShared texts why shared → Makes texts (Err why) meant
+stands_again _ _ _ _ (Refused code) is named = rw is (named _)
+stands_again _ _ _ _ NoMemory is named = tt
+
+pub unshared_is : (shared : Option LabelValue) (rest meant : Result Entry FaultValue) → meant ≡ unless_repeated shared rest → shared ≡ None → meant ≡ rest
+unshared_is = grind arith

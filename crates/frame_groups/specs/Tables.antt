@@ -5,10 +5,11 @@ use Rattle.cell_core.specs.declared.grid.Shape.TheVariants.{Series, Frame}
 use Rattle.cell_core.specs.declared.cell.Label.{Label}
 use Rattle.column_core.specs.cells.Text.{Text}
 use Rattle.column_core.specs.cells.Cell.{CellValue, LabelValue}
+use Rattle.column_core.specs.cells.Fault.{FaultValue}
 use Rattle.frame_store.specs.tables.Settled.{IsSettled}
 use Rattle.frame_store.specs.tables.Table.{ColumnOf, NumberedTable, Table}
-use Rattle.frame_store.specs.tables.Value.{table}
-use Rattle.frame_parts.specs.form.Finish.{default_labels}
+use Rattle.frame_store.specs.tables.Value.{Entry, table}
+use Rattle.frame_parts.specs.form.Finish.{default_labels, first_shared, unless_repeated}
 use Rattle.frame_select.specs.select.Select.{as_series, shown_as}
 use Rattle.frame_labels.specs.method.Groups as meant
 use Rattle.frame_labels.specs.method.Groups.{keys_of, key_column, headings_of}
@@ -68,6 +69,15 @@ key_headings t g = if g.as_index then [] else headings_at t g.keys
 
 abbrev pub group_headings : NumberedTable → Grouping → List (Option Label) → List (Option Label)
 group_headings t g own = key_headings t g ++ own
+
+-- the first label of a key that is a column which another column has too
+abbrev pub shared_key : List Text → NumberedTable → Grouping → List (Option Label) → Option LabelValue
+shared_key texts t g own = first_shared (headings_value texts (key_headings t g)) (headings_value texts own)
+
+-- it names the label that is shared, or there was no memory to do so
+abbrev pub NamesShared : List Text → OpFault → Option LabelValue → Type 0
+NamesShared texts (Refused code) shared = (rest : Result Entry FaultValue) → Refuses texts code (unless_repeated shared rest)
+NamesShared texts NoMemory shared = Unit {0}
 
 -- the keys as columns, where they are columns
 abbrev pub group_keys : Table → meant.Grouping → List (ColumnOf CellValue)

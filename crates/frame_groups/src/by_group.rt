@@ -1,18 +1,19 @@
 // Tables that have a row for each group: their keys are the labels of the rows, or columns.
-ghost use Rattle.std.specs.Prelude.{◌≡◌, ◌≤◌, ◌^◌, ◌&&◌, length, map, IfOk};
+ghost use Rattle.std.specs.Prelude.{◌≡◌, ◌≤◌, ◌^◌, ◌&&◌, length, map, None, IfOk, IfErr};
 ghost use Rattle.cell_core.specs.declared.grid.Shape.TheVariants.{Frame};
 ghost use Rattle.frame_store.specs.tables.Settled.{IsSettled};
 ghost use Rattle.frame_store.specs.tables.Table.{table_value, heading_value};
 ghost use Rattle.frame_labels.specs.method.Groups as meant;
 ghost use Rattle.frame_parts.specs.Makes.{blocks_value};
 ghost use Rattle.frame_store.specs.Parts.{AreRowsOf};
-ghost use Rattle.frame_store.specs.Shown.{labels_value, Makes};
+ghost use Rattle.frame_store.specs.Shown.{labels_value, headings_value, Makes};
 ghost use Rattle.frame_store.specs.World.{IsKnownTable};
+ghost use Rattle.frame_select.specs.Headings.{NamesRepeated, shared_heading};
 ghost use Rattle.frame_labels.specs.Levels.{row_labels};
 ghost use Rattle.group_by.specs.Operations.{reduction_of};
 ghost use Rattle.frame_groups.specs.Columns.{AreBlocks};
 ghost use Rattle.frame_groups.specs.Grouped.{grouping_seen, values_seen, HasKeys, AreValues};
-ghost use Rattle.frame_groups.specs.Tables.{IsAxis, group_labels, group_names, key_headings, group_headings, group_keys};
+ghost use Rattle.frame_groups.specs.Tables.{IsAxis, group_labels, group_names, key_headings, group_headings, shared_key, NamesShared, group_keys};
 
 use crate::checks::{new_headings, new_table};
 use crate::columns::{ColumnCall, more_columns};
@@ -22,38 +23,56 @@ use crate::kinds::all_taken;
 use crate::values::Values;
 use cell_core::{Code, Grid, Label, NoMemory, Places, TextDict};
 use factorize::Groups;
-use frame_select::headings_at;
+use frame_select::{expect_unshared, headings_at};
 use frame_store::{Blocks, ObjRef, OpFault, Table};
 use group_by::{GroupOp, group_size};
 use multi_index::Axis;
 use std::alloc::Global;
 
-// The headings of the keys, where they are columns.
+// The headings of the keys, where they are columns. One that another column has too is refused.
 fn key_headings(
     alloc: Global,
     on: &ObjRef<'_>,
     grouping: &Grouping,
-) -> Result<Vec<Option<Label>>, NoMemory>
+    own: &[Option<Label>],
+) -> Result<Vec<Option<Label>>, OpFault>
     requires { HasKeys on.now grouping.now }
-    ensures { IfOk result (λ made. made.items ≡ key_headings on.now grouping.now) }
+    ensures made { IfOk result (λ made. made.items ≡ key_headings on.now grouping.now) }
+    ensures unshared { IfOk result (λ made.
+        shared_heading (key_headings on.now grouping.now) own.now ≡ None) }
+    ensures refused { IfErr result (λ fault.
+        NamesRepeated fault (shared_heading (key_headings on.now grouping.now) own.now)) }
 {
     if grouping.as_index {
         return Ok(Vec::new(alloc));
     }
-    headings_at(alloc, on, &grouping.keys)
+    let labels = headings_at(alloc, on, &grouping.keys)?;
+    expect_unshared(alloc, labels.as_slice(), own)?;
+    Ok(labels)
 }
 
 // The headings of the keys, where they are columns, and these.
+#[tactic(auto, using(crate::proofs::Hints::headings_beside))]
 fn headings_beside(
     alloc: Global,
+    dict: &TextDict,
     on: &ObjRef<'_>,
     grouping: &Grouping,
     own: &[Option<Label>],
-) -> Result<Vec<Option<Label>>, NoMemory>
-    requires { HasKeys on.now grouping.now }
-    ensures { IfOk result (λ made. made.items ≡ group_headings on.now grouping.now own.now) }
+) -> Result<Vec<Option<Label>>, OpFault>
+    requires known { IsKnownTable dict.now on.now }
+    requires keys { HasKeys on.now grouping.now }
+    requires own { IsSettled headings_value dict.now own.now }
+    ensures made { IfOk result (λ made.
+        made.items ≡ group_headings on.now grouping.now own.now) }
+    ensures unshared { IfOk result (λ made.
+        shared_key dict.now on.now grouping.now own.now ≡ None) }
+    ensures refused { IfErr result (λ fault.
+        NamesShared dict.now fault (shared_key dict.now on.now grouping.now own.now)) }
 {
-    let mut labels = key_headings(alloc, on, grouping)?;
+    // Equal texts have equal numbers: `TextDict::len` says so.
+    let _ = dict.len();
+    let mut labels = key_headings(alloc, on, grouping, own)?;
     labels.extend_from_slice(own)?;
     Ok(labels)
 }
@@ -144,11 +163,11 @@ pub(crate) fn reduced(
     }
     let found = groups_of(alloc, dict, on, grouping)?;
     let own = headings_at(alloc, on, &values.places)?;
-    let labels = headings_beside(alloc, on, grouping, own.as_slice())?;
+    let labels = headings_beside(alloc, dict, on, grouping, own.as_slice())?;
     let single = is_single(grouping, values);
     let name = on.columns_name();
     let count = found.groups.count();
-    let headings = new_headings(alloc, dict, name, labels.as_slice(), single, count)?;
+    let headings = new_headings(alloc, name, labels.as_slice(), single, count)?;
     let keys = key_blocks(alloc, dict, on, grouping, &found.groups)?;
     let blocks = more_columns(alloc, dict, on, &found.groups, call, &values.places, keys)?;
     let axis = group_axis(alloc, dict, on, grouping, &found.firsts)?;
@@ -156,7 +175,7 @@ pub(crate) fn reduced(
 }
 
 // A row for each group, with the number of its rows under this heading.
-#[tactic(auto, using(crate::proofs::GroupLaws::group_labelled))]
+#[tactic(auto, using(crate::proofs::Hints::sizes))]
 pub(crate) fn sizes(
     alloc: Global,
     dict: &TextDict,
@@ -174,11 +193,11 @@ pub(crate) fn sizes(
         (named : meant.Values) → Makes dict.now result (meant.group_answer t g named meant.size) }
 {
     let found = groups_of(alloc, dict, on, grouping)?;
-    let labels = headings_beside(alloc, on, grouping, &[heading])?;
+    let labels = headings_beside(alloc, dict, on, grouping, &[heading])?;
     let single = grouping.as_index;
     let name = on.columns_name();
     let count = found.groups.count();
-    let headings = new_headings(alloc, dict, name, labels.as_slice(), single, count)?;
+    let headings = new_headings(alloc, name, labels.as_slice(), single, count)?;
     let mut blocks = key_blocks(alloc, dict, on, grouping, &found.groups)?;
     let column = group_size(alloc, &found.groups)?;
     blocks.push(column.into_block())?;

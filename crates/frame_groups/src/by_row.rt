@@ -47,7 +47,7 @@ pub(crate) fn along_rows(
     let labels = headings_at(alloc, on, &values.places)?;
     let single = values.single;
     let name = on.columns_name();
-    let headings = new_headings(alloc, dict, name, labels.as_slice(), single, on.rows())?;
+    let headings = new_headings(alloc, name, labels.as_slice(), single, on.rows())?;
     let blocks = Blocks::new(alloc);
     let made = more_columns(alloc, dict, on, &found.groups, call, &values.places, blocks)?;
     let axis = on.axis().copy(alloc)?;
@@ -69,7 +69,7 @@ pub(crate) fn counts(
         (named : meant.Values) → Makes dict.now result (meant.group_answer t g named meant.cumcount) }
 {
     let found = groups_of(alloc, dict, on, grouping)?;
-    let headings = new_headings(alloc, dict, None, &[None], true, on.rows())?;
+    let headings = new_headings(alloc, None, &[None], true, on.rows())?;
     let column = group_cumcount(alloc, &found.groups)?;
     let mut blocks = Blocks::new(alloc);
     blocks.push(column.into_block())?;

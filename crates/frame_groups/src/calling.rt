@@ -151,12 +151,13 @@ fn on_frame(
 ///
 /// In this order: `NoAttribute` where the value has no `groupby`, as a scalar and a Series; `WrongKind` of arguments of
 /// `groupby` that are unknown, missing, too many, given twice or of another form; `NoKey` of a label in `by` that no
-/// column has; `Limit` of more than four keys that are to be labels; `WrongKind` of brackets of another form than a
-/// label or a list of labels, and `NoKey` of a label in them that no column has; `NoAttribute` of another last name;
-/// `WrongKind` of its arguments, and `BadValue(Argument)` where `transform` is told another name than one of the
-/// reductions; `WrongKind` of a column whose kind the call doesn't take; `BadValue(Repeated)` of a label that stands
-/// again in a frame that is answered; `Limit`. `NoMemory` may come in place of any answer. After a refusal all objects
-/// are as they were.
+/// column has, then `BadValue(Repeated)` of one that several columns have; `Limit` of more than four keys that are to
+/// be labels; `WrongKind` of brackets of another form than a label or a list of labels, and `NoKey` and
+/// `BadValue(Repeated)` of a label in them, as of one in `by`; `NoAttribute` of another last name; `WrongKind` of its
+/// arguments, and `BadValue(Argument)` where `transform` is told another name than one of the reductions; `WrongKind`
+/// of a column whose kind the call doesn't take; `BadValue(Repeated)` of the label of a key that is a column, where
+/// another column of the answer has it too; `Limit`. `NoMemory` may come in place of any answer. After a refusal all
+/// objects are as they were.
 pub fn method(
     alloc: Global,
     store: &mut Store,

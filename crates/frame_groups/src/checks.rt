@@ -1,91 +1,42 @@
 // What is tested before the cells of a new table are made, and the table of what was made.
 ghost use Rattle.std.specs.Prelude.{◌≡◌, ◌≤◌, ◌^◌, true, false, List, length, map, All, IsSome, IfOk, OnOk};
-ghost use Rattle.cell_core.specs.declared.grid.Shape.TheVariants.{Frame};
 ghost use Rattle.column_core.specs.cells.Text.{Text};
-ghost use Rattle.frame_store.specs.tables.Settled.{IsSettled};
 ghost use Rattle.frame_store.specs.tables.Table.{Table as MeantTable};
 ghost use Rattle.frame_store.specs.tables.Valid.{AreHeadings};
 ghost use Rattle.frame_store.specs.Parts.{block_column, table_of, IsSingle, HaveRows};
-ghost use Rattle.frame_store.specs.Shown.{headings_value};
 ghost use Rattle.frame_groups.specs.Tables.{shape_if, headings_if, HasHeadings, MayShow};
 
-use cell_core::{Code, Label, Shape, TextDict};
+use cell_core::{Code, Label, Shape};
 use frame_parts::within_limits;
-use frame_select::different_headings;
+use frame_select::heading_list;
 use frame_store::{Blocks, Headings, OpFault, Table};
 use multi_index::Axis;
 use std::alloc::Global;
 
-// The headings of a new Series of so many rows. What is beyond the limits is refused.
-fn series_headings(
-    alloc: Global,
-    labels: &[Option<Label>],
-    rows: usize,
-) -> Result<Headings, OpFault>
-    requires { length labels.now ≡ 1 }
-    ensures may { (texts : List Text) (t : MeantTable) → HasHeadings texts labels.now rows t
-        → MayShow texts result true t }
-    ensures made { IfOk result (λ made. made ≡ headings_if true None labels.now) }
-    ensures few { OnOk result (rows ≤ 2 ^ 26) }
-{
-    if !within_limits(rows, 1) {
-        return Err(OpFault::Refused(Code::Limit));
-    }
-    let mut headings = Headings::new(alloc, None);
-    headings.push(labels[0])?;
-    Ok(headings)
-}
-
-// The headings of a new frame of so many rows. Labels that stand again are refused, and what is beyond the limits.
-#[tactic(auto, using(crate::proofs::Hints::frame_headings))]
-fn frame_headings(
-    alloc: Global,
-    dict: &TextDict,
-    columns_name: Option<Label>,
-    labels: &[Option<Label>],
-    rows: usize,
-) -> Result<Headings, OpFault>
-    requires given { IsSettled headings_value dict.now labels.now }
-    requires labelled { All IsSome labels.now }
-    ensures may { (t : MeantTable) → HasHeadings dict.now labels.now rows t
-        → MayShow dict.now result false t }
-    ensures made { IfOk result (λ made. made ≡ headings_if false columns_name labels.now) }
-    ensures fit { IfOk result (λ made. AreHeadings Frame made.columns_name made.labels) }
-    ensures few { OnOk result (rows ≤ 2 ^ 26) }
-{
-    // Equal texts have equal numbers: `TextDict::len` says so.
-    let _ = dict.len();
-    let headings = different_headings(alloc, columns_name, labels)?;
-    if !within_limits(rows, labels.len()) {
-        return Err(OpFault::Refused(Code::Limit));
-    }
-    Ok(headings)
-}
-
-// The headings of a new table of so many rows, whose columns have these labels: a Series where it is single.
+// The headings of a new table of so many rows, whose columns have these labels: a Series where it is single. What is
+// beyond the limits is refused.
+#[tactic(auto, using(crate::proofs::Hints::new_headings))]
 pub(crate) fn new_headings(
     alloc: Global,
-    dict: &TextDict,
     columns_name: Option<Label>,
     labels: &[Option<Label>],
     single: bool,
     rows: usize,
 ) -> Result<Headings, OpFault>
-    requires given { IsSettled headings_value dict.now labels.now }
     requires one { single ≡ true → length labels.now ≡ 1 }
     requires labelled { single ≡ false → All IsSome labels.now }
-    ensures may { (t : MeantTable) → HasHeadings dict.now labels.now rows t
-        → MayShow dict.now result single t }
+    ensures may { (texts : List Text) (t : MeantTable) → HasHeadings texts labels.now rows t
+        → MayShow texts result single t }
     ensures made { IfOk result (λ made. made ≡ headings_if single columns_name labels.now) }
     ensures fit { IfOk result (λ made.
         AreHeadings (shape_if single) made.columns_name made.labels) }
     ensures few { OnOk result (rows ≤ 2 ^ 26) }
 {
-    if single {
-        series_headings(alloc, labels, rows)
-    } else {
-        frame_headings(alloc, dict, columns_name, labels, rows)
+    if !within_limits(rows, labels.len()) {
+        return Err(OpFault::Refused(Code::Limit));
     }
+    let name = if single { None } else { columns_name };
+    Ok(heading_list(alloc, name, labels)?)
 }
 
 // The shape of a table that is single or not.

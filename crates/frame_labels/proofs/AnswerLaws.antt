@@ -1,12 +1,5 @@
 -- Tables that are read of a world, and answers by another wording.
-use Rattle.{
-  frame_parts.proofs.Common.{arith, ◌≡◌, ◌∙◌, refl, ap, subst, ℕ, List, [], Option, None, Some, option_map, Result, Ok, Err, Text, FaultValue, then_value, NumberedTable, IsWhole, Entry, Value, OpFault, World, IsSettledWorld, IsKnownTable, MakesBy, object_settled},
-  frame_store.proofs.FormLaws.{free_forms},
-  frame_store.specs.{Derivations.{Derives}, World.{FormsFor}, tables.Cost.{free}, declared.{derivations.Derivation.{Derivation}, fault.OpFault.TheVariants.{Refused, NoMemory}}, tables.Value.{NamedGiven}},
-  frame_select.specs.Selected.{as_it_is},
-  frame_signatures.specs.call.Binding.{Bound, not_taken, not_listed, bound, bound_of},
-  meaning_method.specs.Groups.{of_bound, without_arguments},
-}
+use Rattle.{frame_parts.proofs.Common.{◌≡◌, ◌∙◌, refl, ap, subst, ℕ, List, [], Option, None, Some, option_map, Result, Ok, Err, Text, FaultValue, then_value, NumberedTable, IsWhole, Entry, Value, OpFault, World, IsSettledWorld, IsKnownTable, MakesBy, object_settled}, frame_store.proofs.FormLaws.{free_forms}, frame_store.specs.{Derivations.{Derives}, World.{FormsFor}, tables.Cost.{free}, declared.{derivations.Derivation.{Derivation}, fault.OpFault.TheVariants.{Refused, NoMemory}}, tables.Value.{NamedGiven}}, frame_select.specs.Selected.{as_it_is}, frame_signatures.specs.call.Binding.{Bound, not_taken, not_listed, bound, bound_of}, meaning_method.specs.Groups.{of_bound, without_arguments}}
 
 -- a table that is read of a settled world
 pub known_table : (w : World) (id : ℕ) (t : NumberedTable) → w.tables id ≡ Some t → IsWhole t → IsSettledWorld w → IsKnownTable w.texts t

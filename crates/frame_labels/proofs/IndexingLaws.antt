@@ -1,12 +1,5 @@
 -- Columns as the labels of the rows.
-use Rattle.{
-  frame_parts.proofs.Common.{zero, suc, ◌≡◌, refl, sym, arith, ℕ, ◌+◌, ◌<◌, ◌≤◌, true, false, List, [], ◌∷◌, ◌++◌, map, length, take, get_or, slice_index_or, All, Option, Some, None, Ok, Err, get_or-map, nat_tests, length-map, map-append, take_more, length-range_with_len, length-map-range_with_len, get_or-map-range_with_len, All-map, get_or_from_slice_get, filter, slice_get, IsSome, range_with_len, AreDistinct, Cell, Label, Frame, na_cell, datum, limit, cell_label, Text, AxisValue, HaveLevels, single_tuples, IsSettled, NumberedTable, Table, column_at, table_value, heading_value, tuple_value, column_value, IsWhole, within_limits, limited, unless_repeated, heading_at, label_of, OpFault, Refused, NoMemory, HeadingList, AreColumnsOf, table_with, labels_value, headings_value, Makes, settled_by, headings_part},
-  column_core.proofs.{cells.Common.{ext_get_or}, CellRows.{map-map}},
-  frame_store.specs.Derivations.{CanDerive},
-  meaning_method.specs.{Rows.{cells_by_row, places_besides}, Levels.{on_levels, indexed_by, index_set}},
-  frame_select.{specs.{Across.{cell_across}, Headings.{NamesRepeated, repeated_heading}, Selected.{heading_of, headings_at}}, proofs.{AnswerLaws.{column_seen}, HeadingLaws.{repeated_seen, different}, PickedLaws.{one_more_place}, KeyLaws.{label_seen}, PlanLaws.{only_place}, PlaceLaws.{heading_seen}, RefusalLaws.{repeated_settled}}},
-  frame_labels.{specs.Levels.{row_labels}, proofs.{RowLaws.{cells_in, by_rows}, NamedLaws.{is_other, others_meant}}},
-}
+use Rattle.{frame_parts.proofs.Common.{zero, suc, ◌≡◌, refl, sym, arith, ℕ, ◌+◌, ◌<◌, ◌≤◌, true, false, List, [], ◌∷◌, ◌++◌, map, length, take, get_or, slice_index_or, All, Some, None, Ok, Err, get_or-map, nat_tests, length-map, map-append, take_more, length-range_with_len, length-map-range_with_len, get_or-map-range_with_len, All-map, get_or_from_slice_get, filter, slice_get, IsSome, range_with_len, Cell, Label, Frame, na_cell, datum, limit, cell_label, Text, AxisValue, HaveLevels, single_tuples, IsSettled, NumberedTable, Table, column_at, table_value, tuple_value, column_value, IsWhole, within_limits, heading_at, label_of, HeadingList, AreColumnsOf, table_with, labels_value, headings_value, Makes, settled_by}, column_core.proofs.{cells.Common.{ext_get_or}, CellRows.{map-map}}, frame_store.specs.Derivations.{CanDerive}, meaning_method.specs.{Rows.{cells_by_row, places_besides}, Levels.{indexed_by, index_set}}, frame_select.{specs.{Across.{cell_across}, Selected.{heading_of, headings_at}}, proofs.{AnswerLaws.{column_seen}, PickedLaws.{one_more_place}, KeyLaws.{label_seen}, PlanLaws.{only_place}, PlaceLaws.{heading_seen}}}, frame_labels.{specs.Levels.{row_labels}, proofs.{RowLaws.{cells_in, by_rows}, NamedLaws.{is_other, others_meant}}}}
 use Rattle.cell_core.specs.declared.cell.Cell.TheVariants as cell
 
 cell_seen : (texts : List Text) (t : NumberedTable) (row place : ℕ) → datum texts (cell_across t row place) ≡ slice_index_or (column_at (table_value texts t).columns place).cells row na_cell
@@ -71,35 +64,26 @@ index_seen = grind (arith, headings_seen, tuples_seen, columns_seen)
 pub labelled : (t : NumberedTable) (kept : List ℕ) → All IsSome t.headings → All (λ place. place < length t.headings) kept → All IsSome (headings_at t kept)
 labelled t kept some below = All-map IsSome (heading_of t) kept (λ k d lt. some _ _ (below k d lt))
 
-pub index_fits : (t : NumberedTable) (places kept : List ℕ) → IsWhole t → t.shape ≡ Frame → AreColumnsOf t kept → repeated_heading (headings_at t kept) ≡ None
-    → CanDerive t record { shape = Frame; axis = index_axis t places; headings = kept_headings t kept; columns = kept }
-index_fits = grind (arith, length-map, length-range_with_len, labelled, different)
+pub index_fits : (t : NumberedTable) (places kept : List ℕ) → IsWhole t → t.shape ≡ Frame → AreColumnsOf t kept → CanDerive t record { shape = Frame; axis = index_axis t places; headings = kept_headings t kept; columns = kept }
+index_fits = grind (arith, length-map, length-range_with_len, labelled)
 
--- what is meant, by the headings that stand again
-module _ (texts : List Text) (t : NumberedTable) (places kept : List ℕ) (distinct : AreDistinct texts) (settled : IsSettled table_value texts t) (count : ℕ) (is_kept : kept ≡ filter (is_other places) (range_with_len 0 count)) (same : count ≡ length t.columns) where
+-- what is meant
+module _ (texts : List Text) (t : NumberedTable) (places kept : List ℕ) (count : ℕ) (is_kept : kept ≡ filter (is_other places) (range_with_len 0 count)) (same : count ≡ length t.columns) where
   abbrev T : Table
   T = table_value texts t
 
   besides : (texts : List Text) → kept ≡ places_besides (table_value texts t) places
   besides texts = search (others_meant texts)
 
-  index_is : (found : Option Label) → repeated_heading (headings_at t kept) ≡ found → index_set T places ≡ unless_repeated (heading_value texts found) (on_levels (length places) (limited (indexed_by T places)))
-  index_is found is = cc (besides texts, headings_seen texts t kept, repeated_seen texts (headings_at t kept) distinct (headings_settled texts t kept (headings_part texts t settled)))
+  -- beyond the limits, of levels or of cells
+  pub index_beyond : (1 ≤ length places → length places ≤ 4 → within_limits (length t.labels) (length kept) ≡ false) → index_set T places ≡ Err limit
+  index_beyond = grind (arith, nat_tests, length-map, length-range_with_len, besides texts)
 
-  pub index_repeated : (why : OpFault) → NamesRepeated why (repeated_heading (headings_at t kept)) → Makes texts (Err why) (index_set T places)
-  index_repeated (Refused code) named = grind (arith, index_is _ named.1, repeated_settled, headings_settled, headings_part)
-  index_repeated NoMemory named = tt
-
-  module _ (none : repeated_heading (headings_at t kept) ≡ None) where
-    -- beyond the limits, of levels or of cells
-    pub index_beyond : (1 ≤ length places → length places ≤ 4 → within_limits (length t.labels) (length kept) ≡ false) → index_set T places ≡ Err limit
-    index_beyond = grind (arith, nat_tests, index_is None none, length-map, length-range_with_len, besides texts)
-
-    pub index_made : (made : NumberedTable) → t.shape ≡ Frame → 1 ≤ length places → length places ≤ 4 → within_limits (length t.labels) (length kept) ≡ true → made ≡ index_table t places kept → Makes texts (Ok made) (index_set T places)
-    index_made made frame some few within is = (
-      grind (arith, nat_tests, index_is None none, length-map, length-range_with_len, index_seen texts t places kept frame (besides texts)),
-      λ more. cc (is, index_seen (texts ++ more) t places kept frame (besides (texts ++ more)), index_seen texts t places kept frame (besides texts), settled more),
-    )
+  pub index_made : (made : NumberedTable) → IsSettled table_value texts t → t.shape ≡ Frame → 1 ≤ length places → length places ≤ 4 → within_limits (length t.labels) (length kept) ≡ true → made ≡ index_table t places kept → Makes texts (Ok made) (index_set T places)
+  index_made made settled frame some few within is = (
+    grind (arith, nat_tests, length-map, length-range_with_len, index_seen texts t places kept frame (besides texts)),
+    λ more. cc (is, index_seen (texts ++ more) t places kept frame (besides (texts ++ more)), index_seen texts t places kept frame (besides texts), settled more),
+  )
 
 -- the label of a row in one column
 pub label_at : (t : NumberedTable) (places : List ℕ) (row k place : ℕ) (c : Cell) (l : Label) → k < length places → slice_get places k ≡ Some place → c ≡ cell_across t row place → l ≡ label_of c → l ≡ get_or (row_labels t places row) k l

@@ -5,6 +5,7 @@ pub mod AnswerLaws
 pub mod RowLaws
 pub mod ColumnLabelLaws
 pub mod NamedLaws
+pub mod DropLaws
 pub mod LevelNameLaws
 pub mod IndexingLaws
 pub mod GroupLaws

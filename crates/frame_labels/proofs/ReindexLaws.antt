@@ -1,11 +1,5 @@
 -- The rows, or the columns, of the labels in a list, and tables under another axis.
-use Rattle.{
-  frame_parts.proofs.Common.{◌≡◌, ◌∙◌, refl, arith, ℕ, zero, suc, ◌+◌, ◌<◌, true, false, List, [], ◌∷◌, ◌++◌, map, length, take, replicate, slice_index_or, All, Option, Some, None, Result, Ok, Err, set, get_or, length-map, length-replicate, map-append, take_more, take_more_set, All-map, get_or_from_slice_get, Bor, IsSome, slice_get, range_with_len, AreDistinct, Cell, Na, Label, Shape, Frame, CellBlock, CellColumn, IsPlaceOf, LabelValue, na_cell, datum, FaultValue, limit, Text, AxisValue, HaveLevels, nameless_axis, met_rows, reindexed, IsSettled, NumberedTable, Table, table_value, heading_value, tuple_value, column_value, no_column, ColumnOf, column_at, IsWhole, with_labels, within_limits, limited, unless_repeated, same_tuple, on_rows, MakesBy, on_rows_seen, refused_on, items_of, Tables, HeadingList, columns_of, headings_of, table_column, table_with, labels_value, headings_value, columns_value, Makes, IsKnownTable, Item, OpFault, Refused, NoMemory, settled_by, headings_part},
-  column_core.proofs.CellRows.{map-map},
-  frame_select.{specs.{select.{Keys.{whole_items}, Select.{row_name}}, Headings.{NamesRepeated, repeated_heading}}, proofs.{AnswerLaws.{column_seen}, HeadingLaws.{repeated_seen, different}, RefusalLaws.{repeated_settled}, PickedLaws.{list_is}}},
-  meaning_method.specs.Reindex.{rows_at, rows_reindexed, column_or_missing, columns_at, columns_reindexed},
-  frame_labels.{specs.{Labels.{column_tuple}, Reindexed.{heading_of, list_lent}}, proofs.ColumnLabelLaws.{tuples_seen}},
-}
+use Rattle.{frame_parts.proofs.Common.{◌≡◌, ◌∙◌, refl, arith, ℕ, zero, suc, ◌+◌, ◌<◌, true, false, List, [], ◌∷◌, ◌++◌, map, length, take, replicate, slice_index_or, All, Option, Some, None, Result, Ok, Err, set, get_or, length-map, length-replicate, map-append, take_more, take_more_set, All-map, get_or_from_slice_get, Bor, IsSome, slice_get, range_with_len, Cell, Na, Label, Shape, Frame, CellBlock, CellColumn, IsPlaceOf, LabelValue, na_cell, datum, FaultValue, limit, Text, AxisValue, HaveLevels, nameless_axis, met_rows, reindexed, IsSettled, NumberedTable, Table, table_value, heading_value, tuple_value, column_value, no_column, ColumnOf, column_at, IsWhole, with_labels, within_limits, limited, same_tuple, on_rows, MakesBy, on_rows_seen, refused_on, items_of, Tables, HeadingList, columns_of, headings_of, table_column, table_with, labels_value, headings_value, columns_value, Makes, IsKnownTable, Item, OpFault, headings_part}, column_core.proofs.CellRows.{map-map}, frame_select.{specs.select.{Keys.{whole_items}, Select.{row_name}}, proofs.{AnswerLaws.{column_seen}, PickedLaws.{list_is}}}, meaning_method.specs.Reindex.{rows_at, rows_reindexed, column_or_missing, columns_at, columns_reindexed}, frame_labels.{specs.{Labels.{column_tuple}, Reindexed.{heading_of, list_lent}}, proofs.ColumnLabelLaws.{tuples_seen}}}
 use Rattle.cell_core.specs.declared.cell.Label.TheVariants as label
 pub use Rattle.frame_select.proofs.TakeLaws.{one_more_single}
 
@@ -61,9 +55,6 @@ heading_seen = grind arith
 headings_seen : (texts : List Text) (labels : Tuples) → headings_value texts (map heading_of labels) ≡ map row_name (labels_value texts labels)
 headings_seen texts labels = simp (map-map, heading_seen)
 
-headings_given : (texts : List Text) (labels : Tuples) → IsSettled labels_value texts labels → IsSettled headings_value texts (map heading_of labels)
-headings_given = grind (arith, settled_by, headings_seen)
-
 pub own_labels_given : (texts : List Text) (t : NumberedTable) → IsSettled table_value texts t → IsSettled labels_value texts (map column_tuple t.headings)
 own_labels_given texts t settled = λ more. cc (tuples_seen (texts ++ more) t.headings, tuples_seen texts t.headings, headings_part texts t settled more)
 
@@ -92,52 +83,36 @@ columns_at_settled : (texts : List Text) (t : NumberedTable) (labels : Tuples) (
 columns_at_settled texts t labels places settled given = λ more. cc (columns_at_seen (texts ++ more) t labels places, columns_at_seen texts t labels places, settled more, given more)
 
 module _ (texts : List Text) (t : NumberedTable) (labels : Tuples) (places : Gaps) (own wanted : AxisValue) (owned : own ≡ record { tuples = map column_tuple t.headings; names = t.columns_name ∷ [] }) (asked : wanted ≡ nameless_axis labels 1)
-    (placed : record { rows : found texts own.tuples wanted.tuples ≡ Ok places; count : length places ≡ length wanted.tuples; below : All (IsPlaceOf (length own.tuples)) places }) (distinct : AreDistinct texts) (given : IsSettled labels_value texts labels)
-    (shown : List (Option Label)) (listed : shown ≡ map heading_of wanted.tuples) where
+    (placed : record { rows : found texts own.tuples wanted.tuples ≡ Ok places; count : length places ≡ length wanted.tuples; below : All (IsPlaceOf (length own.tuples)) places }) where
   abbrev V : Table
   V = table_value texts t
 
   abbrev M : List (List LabelValue)
   M = labels_value texts labels
 
-  abbrev answer : Table
-  answer = columns_at na_cell V (map row_name M) places
-
-  below : IsWhole t → All (IsPlaceOf (length t.columns)) places
-  below whole =
+  pub columns_below : IsWhole t → All (IsPlaceOf (length t.columns)) places
+  columns_below whole =
       let many : length own.tuples ≡ length t.columns = cc (length-map t.headings column_tuple, whole.headed) in
       rw many at placed.below
 
-  named : shown ≡ map heading_of labels
-  named = cc
+  columns_meant : columns_reindexed V M ≡ limited (columns_at na_cell V (map row_name M) places)
+  columns_meant = grind (arith, tuples_seen, placed.rows)
 
-  shown_given : IsSettled headings_value texts shown
-  shown_given = rw named (headings_given texts labels given)
+  pub columns_beyond : within_limits (length t.labels) (length places) ≡ false → columns_reindexed V M ≡ Err limit
+  columns_beyond beyond = grind (arith, columns_meant, length-map)
 
-  columns_meant : (repeated : Option Label) → repeated_heading shown ≡ repeated → columns_reindexed V M ≡ unless_repeated (heading_value texts repeated) (limited answer)
-  columns_meant = grind (arith, tuples_seen, placed.rows, named, headings_seen texts labels, repeated_seen texts shown distinct shown_given)
+  pub columns_whole : IsWhole t → t.shape ≡ Frame → HaveLevels 1 labels → IsWhole (columns_at Na t (map heading_of labels) places)
+  columns_whole whole frame single =
+      let some = All-map IsSome heading_of labels (λ k d lt. grind (arith, single k d lt)) in
+      record {
+        headed = grind (arith, length-map, placed.count);
+        filled = All-map (λ c. length c.cells ≡ length t.labels) (column_or_missing Na t) places (λ k d lt. column_filled t _ whole (columns_below whole k d lt));
+        headings = grind (arith, some);
+      }
 
-  pub columns_repeated : (why : OpFault) → NamesRepeated why (repeated_heading shown) → Makes texts (Err why) (columns_reindexed V M)
-  columns_repeated (Refused code) why = grind (arith, columns_meant _ why.1, repeated_settled, shown_given)
-  columns_repeated NoMemory _ = tt
-
-  pub columns_beyond : repeated_heading shown ≡ None → within_limits (length t.labels) (length places) ≡ false → columns_reindexed V M ≡ Err limit
-  columns_beyond none beyond = grind (arith, columns_meant _ none, length-map)
-
-  module _ (none : repeated_heading shown ≡ None) where
-    pub columns_whole : IsWhole t → t.shape ≡ Frame → HaveLevels 1 labels → IsWhole (columns_at Na t (map heading_of labels) places)
-    columns_whole whole frame single =
-        let some = All-map IsSome heading_of labels (λ k d lt. grind (arith, single k d lt)) in
-        let apart = rw named at none in
-        record {
-          headed = grind (arith, length-map, placed.count);
-          filled = All-map (λ c. length c.cells ≡ length t.labels) (column_or_missing Na t) places (λ k d lt. column_filled t _ whole (below whole k d lt));
-          headings = grind (arith, different);
-        }
-
-    pub columns_answer : (made : NumberedTable) → made ≡ columns_at Na t (map heading_of labels) places → within_limits (length t.labels) (length places) ≡ true → IsKnownTable texts t → Makes texts (Ok made) (columns_reindexed V M)
-    columns_answer made is within known =
-        grind (arith, columns_meant _ none, length-map, columns_at_seen texts t labels places, columns_at_settled texts t labels places known.given given)
+  pub columns_answer : (made : NumberedTable) → made ≡ columns_at Na t (map heading_of labels) places → within_limits (length t.labels) (length places) ≡ true → IsKnownTable texts t → IsSettled labels_value texts labels → Makes texts (Ok made) (columns_reindexed V M)
+  columns_answer made is within known given =
+      grind (arith, columns_meant, length-map, columns_at_seen texts t labels places, columns_at_settled texts t labels places known.given given)
 
 -- places that aren't found
 pub columns_refused : (texts : List Text) (t : NumberedTable) (labels : Tuples) (places : Result (Gaps) OpFault) (fault : OpFault) → places ≡ Err fault

@@ -1,13 +1,13 @@
 -- The levels of a table as columns of a frame, and the frame that they become with its columns.
 use Rattle.{
-  frame_parts.proofs.Common.{◌≡◌, ◌∙◌, refl, ap, ℕ, pos, ◌+◌, ◌<◌, not, nat_eq, Bool, true, false, List, [], ◌∷◌, ◌++◌, map, take, drop, length, slice_index_or, slice_get, All, Option, Some, None, if◌then◌else◌, append_assoc, append-nil, add-one, arith, sym, subst, Result, Ok, Err, get_or-map, drop-cons, nat_tests, length-map, map-append, take_more, All-append, All-nil, All-map, length-range_with_len, length-map-range_with_len, get_or_from_slice_get, slice_get_within, unwrap_or, codes, IsSome, IfOk, list_any, range_with_len, AreDistinct, Label, TextId, Cell, Frame, CellBlock, Text, LabelValue, int, label_datum, IsLonger, CellValue, na, FaultValue, limit, then_value, IsSettled, NumberedTable, Table, table_value, heading_value, ColumnOf, tuple_value, column_value, with_labels, IsWhole, Entry, same_heading, within_limits, limited, finished, unless_repeated, default_labels, try_all, list_column, block_column, IsSingle, HeadingList, axis_of, headings_value, labels_value, columns_value, cells_value, Makes, OpFault, Refused, NoMemory, settled_later, seen_later, settled_by, headings_part, level_names_part, cell_settled, columns_given, columns_part, AreGiven, columns_name_part, columns_settled, table_settled, AxisValue, range_axis, MakesBy, blocks_value, AreColumns, default_seen, refused_on},
+  frame_parts.proofs.Common.{◌≡◌, ◌∙◌, refl, ap, ℕ, pos, ◌+◌, ◌<◌, not, nat_eq, Bool, true, false, List, [], ◌∷◌, ◌++◌, map, take, drop, length, slice_index_or, slice_get, All, Option, Some, None, if◌then◌else◌, append_assoc, append-nil, add-one, arith, sym, subst, Result, Ok, Err, get_or-map, drop-cons, nat_tests, length-map, map-append, take_more, All-append, All-nil, All-map, length-range_with_len, length-map-range_with_len, get_or_from_slice_get, slice_get_within, unwrap_or, codes, IsSome, IfOk, list_any, range_with_len, AreDistinct, Label, TextId, Cell, Frame, CellBlock, Text, LabelValue, int, label_datum, IsLonger, CellValue, na, FaultValue, fault_of, limit, then_value, IsSettled, NumberedTable, Table, table_value, heading_value, ColumnOf, tuple_value, column_value, with_labels, IsWhole, Entry, same_heading, within_limits, limited, unless_repeated, default_labels, try_all, list_column, block_column, IsSingle, HeadingList, axis_of, headings_value, labels_value, columns_value, cells_value, Makes, OpFault, Refused, NoMemory, settled_later, seen_later, settled_by, headings_part, level_names_part, cell_settled, columns_given, columns_part, AreGiven, columns_name_part, columns_settled, table_settled, AxisValue, range_axis, MakesBy, blocks_value, AreColumns, default_seen, refused_on},
   column_core.proofs.{cells.Common.{length-append, with_text, text}, CellRows.{map-map}},
   cell_core.specs.declared.cell.Label.TheVariants.{Na},
-  std.specs.Prelude.{◌*◌, sum},
+  std.{specs.Prelude.{◌*◌, sum}, proofs.{Math.Seq.{take-append_seam, drop-append_seam}, lemmas.List.{take-map, drop-map}}},
   frame_store.{proofs.KeptLaws.{cells_of_blocks}, specs.{Derivations.{IsWithin}, Parts.{cells_of, table_behind}, declared.derivations.Extension.{Extension}}},
-  meaning_method.specs.{Levels.{numbered_label, nameless_label, label_cell, level_labels, levels_reset, renumbered}, Methods.{as_frame}},
-  frame_select.{proofs.{PlaceLaws.{heading_settled, label_settled as label_settled_by}, HeadingLaws.{repeated_seen, different}, RefusalLaws.{repeated_settled}}, specs.Headings.{NamesRepeated, repeated_heading}},
-  frame_labels.specs.{Labels.{column_tuple}, Resets.{frame_heading, frame_headings, reset_headings, reset_frame}, LevelColumns.{cell_of}},
+  meaning_method.specs.{Levels.{numbered_label, nameless_label, label_cell, level_labels, level_headings, with_levels, levels_reset, renumbered}, Methods.{as_frame}, form.Finish.{first_shared}},
+  frame_select.{proofs.{PlaceLaws.{heading_settled, label_settled as label_settled_by}, HeadingLaws.{shared_seen}, RefusalLaws.{shared_settled}}, specs.Headings.{NamesRepeated, shared_heading}},
+  frame_labels.specs.{Labels.{column_tuple}, Resets.{frame_heading, frame_headings, reset_headings, reset_frame, reset_result}, LevelColumns.{cell_of}},
 }
 use Rattle.cell_core.specs.declared.cell.Cell.TheVariants as cell
 use Rattle.cell_core.specs.declared.cell.Label.TheVariants as label
@@ -107,24 +107,16 @@ cells_seen texts (t ∷ ts) level = grind (arith, get_or-map (label_datum texts)
 columns_seen : (texts : List Text) (t : NumberedTable) → levels.level_columns texts (axis_of t) ≡ meant.level_columns (as_frame (table_value texts t))
 columns_seen texts t = λ j. try_all (λ level. list_column (cells_seen texts t.labels level j)) (range_with_len 0 (sym (length-map t.level_names (heading_value texts)) j))
 
-abbrev pub finished_as : Table → List (ColumnOf CellValue) → Result Entry FaultValue
-finished_as v columns = finished (reset_frame v (reset_headings (as_frame v)) columns)
+abbrev reset_as : Table → List (ColumnOf CellValue) → Result Entry FaultValue
+reset_as v columns = unless_repeated (first_shared (level_headings (as_frame v)) (as_frame v).headings) (limited (with_levels (as_frame v) columns))
 
-pub reset_by : (texts : List Text) (t : NumberedTable) (v : Table) → v ≡ table_value texts t → levels_reset (as_frame v) ≡ then_value (levels.level_columns texts (axis_of t)) (finished_as v)
+reset_by : (texts : List Text) (t : NumberedTable) (v : Table) → v ≡ table_value texts t → levels_reset (as_frame v) ≡ then_value (levels.level_columns texts (axis_of t)) (reset_as v)
 reset_by = grind (arith, columns_seen)
 
 -- a level of two kinds
 pub reset_refused : (texts : List Text) (t : NumberedTable) (made : Result (List CellBlock) OpFault) (fault : OpFault) → made ≡ Err fault → MakesBy blocks_value texts made (levels.level_columns texts (axis_of t))
     → Makes texts (Err fault) (levels_reset (as_frame (table_value texts t)))
 reset_refused texts t _ fault is makes = grind (arith, reset_by texts t (table_value texts t) refl, refused_on)
-
--- all of it
-pub reset_made : (old new : List Text) (t : NumberedTable) (labels : List (Option Label)) (blocks : List CellBlock) → IsLonger old new → IsSettled table_value old t → headings_value new labels ≡ reset_headings (as_frame (table_value old t))
-    → levels.level_columns new (axis_of t) ≡ Ok (blocks_value new blocks)
-    → finished (reset_frame (table_value new t) (headings_value new labels) (blocks_value new blocks)) ≡ levels_reset (as_frame (table_value old t))
-reset_made old new t _ blocks longer settled headed made =
-    let same = seen_later table_value old new t longer settled in
-    cc (reset_by new t (table_value old t) (sym same))
 
 -- what is made of each
 tried : {A B : Type 0} (P : B → Type 0) (f : A → Result B FaultValue) → ((a : A) → IfOk (f a) P) → (xs : List A) → IfOk (try_all f xs) (λ ys. (length ys ≡ length xs) × All P ys)
@@ -145,6 +137,21 @@ made_of : (texts : List Text) (t : NumberedTable) → IfOk (levels.level_columns
 made_of texts t =
     let each : (level : ℕ) → IfOk (levels.level_column texts (axis_of t) level) (HasRows (length t.labels)) = λ level. grind (arith, length-map) in
     grind (arith, tried (HasRows (length t.labels)) (levels.level_column texts (axis_of t)) each (range_with_len 0 (length t.level_names)), length-range_with_len)
+
+-- a label and a column for each level, before those of the table
+headings_split : (v : Table) (columns : List (ColumnOf CellValue)) → length columns ≡ length v.level_names → reset_result v (reset_headings (as_frame v)) columns ≡ reset_as v columns
+headings_split v columns count =
+    let many : length columns ≡ length (level_headings (as_frame v)) = grind (arith, length-map, length-range_with_len) in
+    rw (many, take-append_seam, drop-append_seam)
+
+-- all of it
+pub reset_made : (old new : List Text) (t : NumberedTable) (labels : List (Option Label)) (blocks : List CellBlock) → IsLonger old new → IsSettled table_value old t → headings_value new labels ≡ reset_headings (as_frame (table_value old t))
+    → levels.level_columns new (axis_of t) ≡ Ok (blocks_value new blocks)
+    → reset_result (table_value new t) (headings_value new labels) (blocks_value new blocks) ≡ levels_reset (as_frame (table_value old t))
+reset_made old new t _ blocks longer settled headed made =
+    let same = seen_later table_value old new t longer settled in
+    let count = rw made at (made_of new t) in
+    cc (reset_by new t (table_value old t) (sym same), headings_split (table_value old t) (blocks_value new blocks) (count.0 ∙ sym (length-map t.level_names (heading_value old))))
 
 abbrev pub AreLevels : NumberedTable → List CellBlock → Type 0
 AreLevels t blocks = (texts : List Text) → levels.level_columns texts (axis_of t) ≡ Ok (blocks_value texts blocks)
@@ -200,33 +207,45 @@ abbrev pub parts_table : NumberedTable → ℕ → List (Option Label) → List 
 parts_table t rows labels blocks = table_behind Frame (range_axis rows) (own_headings t labels) blocks t
 
 pub parts_whole : (texts : List Text) (t : NumberedTable) (rows : ℕ) (labels : List (Option Label)) (blocks : List CellBlock) → IsWhole t → AreColumns texts (length t.labels) (length blocks) blocks → length blocks + length t.columns ≡ length labels
-    → rows ≡ length t.labels → All IsSome labels → repeated_heading labels ≡ None → IsWhole (parts_table t rows labels blocks)
-parts_whole _ t _ _ blocks whole columns count is some none =
+    → rows ≡ length t.labels → All IsSome labels → IsWhole (parts_table t rows labels blocks)
+parts_whole _ t _ _ blocks whole columns count is some =
     let filled = All-append (λ (c : ColumnOf Cell). length c.cells ≡ length t.labels) (map block_column blocks) t.columns columns.filled whole.filled in
-    grind (arith, length-range_with_len, length-map, length-append, different)
+    grind (arith, length-range_with_len, length-map, length-append)
 
--- a label that stands again
-module _ (texts : List Text) (labels : List (Option Label)) (distinct : AreDistinct texts) (given : IsSettled headings_value texts labels) where
-  parts_headed : (u : Table) (found : Option Label) → u.headings ≡ headings_value texts labels → repeated_heading labels ≡ found → finished u ≡ unless_repeated (heading_value texts found) (limited u)
-  parts_headed = grind (arith, repeated_seen)
+-- the label of a new column that another one has too
+module _ (texts : List Text) (t : NumberedTable) (labels new own : List (Option Label)) (blocks : List CellBlock) (given : IsSettled headings_value texts labels) (first : new ≡ take (length blocks) labels) (others : own ≡ drop (length blocks) labels) where
+  abbrev frame : Table
+  frame = reset_frame (table_value texts t) (headings_value texts labels) (blocks_value texts blocks)
 
-  pub parts_repeated : (u : Table) (why : OpFault) → u.headings ≡ headings_value texts labels → NamesRepeated why (repeated_heading labels) → Makes texts (Err why) (finished u)
-  parts_repeated u (Refused code) headed named = grind (arith, parts_headed u _ headed named.1, repeated_settled)
-  parts_repeated u NoMemory _ _ = tt
+  abbrev answer : Result Entry FaultValue
+  answer = reset_result (table_value texts t) (headings_value texts labels) (blocks_value texts blocks)
+
+  new_given : IsSettled headings_value texts new
+  new_given = settled_by headings_value headings_value (take (length blocks)) texts labels new (λ ts. grind (arith, take-map)) given
+
+  own_given : IsSettled headings_value texts own
+  own_given = settled_by headings_value headings_value (drop (length blocks)) texts labels own (λ ts. grind (arith, drop-map)) given
+
+  answer_is : (found : Option Label) → AreDistinct texts → shared_heading new own ≡ found → answer ≡ unless_repeated (heading_value texts found) (limited frame)
+  answer_is found distinct is = grind (arith, length-map, take-map, drop-map, shared_seen texts new own distinct new_given own_given)
+
+  pub parts_repeated : (why : OpFault) → AreDistinct texts → NamesRepeated why (shared_heading new own) → Makes texts (Err why) answer
+  parts_repeated (Refused code) distinct named = (
+    answer_is (Some named.0) distinct named.1 ∙ ap (λ c. Err (fault_of texts c)) (sym named.2),
+    shared_settled texts code new own named.0 named.1 named.2 new_given,
+  )
+  parts_repeated NoMemory distinct _ = tt
 
   -- beyond the limits, or within them
-  module _ (t : NumberedTable) (blocks : List CellBlock) (none : repeated_heading labels ≡ None) (count : length blocks + length t.columns ≡ length labels) where
-    abbrev frame : Table
-    frame = reset_frame (table_value texts t) (headings_value texts labels) (blocks_value texts blocks)
+  module _ (distinct : AreDistinct texts) (none : shared_heading new own ≡ None) (count : length blocks + length t.columns ≡ length labels) where
+    headed : answer ≡ limited frame
+    headed = answer_is None distinct none
 
-    headed : finished frame ≡ limited frame
-    headed = parts_headed frame None refl none
-
-    pub parts_beyond : within_limits (length t.labels) (length labels) ≡ false → finished frame ≡ Err limit
+    pub parts_beyond : within_limits (length t.labels) (length labels) ≡ false → answer ≡ Err limit
     parts_beyond = grind (arith, headed, range_count, length-map, length-append)
 
     pub parts_made : (made : NumberedTable) (rows : ℕ) → IsSettled table_value texts t → AreColumns texts (length t.labels) (length blocks) blocks → within_limits (length t.labels) (length labels) ≡ true → rows ≡ length t.labels → made ≡ parts_table t rows labels blocks
-        → Makes texts (Ok made) (finished frame)
+        → Makes texts (Ok made) answer
     parts_made _ _ settled columns within is same =
         let columns_there = All-append (λ (c : ColumnOf Cell). AreGiven texts c.cells) (map block_column blocks) t.columns columns.given (columns_given texts t.columns (columns_part texts t settled)) in (
           grind (arith, headed, range_count, length-map, length-append, map-append, default_seen),

@@ -1,13 +1,10 @@
 -- Tables within the limits, and the headings of frames.
-use Rattle.{
-  frame_parts.proofs.Common.{arith, ◌≡◌, true, ℕ, List, length, All, IsSome, Option, None, Ok, Label, Frame, AreHeadings, Table, table, within_limits, limited},
-  frame_select.{specs.Headings.{repeated_heading}, proofs.HeadingLaws.{different}},
-}
+use Rattle.frame_parts.proofs.Common.{arith, ◌≡◌, true, ℕ, List, length, All, IsSome, Option, Ok, Label, Frame, AreHeadings, Table, table, within_limits, limited}
 
 -- a table within the limits
 pub limited_within : (t : Table) (rows columns : ℕ) → length t.labels ≡ rows → length t.columns ≡ columns → within_limits rows columns ≡ true → limited t ≡ Ok (table t)
 limited_within t _ _ r c within = search
 
--- labels of a frame's columns of which none stands twice
-pub frame_heads : (name : Option Label) (labels : List (Option Label)) → All IsSome labels → repeated_heading labels ≡ None → AreHeadings Frame name labels
-frame_heads = grind (arith, different)
+-- labels of a frame's columns
+pub frame_heads : (name : Option Label) (labels : List (Option Label)) → All IsSome labels → AreHeadings Frame name labels
+frame_heads = grind arith

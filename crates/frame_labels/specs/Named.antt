@@ -1,10 +1,14 @@
--- Columns that an argument names.
-use Rattle.std.specs.Prelude.{◌≡◌, ◌<◌, ℕ, Bool, false, List, length, slice_get, slice_index_or, nat_eq, Result, IfOk}
+-- Columns that an argument names, and those that it leaves.
+use Rattle.std.specs.Prelude.{◌≡◌, ◌<◌, ℕ, Bool, false, List, [], ◌∷◌, map, length, slice_get, slice_index_or, nat_eq, Option, Some, Result, Ok, IfOk}
 use Rattle.std.specs.List.{list_any}
+use Rattle.cell_core.specs.declared.cell.Cell.{Cell}
+use Rattle.cell_core.specs.declared.cell.Label.{Label}
+use Rattle.cell_core.specs.Values.{label_of}
 use Rattle.column_core.specs.cells.Text.{Text}
-use Rattle.column_core.specs.cells.Fault.{FaultValue}
+use Rattle.column_core.specs.cells.Cell.{LabelValue}
+use Rattle.column_core.specs.cells.Fault.{FaultValue, then_value}
 use Rattle.frame_store.specs.tables.Settled.{IsSettled}
-use Rattle.frame_store.specs.tables.Table.{NumberedTable}
+use Rattle.frame_store.specs.tables.Table.{NumberedTable, Table}
 use Rattle.frame_store.specs.tables.Value.{Given}
 use Rattle.frame_signatures.specs.call.Binding.{HasNoText}
 use Rattle.frame_parts.specs.Makes.{MakesBy}
@@ -15,6 +19,9 @@ use Rattle.frame_store.specs.World.{World}
 use Rattle.frame_select.specs.Selected.{as_it_is}
 use Rattle.frame_signatures.specs.Bound.{stands_at}
 use Rattle.frame_signatures.specs.declared.bound.Bound.{Bound}
+use Rattle.frame_parts.specs.form.Select.{places_besides}
+use Rattle.meaning_method.specs.pick.Keys.{each_key}
+use Rattle.meaning_method.specs.select.Keys.{label_columns}
 
 -- the argument at a place, and the first one
 abbrev pub stands_in : World → Bound → ℕ → Given
@@ -40,3 +47,11 @@ FindsPlaces texts t found meant = MakesBy as_it_is texts found meant × IfOk fou
 pub record AreMarks (marks : List Bool) (limit : ℕ) (places : List ℕ) : Type 0 where
   pub count : length marks ≡ limit
   pub each : (place : ℕ) → place < limit → slice_index_or marks place false ≡ list_any (nat_eq place) places
+
+-- the columns of a table that have none of these labels, each of which some column has
+abbrev pub columns_kept : Table → List LabelValue → Result (List ℕ) FaultValue
+columns_kept t labels = then_value (label_columns t (each_key (map (λ l. l ∷ []) labels))) (λ places. Ok (places_besides t places))
+
+-- the label that a cell is, as a heading
+abbrev pub some_label : Cell → Option Label
+some_label cell = Some (label_of cell)

@@ -18,7 +18,7 @@ use crate::under::named_axis;
 use cell_core::{Code, Grid, Label, NoMemory, Places, Shape, TextDict, Tuple, Tuples};
 use column_core::ColRef;
 use frame_parts::within_limits;
-use frame_select::{different_headings, headings_at};
+use frame_select::{heading_list, headings_at};
 use frame_store::{Derivation, ObjRef, OpFault};
 use multi_index::Axis;
 use std::alloc::Global;
@@ -111,8 +111,7 @@ fn column_axis(
 
 /// A frame without these columns, whose cells are the labels of its rows.
 ///
-/// `BadValue` of a heading that would stand twice; `Limit`, also where the columns are none or more
-/// than four. `NoMemory` may come in place of any answer.
+/// `Limit`, also where the columns are none or more than four. `NoMemory` may come in place of any answer.
 pub fn set_index(
     alloc: Global,
     dict: &TextDict,
@@ -125,16 +124,14 @@ pub fn set_index(
     ensures { Derives dict.now on.now result
         (meant.index_set (table_value dict.now on.now) places.now) }
 {
-    // Equal texts have equal numbers: `TextDict::len` says so.
-    let _ = dict.len();
-    let kept = places_besides(alloc, on.columns(), places)?;
-    let labels = headings_at(alloc, on, &kept)?;
-    let headings = different_headings(alloc, on.columns_name(), labels.as_slice())?;
     let levels = places.len();
+    let kept = places_besides(alloc, on.columns(), places)?;
     if levels == 0 || levels > 4 || !within_limits(on.rows(), kept.len()) {
         return Err(OpFault::Refused(Code::Limit));
     }
     let axis = column_axis(alloc, dict, on, places)?;
+    let labels = headings_at(alloc, on, &kept)?;
+    let headings = heading_list(alloc, on.columns_name(), labels.as_slice())?;
     Ok(Derivation {
         shape: Shape::Frame,
         axis,

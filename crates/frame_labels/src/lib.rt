@@ -10,7 +10,8 @@
 //! Levels get names (`axis_names`) or are made of columns (`indexing`), go or change places
 //! (`levels`), and become columns again (`level_columns`, `resetting`). Rows and columns are picked
 //! by a list of labels (`reindexing`), rows by their label on one level (`cross_section`), and
-//! columns by what an argument names (`named_columns`). `under` plans the table under another axis,
+//! columns by what an argument names (`named_columns`): such a label is one column. Labels that select columns are all columns
+//! that have them: `dropping` is a frame without these. `under` plans the table under another axis,
 //! and `column_labels` makes an axis of the labels of columns.
 //!
 //! [`columns_at`] gives the columns whose cells are the keys of rows, by their places, for `factorize::KeyColumns`
@@ -34,6 +35,7 @@ mod attributes;
 mod axis_names;
 mod column_labels;
 mod cross_section;
+mod dropping;
 mod indexing;
 mod key_columns;
 mod level_columns;
@@ -48,13 +50,12 @@ pub use attributes::{no_attribute, without_arguments};
 pub use axis_names::{level_names, rename_axis, renumber};
 pub use column_labels::{column_label, columns_axis};
 pub use cross_section::xs;
+pub use dropping::drop_columns;
 pub use indexing::{row_tuple, set_index};
 pub use key_columns::columns_at;
 pub use level_columns::cell_of;
 pub use levels::{drop_level, level_of, swap_levels};
-pub use named_columns::{
-    drop_columns, named_places, places_besides, selected_places, subset_places, told_places,
-};
+pub use named_columns::{named_places, places_besides, subset_places, told_places};
 pub use reindexing::reindex;
 pub use resetting::reset_levels;
 pub use row_groups::{groups_by, key_tuples};

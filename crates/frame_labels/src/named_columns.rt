@@ -1,27 +1,22 @@
-// The columns that an argument names, and a frame without them.
+// The columns that an argument names.
 ghost use Rattle.std.specs.Prelude.{◌≡◌, ◌<◌, ◌∷◌, [], List, map, filter, not, nat_eq, All, IfOk};
 ghost use Rattle.std.specs.List.{list_any, range_with_len};
-ghost use Rattle.cell_core.specs.declared.grid.Shape.TheVariants.{Frame};
 ghost use Rattle.column_core.specs.cells.Cell.{datum};
 ghost use Rattle.column_core.specs.cells.Operator.{cell_label};
-ghost use Rattle.frame_store.specs.tables.Cost.{free};
 ghost use Rattle.frame_store.specs.tables.Settled.{IsSettled};
 ghost use Rattle.frame_store.specs.tables.Table.{table_value};
-ghost use Rattle.frame_parts.specs.form.Finish.{finished};
 ghost use Rattle.frame_parts.specs.form.Select as select;
-ghost use Rattle.frame_parts.specs.form.Select.{columns_frame};
 ghost use Rattle.meaning_method.specs.Rows as meant;
-ghost use Rattle.frame_store.specs.Arguments.{object_value, shape_at, IsLiveObject};
+ghost use Rattle.frame_store.specs.Arguments.{object_value, IsLiveObject};
 ghost use Rattle.frame_store.specs.Objects.{tables, table_at};
-ghost use Rattle.frame_store.specs.World.{world, IsSettledWorld, IsKnownTable, FormsFor};
+ghost use Rattle.frame_store.specs.World.{world, IsSettledWorld, IsKnownTable};
 ghost use Rattle.frame_signatures.specs.Scalars.{scalars};
 ghost use Rattle.frame_labels.specs.Named.{stands_in, first_in, NamesColumnsAt, NamesColumns, FindsPlaces, AreMarks};
-ghost use Rattle.frame_store.specs.Parts.{AreColumnsOf};
 
 use cell_core::{Cell, Grid, Label, NoMemory, Places, TextDict};
-use frame_select::{argument_column, argument_columns, columns_of, places_below};
+use frame_select::{argument_column, argument_columns, places_below};
 use frame_signatures::{Bound, scalars_of};
-use frame_store::{Item, ObjId, ObjRef, OpFault, Store, Value};
+use frame_store::{Item, ObjId, ObjRef, OpFault, Store};
 use std::alloc::Global;
 
 // The place of the first argument.
@@ -60,7 +55,8 @@ fn places_of(
 
 /// The columns that the argument at a place names: a label, or the labels of a list; none where it is `None`.
 ///
-/// `NoKey` of the first label that no column has. `NoMemory` may come in place of any answer.
+/// `NoKey` of the first label that no column has, then `BadValue(Repeated)` of the first one that several columns have.
+/// `NoMemory` may come in place of any answer.
 pub fn told_places(
     alloc: Global,
     store: &Store,
@@ -88,7 +84,8 @@ pub fn told_places(
 
 /// The columns that the first argument names: a label, or the labels of a list.
 ///
-/// `NoKey` of the first label that no column has. `NoMemory` may come in place of any answer.
+/// `NoKey` of the first label that no column has, then `BadValue(Repeated)` of the first one that several columns have.
+/// `NoMemory` may come in place of any answer.
 pub fn named_places(
     alloc: Global,
     store: &Store,
@@ -106,30 +103,10 @@ pub fn named_places(
     told_places(alloc, store, dict, bound, FIRST, on)
 }
 
-/// The columns that the first argument selects: that of a label, or those of the labels of a list.
-///
-/// `NoKey` of the first label that no column has. `NoMemory` may come in place of any answer.
-pub fn selected_places(
-    alloc: Global,
-    store: &Store,
-    dict: &TextDict,
-    bound: &Bound<'_>,
-    on: ObjId,
-) -> Result<Places, OpFault>
-    requires live { IsLiveObject (tables store.now) on }
-    requires settled { IsSettledWorld (world store.now dict.now) }
-    requires names { NamesColumns (world store.now dict.now) bound.now }
-    ensures { FindsPlaces dict.now (table_at (tables store.now) on.0) result
-        (select.selected_columns (object_value (tables store.now) dict.now on)
-        (meant.labels_in (first_in (world store.now dict.now) bound.now))) }
-{
-    // No two columns have one label, so each selects the column that it names.
-    named_places(alloc, store, dict, bound, on)
-}
-
 /// The columns that the first argument names, or all where it is `None`.
 ///
-/// `NoKey` of the first label that no column has. `NoMemory` may come in place of any answer.
+/// `NoKey` of the first label that no column has, then `BadValue(Repeated)` of the first one that several columns have.
+/// `NoMemory` may come in place of any answer.
 #[tactic(auto, using(crate::proofs::Hints::subset_places))]
 pub fn subset_places(
     alloc: Global,
@@ -177,25 +154,4 @@ pub fn places_besides(alloc: Global, count: usize, places: &Places) -> Result<Pl
         }
     }
     Ok(others)
-}
-
-/// A new object, the frame without these columns, which shares the cells of those that stay; `BadValue` where two
-/// of those have one label, which no frame has, and `Limit`. `NoMemory` may come in place of any answer.
-pub fn drop_columns(
-    alloc: Global,
-    store: &mut Store,
-    dict: &TextDict,
-    places: &Places,
-    on: ObjId,
-) -> Result<Value, OpFault>
-    requires live { IsLiveObject (tables store.old) on }
-    requires shape { shape_at (tables store.old) on ≡ Frame }
-    requires settled { IsSettledWorld (world store.old dict.now) }
-    requires places { AreColumnsOf (table_at (tables store.old) on.0) places.now }
-    ensures { let t = object_value (tables store.old) dict.now on in
-        FormsFor free result (finished (columns_frame t (meant.places_besides t places.now)))
-        (world store.old dict.now) (world store.new dict.now) }
-{
-    let kept = places_besides(alloc, store.read(on).columns(), places)?;
-    columns_of(alloc, store, dict, on, kept)
 }

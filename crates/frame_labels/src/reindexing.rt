@@ -18,7 +18,7 @@ use crate::column_labels::columns_axis;
 use cell_core::{Cell, Code, Gaps, Grid, Kind, Label, NoMemory, TextDict, Tuples};
 use column_core::Column;
 use frame_parts::{columns_on, rows_of_labels, within_limits};
-use frame_select::{different_headings, listed_keys};
+use frame_select::{heading_list, listed_keys};
 use frame_store::{Blocks, Item, ObjId, ObjRef, OpFault, Store, Table, headings_of};
 use multi_index::Axis;
 use std::alloc::Global;
@@ -119,16 +119,14 @@ fn columns_reindexed(
     ensures { Makes dict.now result (meant.columns_reindexed
         (table_value dict.now on.now) (labels_value dict.now labels.now)) }
 {
-    // Equal texts have equal numbers: `TextDict::len` says so.
-    let _ = dict.len();
     let wanted = Axis::from_tuples(alloc, dict, labels, 1)?;
     let own = columns_axis(alloc, dict, on)?;
     let places = rows_of_labels(alloc, dict, &own, &wanted)?;
-    let labels = labels_as_headings(alloc, &wanted)?;
-    let headings = different_headings(alloc, on.columns_name(), labels.as_slice())?;
     if !within_limits(on.rows(), places.len()) {
         return Err(OpFault::Refused(Code::Limit));
     }
+    let labels = labels_as_headings(alloc, &wanted)?;
+    let headings = heading_list(alloc, on.columns_name(), labels.as_slice())?;
     let blocks = columns_or_missing(alloc, on, &places)?;
     let axis = on.axis().copy(alloc)?;
     Ok(Table::new(on.shape(), axis, headings, blocks))
@@ -176,8 +174,8 @@ fn reindex_columns(
 
 /// The rows or the columns of the labels in a list: just one of the lists is given.
 ///
-/// `WrongKind` where both are given or none, the refusals of labels of another form and of those that
-/// stand twice, `Limit`. `NoMemory` may come in place of any answer.
+/// `WrongKind` where both are given or none, the refusals of labels of another form, `BadValue(Repeated)` where the list
+/// isn't the table's own labels and these repeat one, `Limit`. `NoMemory` may come in place of any answer.
 pub fn reindex(
     alloc: Global,
     store: &Store,

@@ -5,20 +5,20 @@ ghost use Rattle.column_core.specs.cells.Text.{Text as OneText};
 ghost use Rattle.column_core.specs.cells.Cell.{IsLonger, label_datum};
 ghost use Rattle.frame_store.specs.tables.Settled.{IsSettled};
 ghost use Rattle.frame_store.specs.tables.Table.{heading_value, table_value};
-ghost use Rattle.frame_parts.specs.form.Finish.{finished, same_heading as same_as};
+ghost use Rattle.frame_parts.specs.form.Finish.{same_heading as same_as};
 ghost use Rattle.frame_parts.specs.Makes.{blocks_value, AreColumns};
 ghost use Rattle.frame_store.specs.Derivations.{Extends, IsWithin};
 ghost use Rattle.frame_store.specs.Shown.{headings_value};
 ghost use Rattle.frame_store.specs.World.{IsKnownTable};
 ghost use Rattle.meaning_method.specs.Levels as meant;
 ghost use Rattle.meaning_method.specs.Methods.{as_frame};
-ghost use Rattle.frame_labels.specs.Resets.{frame_headings, reset_headings, reset_frame};
+ghost use Rattle.frame_labels.specs.Resets.{frame_headings, reset_headings, reset_result};
 
 use crate::column_labels::column_label;
 use crate::level_columns::level_columns;
 use cell_core::{Code, Grid, Label, NoMemory, Shape, TextDict};
 use frame_parts::{same_heading, within_limits};
-use frame_select::different_headings;
+use frame_select::{expect_unshared, heading_list};
 use frame_store::{Blocks, Extension, ObjRef, OpFault};
 use multi_index::Axis;
 use std::alloc::Global;
@@ -152,8 +152,8 @@ fn reset_labels(
     Ok(labels)
 }
 
-// These columns before those of the table, under these labels, which must differ. The rows have the
-// labels 0, 1 and so on.
+// These columns before those of the table, under these labels: no other column may have that of a new one. The rows have
+// the labels 0, 1 and so on.
 #[tactic(auto, using(crate::proofs::Hints::reset_frame))]
 fn reset_frame(
     alloc: Global,
@@ -168,16 +168,18 @@ fn reset_frame(
     requires columns { AreColumns dict.now (length on.now.labels) (length first) first }
     requires count { length first + length on.now.columns ≡ length labels.now }
     ensures answer { Extends dict.now on.now result
-        (finished (reset_frame (table_value dict.now on.now)
-        (headings_value dict.now labels.now) (blocks_value dict.now first))) }
+        (reset_result (table_value dict.now on.now)
+        (headings_value dict.now labels.now) (blocks_value dict.now first)) }
     ensures first { IfOk result (λ made. made.first ≡ first) }
 {
     // Equal texts have equal numbers: `TextDict::len` says so.
     let _ = dict.len();
-    let headings = different_headings(alloc, on.columns_name(), labels)?;
+    let (new, own) = labels.split_at(first.len());
+    expect_unshared(alloc, new, own)?;
     if !within_limits(on.rows(), labels.len()) {
         return Err(OpFault::Refused(Code::Limit));
     }
+    let headings = heading_list(alloc, on.columns_name(), labels)?;
     let axis = Axis::range(alloc, on.rows())?;
     Ok(Extension {
         shape: Shape::Frame,
@@ -191,8 +193,8 @@ fn reset_frame(
 /// 0, 1 and so on. Each level has as many cells as there are rows. The dictionary gives numbers to the
 /// headings of levels without a name.
 ///
-/// `WrongKind` where a level has labels of several kinds, `BadValue` of a heading that would stand
-/// twice, `Limit`. `NoMemory` may come in place of any answer.
+/// `WrongKind` where a level has labels of several kinds, `BadValue(Repeated)` of the heading of a level that another
+/// column has too, `Limit`. `NoMemory` may come in place of any answer.
 #[tactic(auto, using(crate::proofs::Hints::reset_levels))]
 pub fn reset_levels(
     alloc: Global,

@@ -1,12 +1,5 @@
 -- Frames of columns that were read.
-use Rattle.{
-  frame_parts.proofs.Common.{◌≡◌, ◌≢◌, ◌+◌, ◌<◌, refl, ℕ, List, [], ◌∷◌, ◌++◌, map, length, drop, get_or, slice_get, append_assoc, unwrap_or, Option, Some, Ok, All, arith, drop_more, length-map, length-map-range_with_len, All-map, slice_get-get_or, IsSome, Result, Label, Series, Frame, Text, AxisValue, HaveLevels, range_axis, CellBlock, CellColumn, IsSettled, NumberedTable, table_value, tuple_value, heading_value, AreHeadings, IsWhole, table, default_seen, HeadingList, IsSingle, block_column, table_column, table_with, headings_value, columns_value, settled_by},
-  column_core.proofs.cells.Common.{get_or-map},
-  std.specs.List.{AllPairs},
-  meaning_method.specs.{Readers.{frame_of_columns, frame_or_fault}, csv.CsvRead.{CsvValue, CsvRefusal}},
-  csv_frames.specs.{Views.{tuples_seen, columns_seen, csv_seen, PartsFit}, declared.table.CsvTable.{CsvTable}},
-  frame_make.specs.Frames.{headings_of, column_block, frame_of},
-}
+use Rattle.{frame_parts.proofs.Common.{◌≡◌, ◌+◌, ◌<◌, refl, ℕ, List, [], ◌∷◌, ◌++◌, map, length, drop, get_or, slice_get, append_assoc, unwrap_or, Option, Some, Ok, All, arith, drop_more, length-map, length-map-range_with_len, All-map, slice_get-get_or, IsSome, Result, Label, Series, Frame, Text, AxisValue, HaveLevels, range_axis, CellBlock, CellColumn, IsSettled, NumberedTable, table_value, tuple_value, heading_value, AreHeadings, IsWhole, table, default_seen, HeadingList, IsSingle, block_column, table_column, table_with, headings_value, columns_value, settled_by}, meaning_method.specs.{Readers.{frame_of_columns, frame_or_fault}, csv.CsvRead.{CsvValue, CsvRefusal}}, csv_frames.specs.{Views.{tuples_seen, columns_seen, csv_seen, PartsFit}, declared.table.CsvTable.{CsvTable}}, frame_make.specs.Frames.{headings_of, column_block, frame_of}}
 
 abbrev pub first_label : List Label → Option Label
 first_label tuple = slice_get tuple 0
@@ -58,30 +51,15 @@ some_first : (tuple : List Label) → length tuple ≡ 1 → IsSome (first_label
 some_first [] one = search
 some_first (l ∷ ls) _ = refl
 
-tuple_same : (a b : List Label) → length a ≡ 1 → length b ≡ 1 → first_label a ≡ first_label b → a ≡ b
-tuple_same [] b one other same = search
-tuple_same (x ∷ xs) [] one other same = search
-tuple_same (x ∷ []) (y ∷ []) one other same = cc
-tuple_same (x ∷ x' ∷ xs) b one other same = search
-tuple_same (x ∷ []) (y ∷ y' ∷ ys) one other same = search
-
-labels_apart : (labels : List (List Label)) → HaveLevels 1 labels → AllPairs (λ a b. a ≢ b) labels → AllPairs (λ a b. a ≢ b) (map first_label labels)
-labels_apart labels single apart i j d lt below =
-    let count : length (map first_label labels) ≡ length labels = search length-map in
-    let before : j < length labels = omega (arith, below, count) in
-    λ same. apart i j [] lt before
-    (grind (arith, tuple_same, get_or-map))
-
 no_series : Frame ≡ Series → ⊥
 no_series e = cc
 
-headings_fit : (labels : List (List Label)) → HaveLevels 1 labels → AllPairs (λ a b. a ≢ b) labels → AreHeadings Frame (headings_of labels).columns_name (headings_of labels).labels
-headings_fit labels single apart =
+headings_fit : (labels : List (List Label)) → HaveLevels 1 labels → AreHeadings Frame (headings_of labels).columns_name (headings_of labels).labels
+headings_fit labels single =
     record {
       single = λ e. absurd (no_series e);
       nameless = λ e. absurd (no_series e);
       labelled = λ e. All-map IsSome first_label labels (search some_first);
-      different = search labels_apart;
     }
 
 rows_count : (n : ℕ) → length (range_axis n).tuples ≡ n

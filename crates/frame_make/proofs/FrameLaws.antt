@@ -1,17 +1,6 @@
 -- Series of scalars.
 use mathlib.Core.Former.{Count}
-use Rattle.{
-  frame_parts.{proofs.Common.{column_seen, ◌≡◌, refl, ℕ, zero, suc, List, ◌++◌, length, replicate, Option, None, Result, Ok, Err, arith, ◌+◌, [], ◌∷◌, drop, slice_get, add-one, Some, All, ◌<◌, ap, Bool, get_or, append_assoc, ◌≤◌, sym, map, ◌∙◌, true, false, ◌≢◌, if◌then◌else◌, length-map, map-append, length-map-range_with_len, All-nil, All-cons, All-map, All-tail, All-push, All-head, nat_tests, slice_get_within, get_or_from_slice_get, slice_get-get_or, drop-cons, IfOk, keys_of, option_map, list_all, IsDistinct, Kind, Label, Cell, Frame, AreDistinct, Text, CellValue, LabelValue, AreGiven, IsLonger, label_datum, datum, FaultValue, then_value, bad_value, limit, wrong_kind, cell_label, AxisValue, nameless_axis, range_axis, single_tuples, CellColumn, CellBlock, IsSettled, ColumnOf, NumberedTable, Table, table_value, heading_value, tuple_value, Entry, table, Given, scalar_in, GivenList, many, list_in, dict_in, AreHeadings, IsWhole, limited, try_all, within_limits, list_column, with_pair, pairs_onto, pairs_in, cells_of, labels_of, MakesBy, block_value, blocks_value, refused_on, same_by_number, Item, Row' as RowItem', Row_of-Item, end_of-Item, more_of-Item, Argument, Many, Object, Scalar, Named, OpFault, headings_value, Makes, labels_value, columns_of, IsSingle, HaveRows, single_block, table_column, HeadingList, table_of, Tables, entries_of, item_of, items_of, items_row, argument_of, arguments_of, World, arguments_in, AreKnownArguments, seen_later, cells_settled, longer_twice}, specs.form.Make.{cast_to, nameless, series_table, row_labels, index_labels, AreAlike, level_count, few_levels, frame_table, is_scalar_list, cells_given, all_of_length, frame_of, kind_given}},
-  column_core.{proofs.cells.Common.{get_or-map, OnOk}, specs.cells.Fault.{length_of}},
-  std.{proofs.{Common.{Bor}, lemmas.{List.Elements.{All-rest}, Option.{slice_get_cases}, Map.Made.{AllPairs-from_IsDistinct}}}, specs.{Map.{values_of}, List.{AllPairs}}},
-  cell_core.specs.contracts.cell.LabelPartialEq.TheImpl.{eq-value},
-  frame_store.specs.{tables.Value.{tuple_in}, declared.arguments.Item.{One as OneItem}, Parts.{AreBelow}},
-  meaning_call.{specs.{Binding.{each, is_scalar}, declared.Parameter.{Parameter}, Signature.{function_parameters}, Functions.{series_call, frame_call}}, proofs.IndexLaws.{GivesAlike, index_taken}},
-  frame_signatures.{specs.{Scalars.{scalars}, Bound.{stands_at, Tells, IsBound}, declared.bound.Bound.{Bound}}, proofs.{ScalarLaws.{scalars_are, items_settled}, ToldLaws.{some_same, told_settled, name_given}}},
-  frame_make.specs.{Index.{index_given, IsUnnamed, rows_labels, GivesLevels}, Scalars.{made_series}, Made.{axis_labels, labels_within, indexed, series_with, same_rows, common_rows, labels_for, listed_labels, free_labels, frame_labels, frame_with, frame_from}, Pairs.{AreSettledKeys, AreSettledLabels, value_in, entries_seen, list_seen, lists_seen, listed_column, scalars_in, key_headings, AreSettledLists}},
-  multi_index.proofs.index_core.NumberLaws.{label_decides},
-  indexmap.specs.IndexMap.{insert_entry},
-}
+use Rattle.{frame_parts.{proofs.Common.{column_seen, ◌≡◌, refl, ℕ, zero, suc, List, ◌++◌, length, replicate, Option, None, Result, Ok, Err, arith, ◌+◌, [], ◌∷◌, drop, slice_get, add-one, Some, All, ◌<◌, ap, Bool, get_or, append_assoc, ◌≤◌, sym, map, ◌∙◌, true, false, if◌then◌else◌, length-map, map-append, length-map-range_with_len, All-nil, All-cons, All-map, All-tail, All-push, All-head, nat_tests, slice_get_within, get_or_from_slice_get, slice_get-get_or, drop-cons, IfOk, keys_of, option_map, list_all, Kind, Label, Cell, Frame, AreDistinct, Text, CellValue, LabelValue, AreGiven, IsLonger, label_datum, datum, FaultValue, then_value, bad_value, limit, wrong_kind, cell_label, AxisValue, nameless_axis, range_axis, single_tuples, CellColumn, CellBlock, IsSettled, ColumnOf, NumberedTable, Table, table_value, heading_value, tuple_value, Entry, table, Given, scalar_in, GivenList, many, list_in, dict_in, AreHeadings, IsWhole, limited, try_all, within_limits, list_column, with_pair, pairs_onto, pairs_in, cells_of, labels_of, MakesBy, block_value, blocks_value, refused_on, same_by_number, Item, Row' as RowItem', Row_of-Item, end_of-Item, more_of-Item, Argument, Many, Object, Scalar, Named, OpFault, headings_value, Makes, labels_value, columns_of, IsSingle, HaveRows, single_block, table_column, HeadingList, table_of, Tables, entries_of, item_of, items_of, items_row, argument_of, arguments_of, World, arguments_in, AreKnownArguments, seen_later, cells_settled, longer_twice}, specs.form.Make.{cast_to, nameless, series_table, row_labels, index_labels, AreAlike, level_count, few_levels, frame_table, is_scalar_list, cells_given, all_of_length, frame_of, kind_given}}, column_core.{proofs.cells.Common.{OnOk}, specs.cells.Fault.{length_of}}, std.{proofs.{Common.{Bor}, lemmas.{List.Elements.{All-rest}, Option.{slice_get_cases}}}, specs.{Map.{values_of}}}, cell_core.specs.contracts.cell.LabelPartialEq.TheImpl.{eq-value}, frame_store.specs.{tables.Value.{tuple_in}, declared.arguments.Item.{One as OneItem}, Parts.{AreBelow}}, meaning_call.{specs.{Binding.{each, is_scalar}, declared.Parameter.{Parameter}, Signature.{function_parameters}, Functions.{series_call, frame_call}}, proofs.IndexLaws.{GivesAlike, index_taken}}, frame_signatures.{specs.{Scalars.{scalars}, Bound.{stands_at, Tells, IsBound}, declared.bound.Bound.{Bound}}, proofs.{ScalarLaws.{scalars_are, items_settled}, ToldLaws.{some_same, told_settled, name_given}}}, frame_make.specs.{Index.{index_given, IsUnnamed, rows_labels, GivesLevels}, Scalars.{made_series}, Made.{axis_labels, labels_within, indexed, series_with, same_rows, common_rows, labels_for, listed_labels, free_labels, frame_labels, frame_with, frame_from}, Pairs.{AreSettledKeys, AreSettledLabels, value_in, entries_seen, list_seen, lists_seen, listed_column, scalars_in, key_headings, AreSettledLists}}, multi_index.proofs.index_core.NumberLaws.{label_decides}, indexmap.specs.IndexMap.{insert_entry}}
 use Rattle.frame_make.specs.Made as meant
 use Rattle.frame_parts.specs.form.Make as make
 use Rattle.meaning_call.specs.declared.Function.TheVariants as function
@@ -350,19 +339,13 @@ module _ (texts : List Text) where
   lists_settled _ _ [] _ = refl
   lists_settled more pairs (place ∷ places) all = grind (arith, lists_settled more pairs places all, slice_get_cases pairs place, all place)
 
--- labels of columns, which differ
-some_apart : (ks : List Label) → AllPairs (λ a b. a ≢ b) ks → AllPairs (λ a b. a ≢ b) (key_headings ks).labels
-some_apart ks apart i j d lt below = grind (arith, get_or-map, length-map, apart i j)
-
-pub keys_fit : (ks : List Label) (headings : HeadingList) → IsDistinct same_number ks → headings ≡ key_headings ks → AreHeadings Frame headings.columns_name headings.labels
-keys_fit _ _ distinct is =
-    rw is
-    (record {
-      single = λ e. cc;
-      nameless = λ e. cc;
-      labelled = λ e. search All-map;
-      different = λ e. search (some_apart, AllPairs-from_IsDistinct label_decides);
-    })
+-- labels of columns
+keys_fit : (ks : List Label) → AreHeadings Frame (key_headings ks).columns_name (key_headings ks).labels
+keys_fit ks = record {
+  single = λ e. cc;
+  nameless = λ e. cc;
+  labelled = λ e. search All-map;
+}
 
 -- the columns are those of the keys
 made_count : {A B : Type 0} (f : A → Result B FaultValue) (xs : List A) (ys : List B) → try_all f xs ≡ Ok ys → length xs ≡ length ys
@@ -383,12 +366,12 @@ module _ (texts : List Text) (pairs : Pairs) (es : Places) (index : Option (Bor 
     rows_refused _ refused live = rw (frame_seen live, columns texts) (grind (arith, refused_on))
 
     module _ (axis : AxisValue) (labelled : record { names : IsUnnamed axis; rows : HaveRows (length axis.tuples) (columns_of blocks); labels : (texts : List Text) → frame_labels (blocks_value texts blocks) (index_given texts index) ≡ Ok (axis_labels texts axis) })
-        (headings : HeadingList) (headed : record { labels : headings ≡ key_headings (keys_of es); different : AreHeadings Frame headings.columns_name headings.labels }) where
+        (headings : HeadingList) (headed : headings ≡ key_headings (keys_of es)) where
       pub frame_whole : IsWhole (table_of Frame axis headings blocks)
-      frame_whole = grind (arith, length-map, made_count, columns [])
+      frame_whole = grind (arith, length-map, made_count, columns [], keys_fit)
 
       frame_at : (texts : List Text) → frame_with (labels_seen texts (keys_of es)) (lists_seen texts pairs (values_of es)) (index_given texts index) ≡ Ok (table (table_value texts (table_of Frame axis headings blocks)))
-      frame_at texts = rw headed.labels (cc (columns texts, labelled.labels texts, names_seen texts axis labelled.names, headings_seen texts (keys_of es)))
+      frame_at texts = rw headed (cc (columns texts, labelled.labels texts, names_seen texts axis labelled.names, headings_seen texts (keys_of es)))
 
       pub frame_made : (made : NumberedTable) → made ≡ table_of Frame axis headings blocks → AreSettledLists texts pairs → IsSettled index_given texts index → (live : Tables) → Makes texts (Ok made) (frame_from (pairs_in (entries_of live texts pairs)) (index_given texts index))
       frame_made _ is lists given live = rw is (

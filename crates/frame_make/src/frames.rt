@@ -4,7 +4,6 @@ ghost use Rattle.indexmap.specs.IndexMap.{keys};
 ghost use Rattle.cell_core.specs.declared.grid.Shape.TheVariants.{Frame};
 ghost use Rattle.column_core.specs.cells.Text.{Text as OneText};
 ghost use Rattle.frame_store.specs.tables.Settled.{IsSettled};
-ghost use Rattle.frame_store.specs.tables.Valid.{AreHeadings};
 ghost use Rattle.frame_parts.specs.form.Make as make;
 ghost use Rattle.frame_parts.specs.Makes.{MakesBy, blocks_value};
 ghost use Rattle.frame_store.specs.Arguments.{entries_of};
@@ -83,8 +82,7 @@ fn frame_axis(
 
 // The keys as the labels of columns.
 fn key_headings(alloc: Global, places: &IndexMap<Label, usize>) -> Result<Headings, NoMemory>
-    ensures labels { IfOk result (λ made. made ≡ key_headings (keys places.now)) }
-    ensures different { IfOk result (λ made. AreHeadings Frame made.columns_name made.labels) }
+    ensures { IfOk result (λ made. made ≡ key_headings (keys places.now)) }
 {
     let mut headings = Headings::new(alloc, None);
     for label in places.keys() {

@@ -1,14 +1,18 @@
 -- The arguments of `merge`, the columns of two frames whose cells are the keys, and the labels of all columns beside one another.
 use Rattle.{
-  frame_parts.proofs.Common.{drop_more, get_or_default, map-append, take_more, length-map, list_any_at, list_any_none, list_any-append, same_Some, get_or_from_slice_get, slice_get_within, and_parts, nat_tests, rules, ◌≡◌, ◌+◌, ◌<◌, ◌≤◌, sym, ℕ, true, false, nat_eq, List, length, slice_get, slice_index_or, Some, arith, refl, Bool, ◌||◌, [], ◌∷◌, ◌++◌, map, take, Option, if◌then◌else◌, ◌∙◌, ap, zero, suc, ◌&&◌, filter, drop, None, Result, Ok, Err, nat_lt, get_or-map, position_or_len, list_any, range_with_len, codes, filter_map, IfSome, IsKnownTable, World, AreKnownArguments, headings_value, cells_value, Makes, table_column, Named, OpFault, ObjId, object_value, Tables, settled_later, seen_later, headings_part, Label, Cell, Kind, Frame, AreDistinct, IsLonger, Text, LabelValue, datum, label_datum, CellValue, cell_label, FaultValue, bad_value, limit, then_value, IsSettled, NumberedTable, Table, table_value, heading_value, column_at, Entry, cell, Given, GivenList, one, no_given, more_given, object_in, kind_itself, heading_at, cells_of, try_all, same_kind, on, CellColumn, MakesBy},
-  column_core.{proofs.cells.Common.{position_or_len_is, ⊎_elim, option_map}, specs.cells.Fault.{key_kinds}},
-  std.proofs.lemmas.List.{append_assoc},
+  frame_parts.proofs.Common.{take_all, drop_more, get_or_default, map-append, take_more, length-map, list_any_at, list_any_none, list_any-append, same_Some, get_or_from_slice_get, slice_get_within, and_parts, nat_tests, rules, ◌≡◌, ◌+◌, ◌<◌, ◌≤◌, sym, ℕ, true, false, nat_eq, List, length, slice_get, slice_index_or, Some, arith, refl, Bool, ◌||◌, [], ◌∷◌, ◌++◌, map, take, Option, if◌then◌else◌, ◌∙◌, ap, zero, suc, ◌&&◌, filter, drop, None, Result, Ok, Err, nat_lt, get_or-map, position_or_len, list_any, range_with_len, codes, filter_map, IfSome, IsKnownTable, World, AreKnownArguments, headings_value, cells_value, Makes, table_column, Named, OpFault, ObjId, object_value, Tables, settled_later, seen_later, headings_part, Label, Cell, Kind, Frame, AreDistinct, IsLonger, Text, LabelValue, datum, label_datum, CellValue, cell_label, FaultValue, bad_value, limit, then_value, IsSettled, NumberedTable, Table, table_value, heading_value, column_at, Entry, cell, Given, GivenList, one, no_given, more_given, object_in, kind_itself, heading_at, cells_of, try_all, same_kind, on, CellColumn, MakesBy, All, All-filter, filter-append, distinct, distinct_map, IsWhole, unless_repeated, heading_label, Refused, NoMemory},
+  column_core.{proofs.cells.Common.{position_or_len_is, ⊎_elim, option_map, append-nil, IsEquivalence}, specs.cells.Fault.{key_kinds}},
+  std.{proofs.lemmas.List.{append_assoc, Elements.{All-from_get_or}}, specs.Cmp.Lexicographic.{options_equiv}},
+  cell_core.specs.contracts.cell.LabelEq.TheImpl.Laws.{laws-law},
+  multi_index.proofs.{DistinctLaws.{distinct_push, distinct_has, all_distinct}, LevelLaws.{maps_alike}},
+  frame_parts.{proofs.align.SeenLaws.{filter_map as images_filtered}, specs.form.Select.{first_columns, label_of_several}},
   frame_store.proofs.tables.KindLaws.{kind_is},
-  frame_labels.{specs.{method.{Merge.{is_key, MergeKeys, suffixed_heading, right_places, kinds_at, are_same_kinds, merged_rows, how_named, validate_in, merge_result}, Rows.{all_places, places_besides}, Levels.{label_cell}}, LevelColumns.{cell_of}}, proofs.IndexingLaws.{headings_seen, headings_settled}},
+  frame_labels.{specs.{method.{Merge.{is_key, MergeKeys, suffixed_heading, right_places, kinds_at, are_same_kinds, merged_rows, how_named, validate_in, merge_result, keys_named, keys_under, keys_on, keys_of_merge, checked_keys, common_labels, common_headings as texts_common}, Rows.{all_places, places_besides}, Levels.{label_cell}}, LevelColumns.{cell_of}}, proofs.IndexingLaws.{headings_seen, headings_settled}},
   indexmap.specs.IndexSet.{insert_key},
   meaning_call.specs.{declared.{Method.TheVariants.{Other}, OtherMethod.TheVariants.{Merge}, Parameter.{Parameter}}, Signature.{parameters_of, needed, optional}, Binding.{each, is_scalar, count_of, takes, text_in}},
-  frame_select.{specs.{Headings.{same_heading}, Selected.{heading_of, headings_at}}, proofs.{HeadingLaws.{heading_decides, same_seen, head_settled, rest_settled}, PlaceLaws.{heading_seen, heading_settled}, AnswerLaws.{column_seen}, PickedLaws.{list_is}}},
-  frame_merge.specs.{Headings.{AreAmong, label_beside, merged_headings}, declared.keys.MergeKeys.{MergeKeys as NumberedKeys}, Keys.{keys_value, cell_labels, keys_told, keys_checked, kinds_of, AreMergeKeys, keys_seen, labels_on}, Calls.{IsMergeCall}},
+  frame_select.{specs.{Headings.{same_heading, NamesRepeated}, Selected.{heading_of, headings_at}, declared.labels.Named.{Named as NamedColumns}}, proofs.{HeadingLaws.{heading_decides, same_seen, head_settled, rest_settled, repeated_settled}, PlaceLaws.{heading_seen, heading_settled}, AnswerLaws.{column_seen}, PickedLaws.{list_is}}},
+  frame_merge.specs.{Headings.{AreAmong, label_beside, merged_headings}, declared.keys.MergeKeys.{MergeKeys as NumberedKeys}, Keys.{keys_value, cell_labels, common_headings, keys_told, keys_checked, kinds_of, AreMergeKeys, keys_seen, labels_on}, Calls.{IsMergeCall}},
+  frame_store.specs.tables.Value.{nothing},
   meaning_join.specs.declared.{How.{How}, Validate.{Validate}},
   frame_signatures.{specs.{Bound.{given_in, stands_at, IsBound}, declared.bound.Bound.{Bound as BoundArguments}}, proofs.RuleLaws.{filled}},
 }
@@ -19,6 +23,9 @@ use Rattle.meaning_call.specs.declared.Omitted.TheVariants as omitted
 
 abbrev Headings : Type 0
 Headings = List (Option Label)
+
+abbrev refused : {X : Type 0} → OpFault → Result X OpFault
+refused fault = Err fault
 
 module _ (keys : List ℕ) (column place there : ℕ) (lt : place < length keys) (at : slice_get keys place ≡ Some there) where
   here : column ≡ there → nat_eq column (slice_index_or keys place 0) ≡ true
@@ -123,29 +130,81 @@ cell_is = grind arith
 all_headings : (t : NumberedTable) (places : List ℕ) (count : ℕ) → places ≡ range_with_len 0 count → count ≡ length t.headings → headings_at t places ≡ t.headings
 all_headings t _ _ are is = ap (headings_at t) (are ∙ ap (range_with_len 0) is) ∙ list_is (λ place. slice_index_or t.headings place None) t.headings 0 None (λ k lt. grind arith)
 
--- whether the other side has a heading, by numbers and by texts
-pub common_by : (texts : List Text) (l r : NumberedTable) (places : List ℕ) (count : ℕ) (set : Headings) → AreDistinct texts → IsKnownTable texts l → IsKnownTable texts r → places ≡ range_with_len 0 count → count ≡ length r.columns
-    → AreAmong set (headings_at r places) → (h : Option Label) (label : Label) → IsSettled heading_value texts h → h ≡ Some label → list_any (same_heading (Some label)) set ≡ list_any (finish.same_heading (heading_value texts h)) (headings_value texts r.headings)
-common_by _ l r _ _ _ distinct of_left of_right are is set_is h _ settled some = cc (is_among _ distinct l r of_left.given of_right.given _ _ set_is h settled, headings_seen _ r _, all_headings r _ _ are (is ∙ sym of_right.whole.headed), some)
+-- a set of them has just the headings
+pub all_among : (t : NumberedTable) (places : List ℕ) (count : ℕ) (set : Headings) → IsWhole t → places ≡ range_with_len 0 count → count ≡ length t.columns → AreAmong set (headings_at t places) → AreAmong set t.headings
+all_among t places count set whole are is among = λ h. among h ∙ ap (list_any (same_heading h)) (all_headings t places count are (is ∙ sym whole.headed))
 
--- one common label more, and one that the other side hasn't
-abbrev pub is_common : List (Option LabelValue) → Option LabelValue → Bool
-is_common others h = list_any (finish.same_heading h) others
+-- headings that both sides have, one more of them
+abbrev pub is_common : Headings → Option Label → Bool
+is_common others h = list_any (same_heading h) others
 
-module _ (texts : List Text) (hs : Headings) (others : List (Option LabelValue)) (place : ℕ) (h : Option Label) (lt : place < length hs) (is : h ≡ slice_index_or hs place None) where
+heading_laws : IsEquivalence same_heading
+heading_laws = options_equiv laws-law
+
+module _ (hs others keys : Headings) (place : ℕ) (h : Option Label) (lt : place < length hs) (is : h ≡ slice_index_or hs place None) (before : keys ≡ distinct same_heading (filter (is_common others) (take place hs))) where
+  pub common_more : (keys' : Headings) → is_common others h ≡ true → keys' ≡ insert_key same_heading keys h → keys' ≡ distinct same_heading (filter (is_common others) (take (place + 1) hs))
+  common_more _ there put = grind (arith, take_more hs place None lt, filter-append, distinct_push, distinct_has same_heading heading_laws, append-nil)
+
+  pub common_passed : is_common others h ≡ false → keys ≡ distinct same_heading (filter (is_common others) (take (place + 1) hs))
+  common_passed gone = grind (arith, take_more hs place None lt, filter-append, append-nil)
+
+pub all_common : (hs others keys : Headings) (count : ℕ) → count ≡ length hs → keys ≡ distinct same_heading (filter (is_common others) (take count hs)) → keys ≡ distinct same_heading (filter (is_common others) hs)
+all_common hs others keys count is are = are ∙ ap (λ (xs : Headings). distinct same_heading (filter (is_common others) xs)) (take_all count hs (omega (arith, is)))
+
+-- with their texts
+module _ (texts : List Text) (l r : NumberedTable) (distinct_texts : AreDistinct texts) (of_left : IsKnownTable texts l) (of_right : IsKnownTable texts r) where
+  abbrev both : Headings
+  both = filter (is_common r.headings) l.headings
+
+  both_given : All (IsSettled heading_value texts) both
+  both_given =
+      let given = headings_part _ l of_left.given in
+      All-filter _ (IsSettled heading_value texts) _ (All-from_get_or (IsSettled heading_value texts) l.headings None (λ k lt. heading_settled texts l.headings k _ refl given))
+
+  pub common_seen : headings_value texts (common_headings l r) ≡ texts_common (table_value texts l) (table_value texts r)
+  common_seen =
+      let given = headings_part _ l of_left.given in
+      let P = IsSettled heading_value texts in
+      let all : All P l.headings = All-from_get_or P l.headings None (λ k lt. heading_settled texts l.headings k _ refl given) in
+      let kept = images_filtered (heading_value texts) P (is_common r.headings) (λ h. list_any (finish.same_heading h) (headings_value texts r.headings))
+      (λ h here. sym (any_seen texts h r.headings distinct_texts here (headings_part _ r of_right.given))) l.headings all in
+      sym (ap (distinct finish.same_heading) kept ∙ distinct_map (heading_value texts) P same_heading finish.same_heading (λ x y f g. sym (same_seen texts x y distinct_texts f g)) both both_given)
+
+  pub common_given : IsSettled headings_value texts (common_headings l r)
+  common_given = λ more. maps_alike (IsSettled heading_value texts) _ _ (λ h here. here more) _ (all_distinct (IsSettled heading_value texts) same_heading both both_given)
+
+-- the label of a heading as a cell
+module _ (texts : List Text) (hs : Headings) (place : ℕ) (h : Option Label) (lt : place < length hs) (is : h ≡ slice_index_or hs place None) where
   abbrev rest : ℕ → List LabelValue
-  rest n = filter_map (λ h. h) (filter (is_common others) (headings_value texts (drop n hs)))
+  rest n = filter_map (λ h. h) (headings_value texts (drop n hs))
 
-  pub one_more_common : (l : Label) (cells cells' : List Cell) (whole : List LabelValue) → h ≡ Some l → is_common others (heading_value texts h) ≡ true → cells' ≡ cells ++ cell_of l ∷ []
-      → cell_labels texts cells ++ rest place ≡ whole → cell_labels texts cells' ++ rest (place + 1) ≡ whole
-  one_more_common l _ _ _ some there pushed before = grind (arith, drop_more hs place None lt, map-append, append_assoc)
-
-  pub no_more_common : (labels whole : List LabelValue) → is_common others (heading_value texts h) ≡ false → labels ++ rest place ≡ whole → labels ++ rest (place + 1) ≡ whole
-  no_more_common _ _ there before = grind (arith, drop_more hs place None lt)
+  pub label_more : (l : Label) (cells cells' : List Cell) (whole : List LabelValue) → h ≡ Some l → cells' ≡ cells ++ cell_of l ∷ [] → cell_labels texts cells ++ rest place ≡ whole → cell_labels texts cells' ++ rest (place + 1) ≡ whole
+  label_more l _ _ _ some pushed before = grind (arith, drop_more hs place None lt, map-append, append_assoc)
 
 -- the cell of a label whose text was given
 pub cell_given : (texts : List Text) (l : Label) (cells cells' : List Cell) → IsSettled heading_value texts (Some l) → cells' ≡ cells ++ cell_of l ∷ [] → IsSettled cells_value texts cells → IsSettled cells_value texts cells'
 cell_given texts l _ _ here pushed given = rw pushed (λ more. rw (map-append, map-append, given more, cell_is _ l, cell_is _ l, same_Some (label_datum (texts ++ more) l) _ (here more)))
+
+-- the columns that labels name on both sides, of which none may have several columns
+module _ (texts : List Text) (l r : Table) (ls : List LabelValue) (left right : NamedColumns) (of_left : first_columns l ls ≡ Ok left.places) (of_right : first_columns r ls ≡ Ok right.places)
+    (left_several : heading_value texts left.repeated ≡ label_of_several l ls) (right_several : heading_value texts right.repeated ≡ label_of_several r ls) where
+  abbrev named : MergeKeys
+  named = record { left = left.places; right = right.places }
+
+  named_is : keys_named l r ls ≡ unless_repeated (heading_value texts left.repeated) (unless_repeated (heading_value texts right.repeated) (Ok named))
+  named_is = cc (of_left, of_right, left_several, right_several)
+
+  pub left_repeated : IsSettled heading_value texts left.repeated → (fault : OpFault) → NamesRepeated fault left.repeated → MakesBy keys_seen texts (refused {X = NumberedKeys} fault) (keys_named l r ls)
+  left_repeated given (Refused code) (label, is, code_is) = (grind (arith, named_is), repeated_settled texts code label code_is (heading_label texts _ label is given))
+  left_repeated given NoMemory _ = tt
+
+  module _ (none : left.repeated ≡ None) where
+    pub right_repeated : IsSettled heading_value texts right.repeated → (fault : OpFault) → NamesRepeated fault right.repeated → MakesBy keys_seen texts (refused {X = NumberedKeys} fault) (keys_named l r ls)
+    right_repeated given (Refused code) (label, is, code_is) = (grind (arith, named_is), repeated_settled texts code label code_is (heading_label texts _ label is given))
+    right_repeated given NoMemory _ = tt
+
+    pub each_named : right.repeated ≡ None → keys_named l r ls ≡ Ok named
+    each_named none_right = grind (arith, named_is)
 
 -- kinds
 kinds_seen : (texts : List Text) (t : NumberedTable) (places : List ℕ) → kinds_at (table_value texts t) places ≡ kinds_of t places
@@ -233,10 +292,26 @@ told_some w b (Some cells) h tells =
     let some = rw (← tells w.tables w.texts) at (labels_some w b h) in
     omega (arith, some, length-map (cells_value w.texts cells) cell_label, length-map cells (datum w.texts))
 
--- what is meant, by the tables that are read
-abbrev refused : {X : Type 0} → OpFault → Result X OpFault
-refused fault = Err fault
+-- the labels that `on` names, and what is read of the arguments
+keys_on_is : (l r : Table) (g : Given) → keys_on l r g ≡ keys_told l r (labels_on g)
+keys_on_is l r nothing = refl
+keys_on_is l r _ = refl
 
+abbrev answer_by : Table → Option Table → Option Text → Given → Option Text → Result Entry FaultValue
+answer_by l right h labels once = on right (λ r. on h (λ t. then_value (keys_of_merge l r labels) (merged_rows l r (how_named t) (validate_in once))))
+
+-- labels that both sides have, some at least
+keys_under_some : (l r : Table) (ls : List LabelValue) → (length ls ≡ 0 → ⊥) → keys_under l r ls ≡ keys_named l r ls
+keys_under_some l r [] some = absurd (some refl)
+keys_under_some l r (x ∷ ls) some = refl
+
+pub told_common : (texts : List Text) (l r : Table) (told : Option (List Cell)) (cells : List Cell) → told ≡ None → cell_labels texts cells ≡ common_labels l r → (length cells ≡ 0 → ⊥) → keys_told l r (option_map (cell_labels texts) told) ≡ keys_named l r (cell_labels texts cells)
+told_common texts l r told cells none are some =
+    ap (λ (t : Option (List Cell)). keys_told l r (option_map (cell_labels texts) t)) none
+    ∙ keys_under_some l r (common_labels l r) (λ is. some (sym (length-map cells (datum texts)) ∙ sym (length-map (cells_value texts cells) cell_label) ∙ ap length are ∙ is))
+    ∙ ap (keys_named l r) (sym are)
+
+-- what is meant, by the tables that are read
 module _ (w : World) (b : BoundArguments) (h : IsMergeCall w b) (on other : ObjId) (l r : NumberedTable) (left_at : w.tables on.0 ≡ Some l) (right_at : w.tables other.0 ≡ Some r) (right_is : (live : Tables) (texts : List Text) → Some (object_value live texts other) ≡ object_in (stands_at live texts b 0))
     (t : Text) (text_is : (live : Tables) → Some t ≡ text_in (stands_at live w.texts b 1)) (how : How) (how_is : how ≡ how_named t) (told : Option (List Cell)) (told_is : AreTold b told) where
   abbrev left_frame : Table
@@ -251,8 +326,24 @@ module _ (w : World) (b : BoundArguments) (h : IsMergeCall w b) (on other : ObjI
   abbrev meant : Result Entry FaultValue
   meant = merge_result (object_value w.tables w.texts on) (given_in w b)
 
+  abbrev stands : ℕ → Given
+  stands place = stands_at w.tables w.texts b place
+
+  given_is : given_in w b ≡ stands 0 ∷ stands 1 ∷ stands 2 ∷ stands 3 ∷ []
+  given_is = grind (arith, h.parameters)
+
+  left_is : object_value w.tables w.texts on ≡ left_frame
+  left_is = grind (arith, left_at)
+
+  right_frame_is : object_in (stands 0) ≡ Some right_frame
+  right_frame_is = grind (arith, right_at, right_is w.tables w.texts)
+
   read_is : (once : Validate) → once ≡ validate_in (text_in (stands_at w.tables w.texts b 3)) → meant ≡ then_value checked (merged_rows left_frame right_frame how once)
-  read_is = grind (arith, right_is w.tables w.texts, text_is w.tables, told_is w.tables w.texts)
+  read_is once is =
+      ap (merge_result (object_value w.tables w.texts on)) given_is
+      ∙ (λ i. answer_by (left_is i) (right_frame_is i) (sym (text_is w.tables) i) (stands 2) (text_in (stands 3)))
+      ∙ (λ i. then_value (then_value (keys_on_is left_frame right_frame (stands 2) i) (checked_keys left_frame right_frame)) (merged_rows left_frame right_frame (sym how_is i) (sym is i)))
+      ∙ ap (λ (told : Option (List LabelValue)). then_value (keys_checked left_frame right_frame told) (merged_rows left_frame right_frame how once)) (sym (told_is w.tables w.texts))
 
   pub keys_refused : (fault : OpFault) → MakesBy keys_seen w.texts (refused {X = NumberedKeys} fault) checked → Makes w.texts (Err fault) meant
   keys_refused = grind (arith, read_is _ refl)

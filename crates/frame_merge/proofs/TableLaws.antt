@@ -1,14 +1,5 @@
 -- The columns of joined rows, and the frame of them.
-use Rattle.{
-  frame_parts.proofs.Common.{drop_more, length-map, map-append, take_more, length-append, map-range_with_len_more, length-map-range_with_len, All-map, All-append, All-filter, length-range_with_len, slice_get_within, get_or_from_slice_get, nat_tests, ◌-◌, ◌&&◌, ◌≡◌, ◌∙◌, ◌+◌, ap, refl, sym, arith, ℕ, suc, false, List, [], ◌∷◌, ◌++◌, map, take, drop, length, slice_get, All, Option, Some, None, append_assoc, nat_eq, Result, filter, ◌^◌, ◌<◌, subst, true, slice_index_or, Ok, Err, get_or-map, range_with_len, position_or_len, IfSome, IsSome, on_rows_seen, default_seen, map-map as map_map, Cell, Na, Label, Limit, Frame, AreDistinct, IsLonger, Text, CellValue, na_cell, datum, LabelValue, FaultValue, fault_of, IsSettled, ColumnOf, Table, column_at, column_value, NumberedTable, table_value, heading_value, Entry, IsWhole, columns_value, headings_value, Makes, IsKnownTable, OpFault, Refused, NoMemory, HeadingList, columns_of, table_of, table_settled, settled_later, seen_later, columns_part, CellBlock, AxisValue, range_axis, within_limits, limited, unless_repeated, default_labels, common_name, heading_at},
-  std.proofs.Common.{min, nat_le},
-  frame_select.{proofs.{AnswerLaws.{column_seen}, HeadingLaws.{repeated_seen}, RefusalLaws.{repeated_settled}}, specs.Headings.{NamesRepeated, repeated_heading}},
-  meaning_join.specs.{Pairs.{Pair}, declared.{How.{How}, Validate.{Validate}}},
-  frame_labels.{specs.method.{Rows.{all_places}, Merge.{MergeKeys, is_key, right_key, right_places, key_cell, left_column, column_of_side, suffixed_heading, merged, merged_rows}}, proofs.{NamedLaws.{is_other, others_meant}, TableLaws.{limited_within, frame_heads}}},
-  frame_merge.specs.{Columns.{key_cell_at, key_cells, column_on, joined_or_left, left_column_on, merged_columns}, declared.keys.MergeKeys.{MergeKeys as NumberedKeys}, Keys.{keys_value, AreMergeKeys}, Rows.{MeetsBy, AreRowsMet, repeated_in, pairs_in}, Headings.{merged_headings}},
-  factorize.proofs.sorting.RankLaws.{below_range},
-  merge_concat.specs.{declared.pairs.Pairs.{Pairs}, Pairs.{ArePairs}},
-}
+use Rattle.{frame_parts.proofs.Common.{drop_more, length-map, map-append, take_more, length-append, map-range_with_len_more, length-map-range_with_len, All-map, All-append, All-filter, length-range_with_len, slice_get_within, get_or_from_slice_get, nat_tests, ◌-◌, ◌&&◌, ◌≡◌, ◌∙◌, ◌+◌, ap, refl, sym, arith, ℕ, suc, false, List, [], ◌∷◌, ◌++◌, map, take, drop, length, slice_get, All, Option, Some, None, append_assoc, nat_eq, Result, filter, ◌^◌, ◌<◌, subst, true, slice_index_or, Ok, Err, get_or-map, range_with_len, position_or_len, IfSome, IsSome, on_rows_seen, default_seen, map-map as map_map, Cell, Na, Label, Limit, Frame, IsLonger, Text, CellValue, na_cell, datum, LabelValue, FaultValue, IsSettled, ColumnOf, Table, column_at, column_value, NumberedTable, table_value, heading_value, Entry, IsWhole, columns_value, headings_value, Makes, IsKnownTable, Refused, HeadingList, columns_of, table_of, table_settled, settled_later, seen_later, columns_part, CellBlock, AxisValue, range_axis, within_limits, limited, default_labels, common_name, heading_at}, std.proofs.Common.{min, nat_le}, frame_select.proofs.AnswerLaws.{column_seen}, meaning_join.specs.{Pairs.{Pair}, declared.{How.{How}, Validate.{Validate}}}, frame_labels.{specs.method.{Rows.{all_places}, Merge.{MergeKeys, is_key, right_key, right_places, key_cell, left_column, column_of_side, suffixed_heading, merged, merged_rows}}, proofs.{NamedLaws.{is_other, others_meant}, TableLaws.{limited_within, frame_heads}}}, frame_merge.specs.{Columns.{key_cell_at, key_cells, column_on, joined_or_left, left_column_on, merged_columns}, declared.keys.MergeKeys.{MergeKeys as NumberedKeys}, Keys.{keys_value, AreMergeKeys}, Rows.{MeetsBy, AreRowsMet, repeated_in, pairs_in}, Headings.{merged_headings}}, factorize.proofs.sorting.RankLaws.{below_range}, merge_concat.specs.{declared.pairs.Pairs.{Pairs}, Pairs.{ArePairs}}}
 use Rattle.frame_labels.specs.method.Merge as meant
 
 -- one column more
@@ -127,10 +118,9 @@ module _ (texts : List Text) where
   some_headings : (hs : List (Option Label)) → All IsSome (headings_value texts hs) → All IsSome hs
   some_headings hs all = λ k d lt. grind (arith, subst IsSome (get_or-map (heading_value texts) hs k d) (all k _ (omega (arith, length-map hs (heading_value texts), lt))))
 
--- the frame that is frame_meant, of rows that are met and labels that are made
-module _ (old new : List Text) (l r : NumberedTable) (numbers : NumberedKeys) (known : record { left : IsKnownTable old l; right : IsKnownTable old r; frames : (l.shape ≡ Frame) × (r.shape ≡ Frame); keys : AreMergeKeys l r numbers }) (how : How) (once : Validate) (most : ℕ) (met : Option Pairs)
-    (found : record { rows : MeetsBy old most (Ok met) (repeated_in once (table_value old l) (table_value old r) (keys_value numbers)) (pairs_in how (table_value old l) (table_value old r) (keys_value numbers)); inside : IfSome met (AreRowsMet l r) }) (distinct : AreDistinct new) (labels slice : List (Option Label))
-    (labelled : record { longer : IsLonger old new; given : IsSettled headings_value new labels; labels : headings_value new labels ≡ merged_headings (table_value old l) (table_value old r) (keys_value numbers) }) (sliced : slice ≡ labels) where
+-- the frame that is meant, of rows that are met
+module _ (old : List Text) (l r : NumberedTable) (numbers : NumberedKeys) (known : record { left : IsKnownTable old l; right : IsKnownTable old r; frames : (l.shape ≡ Frame) × (r.shape ≡ Frame); keys : AreMergeKeys l r numbers }) (how : How) (once : Validate) (most : ℕ) (met : Option Pairs)
+    (found : record { rows : MeetsBy old most (Ok met) (repeated_in once (table_value old l) (table_value old r) (keys_value numbers)) (pairs_in how (table_value old l) (table_value old r) (keys_value numbers)); inside : IfSome met (AreRowsMet l r) }) where
   abbrev L : Table
   L = table_value old l
 
@@ -152,85 +142,80 @@ module _ (old new : List Text) (l r : NumberedTable) (numbers : NumberedKeys) (k
   rows_meant : length frame_meant.labels ≡ length ps
   rows_meant = search length-map-range_with_len
 
-  headed : length frame_meant.columns ≡ length labels
-  headed = grind (arith, length-append, length-map)
+  limited_by : answer ≡ limited frame_meant
+  limited_by = grind (arith, found.rows.0)
 
-  finished_by : (found : Option Label) → repeated_heading slice ≡ found → answer ≡ unless_repeated (heading_value new found) (limited frame_meant)
-  finished_by = grind (arith, repeated_seen new labels distinct labelled.given, found.rows.0, sliced)
+  pub many_so : (rights : List ℕ) (counted_right : ℕ) → rights ≡ filter (is_other keys.right) (range_with_len 0 counted_right) → counted_right ≡ length r.columns → (columns : ℕ) → columns ≡ min (length l.columns + length rights) (2 ^ 64 - 1)
+      → ((rows : ℕ) → within_limits rows columns ≡ (nat_le rows most && nat_le columns (2 ^ 16))) → met ≡ None → Makes old (Err (Refused Limit)) answer
+  many_so rights _ kept right_columns columns sum law is =
+      let many : most < length ps = rw is at found.rows.1 in
+      let others : rights ≡ right_places R keys = others_meant old r _ _ _ kept right_columns in
+      let all : length frame_meant.columns ≡ length l.columns + length rights = grind (arith, length-append, length-map, length-range_with_len, others) in
+      let beyond : within_limits (length ps) (length frame_meant.columns) ≡ false = grind (arith, nat_tests, law (length ps), all) in
+      grind (arith, limited_by, rows_meant, beyond)
 
-  pub repeated_so : (why : OpFault) → NamesRepeated why (repeated_heading slice) → Makes new (Err why) answer
-  repeated_so (Refused code) named =
-      let given : IsSettled headings_value new slice = rw sliced labelled.given in
-      (finished_by _ named.1 ∙ ap (λ c. Err (fault_of new c)) (sym named.2), search repeated_settled)
-  repeated_so NoMemory _ = tt
+  -- with labels that are made
+  module _ (new : List Text) (labels slice : List (Option Label)) (labelled : record { longer : IsLonger old new; given : IsSettled headings_value new labels; labels : headings_value new labels ≡ merged_headings L R keys }) (sliced : slice ≡ labels)
+      (made : Pairs) (some : met ≡ Some made) (count : ℕ) (counted : count ≡ length made.left) where
+    headed : length frame_meant.columns ≡ length labels
+    headed = grind (arith, length-append, length-map)
 
-  module _ (none : repeated_heading slice ≡ None) where
-    pub many_so : (rights : List ℕ) (counted_right : ℕ) → rights ≡ filter (is_other keys.right) (range_with_len 0 counted_right) → counted_right ≡ length r.columns → (columns : ℕ) → columns ≡ min (length l.columns + length rights) (2 ^ 64 - 1)
-        → ((rows : ℕ) → within_limits rows columns ≡ (nat_le rows most && nat_le columns (2 ^ 16))) → met ≡ None → Makes new (Err (Refused Limit)) answer
-    many_so rights _ kept right_columns columns sum law is =
-        let many : most < length ps = rw is at found.rows.1 in
-        let others : rights ≡ right_places R keys = others_meant old r _ _ _ kept right_columns in
-        let all : length frame_meant.columns ≡ length l.columns + length rights = grind (arith, length-append, length-map, length-range_with_len, others) in
-        let beyond : within_limits (length ps) (length frame_meant.columns) ≡ false = grind (arith, nat_tests, law (length ps), all) in
-        grind (arith, finished_by _ none, rows_meant, beyond)
+    are : ArePairs made ps
+    are = grind (arith, found.rows.1)
 
-    module _ (made : Pairs) (some : met ≡ Some made) (count : ℕ) (counted : count ≡ length made.left) where
-      are : ArePairs made ps
-      are = grind (arith, found.rows.1)
+    rows_are : count ≡ length ps
+    rows_are = counted ∙ ap length are.left ∙ length-map ps _
 
-      rows_are : count ≡ length ps
-      rows_are = counted ∙ ap length are.left ∙ length-map ps _
+    pub beyond_so : within_limits count (length labels) ≡ false → Makes new (Err (Refused Limit)) answer
+    beyond_so = grind (arith, limited_by, headed, rows_meant, rows_are)
 
-      pub beyond_so : within_limits count (length labels) ≡ false → Makes new (Err (Refused Limit)) answer
-      beyond_so = grind (arith, finished_by _ none, headed, rows_meant, rows_are)
+    -- its columns and rows
+    module _ (rights : List ℕ) (counted_right : ℕ) (kept : rights ≡ filter (is_other keys.right) (range_with_len 0 counted_right)) (columns : counted_right ≡ length r.columns) (a b called : Option Label) (a_is : a ≡ l.columns_name) (b_is : b ≡ r.columns_name) (named : record { name : heading_value old called ≡ common_name (heading_value old a) (heading_value old b); settled : IsSettled heading_value old called })
+        (axis : AxisValue) (axis_is : axis ≡ range_axis count) (headings : HeadingList) (headings_are : headings ≡ record { columns_name = called; labels = slice }) (blocks : List CellBlock) (blocks_are : columns_of blocks ≡ merged_columns Na l.columns r.columns keys rights made.left made.right) where
+      abbrev whole : NumberedTable
+      whole = record {
+        shape = Frame;
+        columns_name = called;
+        level_names = (range_axis count).names;
+        labels = (range_axis count).tuples;
+        headings = labels;
+        columns = merged_columns Na l.columns r.columns keys rights made.left made.right;
+      }
 
-      -- its columns and rows
-      module _ (rights : List ℕ) (counted_right : ℕ) (kept : rights ≡ filter (is_other keys.right) (range_with_len 0 counted_right)) (columns : counted_right ≡ length r.columns) (a b called : Option Label) (a_is : a ≡ l.columns_name) (b_is : b ≡ r.columns_name) (named : record { name : heading_value old called ≡ common_name (heading_value old a) (heading_value old b); settled : IsSettled heading_value old called })
-          (axis : AxisValue) (axis_is : axis ≡ range_axis count) (headings : HeadingList) (headings_are : headings ≡ record { columns_name = called; labels = slice }) (blocks : List CellBlock) (blocks_are : columns_of blocks ≡ merged_columns Na l.columns r.columns keys rights made.left made.right) where
-        abbrev whole : NumberedTable
-        whole = record {
-          shape = Frame;
-          columns_name = called;
-          level_names = (range_axis count).names;
-          labels = (range_axis count).tuples;
-          headings = labels;
-          columns = merged_columns Na l.columns r.columns keys rights made.left made.right;
-        }
+      rights_are : rights ≡ right_places R keys
+      rights_are = others_meant old r _ _ _ kept columns
 
-        rights_are : rights ≡ right_places R keys
-        rights_are = others_meant old r _ _ _ kept columns
+      columns_are : columns_value new (merged_columns Na l.columns r.columns keys rights made.left made.right) ≡ frame_meant.columns
+      columns_are = grind (arith, are, rights_are, columns_seen, seen_later, columns_part, columns_meant)
 
-        columns_are : columns_value new (merged_columns Na l.columns r.columns keys rights made.left made.right) ≡ frame_meant.columns
-        columns_are = grind (arith, are, rights_are, columns_seen, seen_later, columns_part, columns_meant)
+      whole_seen : table_value new whole ≡ frame_meant
+      whole_seen = λ i. record {
+        shape = Frame;
+        columns_name = (seen_later heading_value old new _ labelled.longer named.settled ∙ named.name ∙ (λ j. common_name (heading_value old (a_is j)) (heading_value old (b_is j)))) i;
+        level_names = None ∷ [];
+        labels = (default_seen new _ ∙ ap default_labels rows_are) i;
+        headings = labelled.labels i;
+        columns = columns_are i;
+      }
 
-        whole_seen : table_value new whole ≡ frame_meant
-        whole_seen = λ i. record {
-          shape = Frame;
-          columns_name = (seen_later heading_value old new _ labelled.longer named.settled ∙ named.name ∙ (λ j. common_name (heading_value old (a_is j)) (heading_value old (b_is j)))) i;
-          level_names = None ∷ [];
-          labels = (default_seen new _ ∙ ap default_labels rows_are) i;
-          headings = labelled.labels i;
-          columns = columns_are i;
-        }
+      whole_settled : IsSettled table_value new whole
+      whole_settled =
+          table_settled _ whole (settled_later heading_value old new called labelled.longer named.settled) (λ more. refl) (λ more. search default_seen) labelled.given
+          (search (columns_settled, settled_later, columns_part))
 
-        whole_settled : IsSettled table_value new whole
-        whole_settled =
-            table_settled _ whole (settled_later heading_value old new called labelled.longer named.settled) (λ more. refl) (λ more. search default_seen) labelled.given
-            (search (columns_settled, settled_later, columns_part))
+      -- the frame that is made is the one that is frame_meant
+      pub made_is : within_limits count (length labels) ≡ true → (made' : NumberedTable) → made' ≡ table_of Frame axis headings blocks → Makes new (Ok made') answer
+      made_is = grind (arith, limited_by, limited_within, headed, rows_meant, rows_are, whole_seen, whole_settled)
 
-        -- the frame that is made is the one that is frame_meant
-        pub made_is : within_limits count (length labels) ≡ true → (made' : NumberedTable) → made' ≡ table_of Frame axis headings blocks → Makes new (Ok made') answer
-        made_is = grind (arith, finished_by _ none, limited_within, headed, rows_meant, rows_are, whole_seen, whole_settled)
+      labels_some : All IsSome labels
+      labels_some =
+          some_headings _ _ (subst (All IsSome) (sym labelled.labels)
+          (all_labelled L R _ (headings_some _ _ (known.left.whole.headings.labelled known.frames.0)) (headings_some _ _ (known.right.whole.headings.labelled known.frames.1))
+          (search (length-map, known.left.whole.headed))
+          (search (length-map, known.right.whole.headed))))
 
-        labels_some : All IsSome labels
-        labels_some =
-            some_headings _ _ (subst (All IsSome) (sym labelled.labels)
-            (all_labelled L R _ (headings_some _ _ (known.left.whole.headings.labelled known.frames.0)) (headings_some _ _ (known.right.whole.headings.labelled known.frames.1))
-            (search (length-map, known.left.whole.headed))
-            (search (length-map, known.right.whole.headed))))
-
-        -- its parts fit
-        pub parts_fit : IsWhole (table_of Frame axis headings blocks)
-        parts_fit =
-            let same = (rw some at found.inside).same in
-            grind (arith, labels_some, length-map, length-append, whole_seen, rows_numbered, columns_counted, frame_heads)
+      -- its parts fit
+      pub parts_fit : IsWhole (table_of Frame axis headings blocks)
+      parts_fit =
+          let same = (rw some at found.inside).same in
+          grind (arith, labels_some, length-map, length-append, whole_seen, rows_numbered, columns_counted, frame_heads)

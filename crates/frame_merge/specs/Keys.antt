@@ -1,11 +1,14 @@
 -- The columns of two frames whose cells are the keys.
-use Rattle.std.specs.Prelude.{◌≡◌, ℕ, ◌≤◌, true, List, map, length, Option, Some, None, Result}
+use Rattle.std.specs.Prelude.{◌≡◌, ℕ, ◌≤◌, true, List, map, filter, length, Option, Some, None, Result}
+use Rattle.std.specs.List.{list_any}
 use Rattle.cell_core.specs.declared.cell.Cell.{Cell}
+use Rattle.cell_core.specs.declared.cell.Label.{Label}
 use Rattle.cell_core.specs.declared.cell.Kind.{Kind}
 use Rattle.column_core.specs.cells.Text.{Text}
 use Rattle.column_core.specs.cells.Cell.{LabelValue}
 use Rattle.column_core.specs.cells.Operator.{cell_label}
 use Rattle.column_core.specs.cells.Fault.{FaultValue, then_value}
+use Rattle.column_core.specs.cells.Reduce.{distinct}
 use Rattle.frame_store.specs.tables.Table.{NumberedTable, Table, column_at}
 use Rattle.frame_store.specs.tables.Value.{Given, nothing}
 use Rattle.frame_labels.specs.method.Rows.{labels_in}
@@ -13,6 +16,7 @@ use Rattle.frame_labels.specs.method.Merge as meant
 use Rattle.frame_labels.specs.method.Merge.{are_same_kinds, checked_keys, common_labels, keys_named, keys_under}
 use Rattle.frame_store.specs.Parts.{AreColumnsOf}
 use Rattle.frame_store.specs.Shown.{cells_value}
+use Rattle.frame_select.specs.Headings.{same_heading}
 use Rattle.frame_merge.specs.declared.keys.MergeKeys.{MergeKeys}
 
 -- the places of the keys, which don't depend on texts
@@ -25,6 +29,10 @@ keys_seen texts keys = keys_value keys
 -- the labels that cells are
 abbrev pub cell_labels : List Text → List Cell → List LabelValue
 cell_labels texts cells = map cell_label (cells_value texts cells)
+
+-- the headings of columns that both have, each once, in the order of the left
+abbrev pub common_headings : NumberedTable → NumberedTable → List (Option Label)
+common_headings l r = distinct same_heading (filter (λ h. list_any (same_heading h) r.headings) l.headings)
 
 -- the labels that `on` names, if it is given
 abbrev pub labels_on : Given → Option (List LabelValue)

@@ -3,6 +3,5 @@ pub mod Keys
 pub mod Rows
 pub mod Headings
 pub mod Columns
-pub mod Tables
 -- definitions of crates below, passed on to the crates above
 pub use Rattle.frame_labels.specs as frame_labels

@@ -29,10 +29,10 @@ use std::alloc::Global;
 /// In this order: `WrongKind` of arguments that are unknown, missing, too many, given twice or of another
 /// form; `BadValue(Argument)` of a `how` or a `validate` that isn't listed; `NoKey` of a label in `on` that no column
 /// of the left has, and then of one that no column of the right has; `NoCommon` where there is no `on` and no common
-/// label; `BadValue(KeyKinds)` of keys of different kinds; `Limit` of more than four keys; `BadMerge` of the first key
-/// that stands twice on a side on which `validate` lets each stand once, the left first; `BadValue(Repeated)` of a
-/// label that stands again in the answer; `Limit`. `NoMemory` may come in place of any answer. After a refusal all
-/// objects are as they were.
+/// label; `BadValue(Repeated)` of a label of a key that several columns have, the left first; `BadValue(KeyKinds)` of
+/// keys of different kinds; `Limit` of more than four keys; `BadMerge` of the first key that stands twice on a side on
+/// which `validate` lets each stand once, the left first; `Limit`. `NoMemory` may come in place of any answer. After a
+/// refusal all objects are as they were.
 pub fn merge(
     alloc: Global,
     store: &mut Store,

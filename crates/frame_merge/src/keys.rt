@@ -1,10 +1,10 @@
 // The columns of two frames whose cells are the keys.
 ghost use Rattle.std.specs.Prelude.{◌≡◌, ◌≤◌, List, length, slice_get, IfOk, IfSome};
 ghost use Rattle.std.specs.Option.{option_map};
-ghost use Rattle.cell_core.specs.declared.grid.Shape.TheVariants.{Frame};
 ghost use Rattle.column_core.specs.cells.Text.{Text};
 ghost use Rattle.frame_store.specs.tables.Settled.{IsSettled};
 ghost use Rattle.frame_store.specs.tables.Table.{table_value};
+ghost use Rattle.frame_store.specs.tables.Valid.{IsWhole};
 ghost use Rattle.meaning_call.specs.Binding as plain;
 ghost use Rattle.frame_labels.specs.method.Merge as meant;
 ghost use Rattle.frame_parts.specs.Makes.{MakesBy};
@@ -16,11 +16,12 @@ ghost use Rattle.frame_merge.specs.Keys as words;
 ghost use Rattle.frame_merge.specs.Keys.{cell_labels, labels_on, keys_seen, kinds_of, ArePaired, AreMergeKeys};
 
 use crate::headings::heading_set;
-use cell_core::{Cells, Code, Grid, NoMemory, Places, Reason, TextDict};
+use cell_core::{Cells, Code, Grid, Label, NoMemory, Places, Reason, TextDict};
 use frame_labels::cell_of;
-use frame_select::{argument_columns, places_below};
+use frame_select::{named_columns, places_below};
 use frame_signatures::{Bound, arguments, scalars_of};
 use frame_store::{ObjRef, OpFault};
+use indexmap::IndexSet;
 use std::alloc::Global;
 
 // The columns of either frame whose cells are the keys, one of the left for each of the right.
@@ -56,7 +57,29 @@ pub(crate) fn labels_told(alloc: Global, bound: &Bound<'_>) -> Result<Option<Cel
     }
 }
 
-// The labels of columns that both frames have, in the order of the left.
+// The headings of columns that both frames have, each once, in the order of the left.
+fn common_headings(
+    alloc: Global,
+    l: &ObjRef<'_>,
+    r: &ObjRef<'_>,
+) -> Result<IndexSet<Option<Label>>, NoMemory>
+    requires left { IsWhole l.now }
+    requires right { IsWhole r.now }
+    ensures { IfOk result (λ made. made.keys ≡ words.common_headings l.now r.now) }
+{
+    let others = heading_set(alloc, r, &places_below(alloc, r.columns())?)?;
+    let mut common = IndexSet::new(alloc);
+    for place in 0..l.columns() {
+        let heading = l.heading(place);
+        if !others.contains(&heading) {
+            continue;
+        }
+        common.insert(heading)?;
+    }
+    Ok(common)
+}
+
+// The labels of columns that both frames have, each once, in the order of the left.
 #[tactic(auto, using(crate::proofs::Hints::common_labels))]
 fn common_labels(
     alloc: Global,
@@ -66,27 +89,26 @@ fn common_labels(
 ) -> Result<Cells, NoMemory>
     requires left { IsKnownTable dict.now l.now }
     requires right { IsKnownTable dict.now r.now }
-    requires shape { l.now.shape ≡ Frame }
     ensures given { IfOk result (IsSettled cells_value dict.now) }
     ensures labels { IfOk result (λ cells. cell_labels dict.now cells
         ≡ meant.common_labels (table_value dict.now l.now) (table_value dict.now r.now)) }
 {
     // Equal texts have equal numbers: `TextDict::len` says so.
     let _ = dict.len();
-    let others = heading_set(alloc, r, &places_below(alloc, r.columns())?)?;
+    let common = common_headings(alloc, l, r)?;
+    let headings = common.as_slice();
     let mut cells = Cells::new(alloc);
-    for place in 0..l.columns() {
-        let Some(label) = l.heading(place) else {
-            unreachable!()
+    for heading in headings {
+        let Some(label) = *heading else {
+            continue;
         };
-        if others.contains(&Some(label)) {
-            cells.push(cell_of(label))?;
-        }
+        cells.push(cell_of(label))?;
     }
     Ok(cells)
 }
 
-// The columns of these labels on both sides. A label that is absent on the left is refused first.
+// The columns of these labels on both sides. A label that is absent is refused first, of either side, and then one that
+// several columns have.
 #[tactic(auto, using(crate::proofs::Hints::keys_named))]
 fn keys_named(
     alloc: Global,
@@ -103,8 +125,10 @@ fn keys_named(
         (table_value dict.now l.now) (table_value dict.now r.now) (cell_labels dict.now labels.now)) }
     ensures paired { IfOk result (ArePaired l.now r.now) }
 {
-    let left = argument_columns(alloc, dict, l, labels)?;
-    let right = argument_columns(alloc, dict, r, labels)?;
+    let of_left = named_columns(alloc, dict, l, labels)?;
+    let of_right = named_columns(alloc, dict, r, labels)?;
+    let left = of_left.each_once(alloc)?;
+    let right = of_right.each_once(alloc)?;
     Ok(MergeKeys { left, right })
 }
 
@@ -118,7 +142,6 @@ fn keys_told(
 ) -> Result<MergeKeys, OpFault>
     requires left { IsKnownTable dict.now l.now }
     requires right { IsKnownTable dict.now r.now }
-    requires shape { l.now.shape ≡ Frame }
     requires given { IfSome told (IsSettled cells_value dict.now) }
     requires some { IfSome told (λ labels. 1 ≤ length labels) }
     ensures answer { MakesBy keys_seen dict.now result (words.keys_told (table_value dict.now l.now)
@@ -162,7 +185,6 @@ pub(crate) fn keys_of_merge(
 ) -> Result<MergeKeys, OpFault>
     requires left { IsKnownTable dict.now l.now }
     requires right { IsKnownTable dict.now r.now }
-    requires shape { l.now.shape ≡ Frame }
     requires given { IfSome told (IsSettled cells_value dict.now) }
     requires some { IfSome told (λ labels. 1 ≤ length labels) }
     ensures answer { MakesBy keys_seen dict.now result (words.keys_checked (table_value dict.now l.now)

@@ -4,8 +4,8 @@
 //!
 //! The arguments are bound and read (`arguments`), and the key columns of both frames are found and tested (`keys`).
 //! The rows are joined by `merge_concat`, by the cells of the key columns (`rows`). A label that columns of both frames
-//! have, neither of them a key, gets a suffix (`suffixes`, `headings`). All labels are tested and the limits before a
-//! cell is taken; then the columns are made one by one (`columns`), and the table of them (`merging`).
+//! have, neither of them a key, gets a suffix (`suffixes`, `headings`). The limits are tested before a cell is taken; then
+//! the columns are made one by one (`columns`), and the table of them (`merging`).
 //!
 //! ```text
 //! // `left.merge(right, on="city")`

@@ -20,7 +20,7 @@ use crate::rows::rows_met;
 use cell_core::{Code, Grid, Shape, TextDict};
 use frame_labels::places_besides;
 use frame_parts::{common_name, rows_within, within_limits};
-use frame_select::different_headings;
+use frame_select::heading_list;
 use frame_signatures::{Bound, arguments};
 use frame_store::{ObjId, ObjRef, OpFault, Store, Table};
 use meaning_join::{How, Validate};
@@ -49,14 +49,12 @@ fn merged_rows(
     let rights = places_besides(alloc, r.columns(), &keys.right)?;
     let most = rows_within(l.columns().saturating_add(rights.len()));
     let met = rows_met(alloc, dict, l, r, keys, how, once, most)?;
-    let name = common_name(dict, l.columns_name(), r.columns_name());
-    let labels = merged_labels(alloc, dict, l, r, keys, &rights)?;
-    // Equal texts have equal numbers: `TextDict::len` says so.
-    let _ = dict.len();
-    let headings = different_headings(alloc, name, labels.as_slice())?;
     let Some(pairs) = met else {
         return Err(OpFault::Refused(Code::Limit));
     };
+    let name = common_name(dict, l.columns_name(), r.columns_name());
+    let labels = merged_labels(alloc, dict, l, r, keys, &rights)?;
+    let headings = heading_list(alloc, name, labels.as_slice())?;
     let count = pairs.left.len();
     if !within_limits(count, labels.len()) {
         return Err(OpFault::Refused(Code::Limit));

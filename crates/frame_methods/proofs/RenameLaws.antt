@@ -1,11 +1,11 @@
 -- Columns under new labels, by number and with texts.
 use Rattle.{
-  frame_parts.proofs.Common.{◌≡◌, ◌∙◌, ◌<◌, ◌+◌, refl, ap, sym, ℕ, Bool, true, false, List, [], ◌∷◌, map, length, drop, get_or, Option, Some, None, Result, Ok, Err, All, if◌then◌else◌, arith, drop-cons, All-map, IsSome, IfOk, IfErr, option_map, list_all, lookup, Cell, Label, Frame, AreDistinct, same_by_number, MakesBy, Text, LabelValue, datum, label_datum, cell_label, FaultValue, wrong_kind, then_value, IsSettled, NumberedTable, Table, table_value, heading_value, AreHeadings, Entry, Given, dict_in, scalar_in, same_label, unless_repeated, limited, with_pair, pairs_onto, pairs_in, Tables, argument_of, entries_of, arguments_of, HeadingList, OpFault, Refused, NoMemory, Argument, One, Shown, headings_value, FormAnswers},
+  frame_parts.proofs.Common.{◌≡◌, ◌∙◌, ◌<◌, ◌+◌, refl, ap, sym, ℕ, Bool, true, false, List, [], ◌∷◌, map, length, drop, get_or, Option, Some, None, Result, Ok, Err, All, if◌then◌else◌, arith, drop-cons, All-map, IsSome, option_map, list_all, lookup, Cell, Label, Frame, AreDistinct, same_by_number, MakesBy, Text, LabelValue, datum, label_datum, cell_label, FaultValue, wrong_kind, then_value, IsSettled, NumberedTable, Table, table_value, heading_value, AreHeadings, Entry, Given, dict_in, scalar_in, same_label, limited, with_pair, pairs_onto, pairs_in, Tables, argument_of, entries_of, arguments_of, HeadingList, OpFault, Refused, NoMemory, Argument, One, Shown, headings_value, FormAnswers},
   indexmap.specs.IndexMap.{insert_entry, insert_all},
   frame_store.specs.tables.Value.{GivenPairs},
   frame_labels.{specs.method.Methods.{is_scalar_pair, new_label, renamed_heading, renamed_frame}, proofs.TableLaws.{frame_heads}},
   frame_signatures.{specs.{Bound.{Tells}, declared.bound.Bound.{Bound}}, proofs.ToldLaws.{told_settled}},
-  frame_select.{specs.{Picked.{headed_by}, Headings.{NamesRepeated, same_number, repeated_heading}}, proofs.{HeadingLaws.{label_decides, head_settled, rest_settled, repeated_seen}, RefusalLaws.{repeated_settled}}},
+  frame_select.{specs.{Picked.{headed_by}, Headings.{same_number}}, proofs.HeadingLaws.{label_decides, head_settled, rest_settled}},
   frame_methods.specs.Renames.{label_pair, given_label, given_labels, pair_seen, pairs_seen, have_labels, found_label, heading_by, label_from, heading_from, relabelled, labels_seen},
 }
 
@@ -28,19 +28,8 @@ Headings = List (Option Label)
 abbrev HeadingValues : Type 0
 HeadingValues = List (Option LabelValue)
 
-abbrev when : {A : Type 0} → Bool → Option LabelValue → Result A FaultValue → Result A FaultValue
-when b o rest = if b then unless_repeated o rest else Err wrong_kind
-
-abbrev heads : Option Label → Headings → HeadingList
-heads name hs = record { columns_name = name; labels = hs }
-
--- what is told of headings of which none may stand twice
-abbrev AreDifferent : Headings → Option Label → Result HeadingList OpFault → Type 0
-AreDifferent new name r = record {
-  different : IfOk r (λ made. repeated_heading new ≡ None);
-  made : IfOk r (λ made. made ≡ heads name new);
-  refused : IfErr r (λ fault. NamesRepeated fault (repeated_heading new));
-}
+abbrev when : {A : Type 0} → Bool → Result A FaultValue → Result A FaultValue
+when b rest = if b then rest else Err wrong_kind
 
 module _ (texts : List Text) where
   abbrev AreLabels : Labels → Type 0
@@ -77,14 +66,8 @@ module _ (texts : List Text) where
   labels_there [] = refl
   labels_there (e ∷ es) = grind (arith, labels_there es)
 
-  pub new_settled : (es : Labels) (name : Option Label) (hs new : Headings) (r : Result HeadingList OpFault) → new ≡ map (heading_by es) hs → AreLabels texts es → AreNamed texts hs
-      → AreDifferent new name r → IfOk r (λ made. AreNamed texts made.labels)
-  new_settled es name hs new r is settled here made = grind (arith, headings_settled es hs settled here)
-
-  -- what is made is what is meant
-  unless_all : (new : Headings) (name : Option Label) (r : Result HeadingList OpFault) → AreNamed texts new → AreDifferent new name r
-      → MakesBy labels_seen texts r (unless_repeated (heading_value texts (repeated_heading new)) (Ok (headings_value texts new)))
-  unless_all = grind (arith, repeated_settled)
+  pub new_settled : (es : Labels) (hs new : Headings) → new ≡ map (heading_by es) hs → AreLabels texts es → AreNamed texts hs → AreNamed texts new
+  new_settled es hs new is settled here = rw is (headings_settled es hs settled here)
 
   pub no_labels : (es : Labels) (all : LabelValues) (hs : HeadingValues) → pairs_seen texts es ≡ all → have_labels es ≡ false → relabelled all hs ≡ Err wrong_kind
   no_labels es _ _ is none = cc (labels_there es)
@@ -119,14 +102,10 @@ module _ (texts : List Text) where
     headings_seen _ [] _ _ = refl
     headings_seen es (h ∷ hs) settled here = search (heading_seen, head_settled, headings_seen es hs settled (rest_settled heading_value texts h hs here))
 
-    pub new_meant : (es : Labels) (name : Option Label) (hs new : Headings) (all : LabelValues) (r : Result HeadingList OpFault) → AreLabels texts es
-        → AreNamed texts hs → pairs_seen texts es ≡ all → new ≡ map (heading_by es) hs → have_labels es ≡ true
-        → AreDifferent new name r → MakesBy labels_seen texts r (relabelled all (headings_value texts hs))
-    new_meant es _ hs new all r settled here seen is labels makes =
-        let named = headings_settled es hs settled here in
-        let whole : relabelled all (headings_value texts hs) ≡ unless_repeated (heading_value texts (repeated_heading new)) (Ok (headings_value texts new)) =
-        cc (headings_seen es hs settled here, labels_there es, repeated_seen texts (map (heading_by es) hs) distinct named) in
-        rw whole (unless_all new _ r (rw is named) makes)
+    -- what is made is what is meant
+    pub new_meant : (es : Labels) (hs new : Headings) (all : LabelValues) → AreLabels texts es → AreNamed texts hs → pairs_seen texts es ≡ all → new ≡ map (heading_by es) hs → have_labels es ≡ true
+        → relabelled all (headings_value texts hs) ≡ Ok (headings_value texts new)
+    new_meant es hs new all settled here seen is labels = cc (headings_seen es hs settled here, labels_there es)
 
 abbrev IsScalarOf : Option Cell → Argument → Type 0
 IsScalarOf o a = (live : Tables) (texts : List Text) → option_map (datum texts) o ≡ scalar_in (argument_of live texts a)
@@ -195,10 +174,8 @@ labelled : (es : Labels) (h : Option Label) → IsSome h → IsSome (heading_by 
 labelled = grind arith
 
 -- a frame's new headings
-pub new_heads : (es : Labels) (name : Option Label) (hs new : Headings) (r : Result HeadingList OpFault) → new ≡ map (heading_by es) hs → All IsSome hs
-    → AreDifferent new name r → IfOk r (λ made. AreHeadings Frame made.columns_name made.labels)
-new_heads es _ hs _ (Ok made) is all new = rw new.made (frame_heads _ _ (rw is (All-map IsSome (heading_by es) hs (λ k d lt. labelled es _ (all k d lt)))) new.different)
-new_heads _ _ _ _ (Err fault) _ _ _ = tt
+pub new_heads : (es : Labels) (name : Option Label) (hs new : Headings) → new ≡ map (heading_by es) hs → All IsSome hs → AreHeadings Frame name new
+new_heads es _ hs _ is all = frame_heads _ _ (rw is (All-map IsSome (heading_by es) hs (λ k d lt. labelled es _ (all k d lt))))
 
 -- the pairs of a dict that was given
 given_alike : (live : Tables) (a b : List Text) (pairs : Pairs) → entries_of live a pairs ≡ entries_of live b pairs → given_labels a pairs ≡ given_labels b pairs
@@ -216,7 +193,7 @@ frame_of t pairs = renamed_frame t (pairs_in pairs)
 abbrev pub relabelled_with : List Text → Pairs → HeadingValues → Result (HeadingValues) FaultValue
 relabelled_with texts pairs hs = relabelled (insert_all same_label [] (given_labels texts pairs)) hs
 
-later_limited : (t : Table) (b : Bool) (o : Option LabelValue) (hs : HeadingValues) → when b o (limited (under t hs)) ≡ limited_under t (when b o (Ok hs))
+later_limited : (t : Table) (b : Bool) (hs : HeadingValues) → when b (limited (under t hs)) ≡ limited_under t (when b (Ok hs))
 later_limited = grind arith
 
 frame_meant : (live : Tables) (texts : List Text) (pairs : Pairs) (t : Table) → frame_of t (entries_of live texts pairs) ≡ limited_under t (relabelled_with texts pairs t.headings)

@@ -11,7 +11,6 @@ use Rattle.column_core.specs.cells.Fault.{FaultValue, wrong_kind}
 use Rattle.frame_store.specs.tables.Table.{heading_value}
 use Rattle.frame_store.specs.tables.Value.{Given, scalar_in}
 use Rattle.meaning_call.specs.Binding.{same_label}
-use Rattle.frame_parts.specs.form.Finish.{first_repeated, unless_repeated}
 use Rattle.frame_store.specs.Parts.{HeadingList}
 use Rattle.frame_store.specs.Shown.{headings_value}
 use Rattle.frame_store.specs.Arguments.{argument_of}
@@ -61,9 +60,9 @@ abbrev pub heading_from : List (LabelValue × Option LabelValue) → Option Labe
 heading_from es None = None
 heading_from es (Some l) = Some (unwrap_or (label_from es l) l)
 
--- headings under the labels of these pairs, which must all be labels; no heading may stand twice
+-- headings under the labels of these pairs, which must all be labels
 abbrev pub relabelled : List (LabelValue × Option LabelValue) → List (Option LabelValue) → Result (List (Option LabelValue)) FaultValue
-relabelled es hs = if have_labels es then unless_repeated (first_repeated (map (heading_from es) hs)) (Ok (map (heading_from es) hs)) else Err wrong_kind
+relabelled es hs = if have_labels es then Ok (map (heading_from es) hs) else Err wrong_kind
 
 abbrev pub labels_seen : List Text → HeadingList → List (Option LabelValue)
 labels_seen texts h = headings_value texts h.labels

@@ -27,7 +27,7 @@ use crate::summaries::{summarize, summary_of};
 use cell_core::{Grid, TextDict};
 use frame_labels::{
     drop_columns, drop_level, level_names, named_places, reindex, rename_axis, renumber,
-    reset_levels, selected_places, set_index, subset_places, swap_levels, xs,
+    reset_levels, set_index, subset_places, swap_levels, xs,
 };
 use frame_parts::name_of;
 use frame_select::{copied, places_below};
@@ -221,10 +221,7 @@ fn table_answer(
             rename_frame(alloc, store, dict, pairs, on)
         }
         TableMethod::ToFrame => to_frame(alloc, store, dict, on),
-        TableMethod::DropColumns => {
-            let places = selected_places(alloc, store, dict, bound, on)?;
-            drop_columns(alloc, store, dict, &places, on)
-        }
+        TableMethod::DropColumns => drop_columns(alloc, store, dict, bound, on),
         TableMethod::ToCsv => {
             let text = to_csv(alloc, store, dict, bound.truth(arguments::TO_CSV_INDEX), on);
             answer_made(store, dict, text)

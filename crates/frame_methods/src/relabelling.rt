@@ -12,7 +12,7 @@ ghost use Rattle.frame_methods.specs.Renames.{given_labels, pairs_seen, have_lab
 
 use cell_core::{Code, Grid, Label, NoMemory, TextDict};
 use frame_parts::name_of;
-use frame_select::different_headings;
+use frame_select::heading_list;
 use frame_store::{Argument, Headings, ObjRef, OpFault};
 use indexmap::IndexMap;
 use std::alloc::Global;
@@ -101,5 +101,5 @@ pub(crate) fn renamed_headings(
         return Err(OpFault::Refused(Code::WrongKind));
     }
     let headings = new_headings(alloc, on, &labels)?;
-    different_headings(alloc, on.columns_name(), &headings)
+    Ok(heading_list(alloc, on.columns_name(), &headings)?)
 }

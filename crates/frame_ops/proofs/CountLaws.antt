@@ -89,7 +89,7 @@ module _ {K : Type 0} (same less : K → K → Bool) where
           let each = each_row keys right (λ k d lt. found_in_order _ _ ∙ grind (arith, list_any-append, itself right k d lt)) in
           omega (arith, each, right_entries left right keys)
 
-tuple_decides : (s t : List LabelValue) → Decides (same_tuple s t) (s ≡ t)
+pub tuple_decides : (s t : List LabelValue) → Decides (same_tuple s t) (s ≡ t)
 tuple_decides s t = pointwise_decides value_decides s t
 
 tuples_decide : (as' bs : List (List LabelValue)) → Decides (same_tuples as' bs) (as' ≡ bs)

@@ -1,9 +1,5 @@
 -- Labels of columns, labels of rows that are those of columns, and tables under the headings that an operator gives them.
-use Rattle.{
-  frame_parts.proofs.{Common.{Makes, headings_value, labels_value, HeadingList, block_column, table_with, axis_of, columns_name_part, headings_part, ◌≡◌, ℕ, ◌+◌, ◌<◌, Bool, true, false, List, [], ◌∷◌, ◌++◌, length, map, drop, refl, ap, sym, arith, nat_eq, add-one, Option, Some, None, slice_index_or, Result, Ok, drop-cons, length-map, nat_tests, ◌≢◌, Label, Shape, Series, Frame, IsLonger, Text, LabelValue, na, label_datum, CellValue, FaultValue, then_value, HaveLevels, IsSettled, heading_value, ColumnOf, NumberedTable, table_value, AreHeadings, IsWhole, same_heading, with_columns, are_headings, tuple_heading, tuples_settled, made_is_settled, made_is_meant, blocks_value, AreColumns, CellBlock}, TableMade.{under_settled, whole_under}},
-  column_core.proofs.cells.Common.{get_or-map},
-  frame_ops.specs.{declared.naming.Naming.{Naming, TheVariants.{Kept, Name, ColumnsName}}, Namings.{headings_by, named_by, IsNaming, IsSettledNaming}},
-}
+use Rattle.{frame_parts.proofs.{Common.{Makes, headings_value, labels_value, HeadingList, block_column, table_with, axis_of, columns_name_part, headings_part, ◌≡◌, ℕ, ◌+◌, ◌<◌, Bool, true, false, List, [], ◌∷◌, ◌++◌, length, map, drop, refl, ap, sym, arith, nat_eq, add-one, Option, Some, None, slice_index_or, Result, Ok, drop-cons, length-map, nat_tests, ◌≢◌, Label, Shape, Series, Frame, IsLonger, Text, LabelValue, na, label_datum, CellValue, FaultValue, then_value, HaveLevels, IsSettled, heading_value, ColumnOf, NumberedTable, table_value, AreHeadings, IsWhole, same_heading, with_columns, are_headings, tuples_settled, made_is_settled, made_is_meant, blocks_value, AreColumns, CellBlock, unless_repeated, Refused, Refuses, AreDistinct}, TableMade.{under_settled, whole_under}}, frame_parts.specs.form.Finish.{first_repeated}, frame_select.{proofs.{HeadingLaws.{shared_seen}, RefusalLaws.{shared_settled}}, specs.Headings.{shared_heading, NamesRepeated}}, cell_core.specs.declared.code.Code.{Code}, column_core.proofs.cells.Common.{get_or-map}, frame_ops.specs.{declared.naming.Naming.{Naming, TheVariants.{Kept, Name, ColumnsName}}, Namings.{headings_by, named_by, IsNaming, IsSettledNaming}}}
 use Rattle.cell_core.specs.declared.cell.Label.TheVariants as label
 use Rattle.frame_store.specs.tables.Value as value
 
@@ -37,14 +33,29 @@ pub one_label : (t : List Label) → length t ≡ 1 → t ≡ slice_index_or t 0
 one_label (l ∷ []) e = refl
 one_label t e = search
 
-pub heading_at : (keys : List (List Label)) (k : ℕ) (d : Option Label) → k < length keys → slice_index_or (map tuple_heading keys) k d ≡ tuple_heading (slice_index_or keys k [])
-heading_at keys k d = get_or-map tuple_heading keys k [] d
-
 -- one more label that is a heading
 pub one_more_heading : (texts : List Text) (ls : List (List Label)) (hs : List (Option Label)) (k : ℕ) (l : Label) (h : Option Label) (whole : Bool) → HaveLevels 1 ls → k < length ls → k < length hs
     → l ≡ slice_index_or (slice_index_or ls k []) 0 label.Na → h ≡ slice_index_or hs k None → same_heading (Some (label_datum texts l)) (heading_value texts h) ≡ true
     → are_headings (labels_value texts (drop k ls)) (headings_value texts (drop k hs)) ≡ whole → are_headings (labels_value texts (drop (k + 1) ls)) (headings_value texts (drop (k + 1) hs)) ≡ whole
 one_more_heading = grind (arith, one_label, drop-cons, add-one)
+
+-- a label that stands twice
+module _ (texts : List Text) (hs : List (Option Label)) (distinct : AreDistinct texts) (settled : IsSettled headings_value texts hs) where
+  pub repeated_is : (found : Option Label) → shared_heading hs [] ≡ found → first_repeated (headings_value texts hs) ≡ heading_value texts found
+  repeated_is found is = cc (shared_seen texts hs [] distinct settled (λ more. refl))
+
+  module _ {A : Type 0} (rest : Result A FaultValue) where
+    abbrev meant : Result A FaultValue
+    meant = unless_repeated (first_repeated (headings_value texts hs)) rest
+
+    pub none_repeated : shared_heading hs [] ≡ None → meant ≡ rest
+    none_repeated none = cc (repeated_is None none)
+
+    pub one_repeated : (code : Code) → NamesRepeated (Refused code) (shared_heading hs []) → Refuses texts code meant
+    one_repeated code named = (
+      cc (repeated_is _ named.1, named.2),
+      shared_settled texts code hs [] named.0 named.1 named.2 settled,
+    )
 
 -- Tables under the headings that an operator gives them.
 -- a Series under a name, and a frame under a name of its columns

@@ -4,5 +4,7 @@ pub mod InfixLaws
 pub mod JoinLaws
 pub mod WideLaws
 pub mod CountLaws
+pub mod FitLaws
+pub mod FrameFitLaws
 pub mod WideTestLaws
 pub mod Hints

@@ -1,14 +1,16 @@
 -- Frames under joined labels of columns, and a Series in each row of a frame.
-use Rattle.{
-  frame_parts.{proofs.Common.{◌≢◌, ◌≡◌, ◌∙◌, ◌<◌, ◌+◌, ◌++◌, ℕ, zero, suc, pos, List, [], ◌∷◌, length, map, take, replicate, refl, ap, sym, arith, add-one, All, Option, Some, None, Result, slice_index_or, Bool, true, false, Ok, Err, if◌then◌else◌, ◌&&◌, ◌||◌, nat_eq, drop, map_more, length-map, length-replicate, map-append, All-nil, All-cons, All-head, All-tail, All-map, All-replicate, list_all-map, get_or_from_slice_get, nat_tests, drop-cons, slice_get, IsSome, unwrap_or, list_any, list_all, meets, beside, single_block, HeadingList, block_column, table_column, labels_value, headings_value, columns_value, IsKnownTable, OpFault, Refused, NoMemory, settled_by, table_settled, columns_settled, columns_given, columns_name_part, level_names_part, labels_part, headings_part, columns_part, Cell, Na, Label, Kind, Shape, Frame, Series, AreGiven, IsGiven, AreDistinct, Text, LabelValue, int, na_cell, datum, limit, FaultValue, wrong_kind, bad_value, not_aligned, then_value, fault_of, Binary, CellBlock, CellColumn, IsPlaceOf, AxisValue, HaveLevels, IsSettled, ColumnOf, NumberedTable, column_at, column_value, table_value, Table, heading_value, tuple_value, AreHeadings, IsWhole, within_limits, Entry, column_labels, unless_repeated, limited_table, column_of_value, same_kind, tuple_heading, columns_or_missing, spread, same_tuple, on_levels, compares, labels_fit, MakesBy, tuple_by_number, tuples_settled}, specs.form.Infix.{column_or_missing, on_columns, spread_series, spread_frame, takes_each, joined_turned, across_unequal}},
-  std.specs.Prelude.{is_some},
-  column_core.{proofs.cells.Common.{get_or-map}, specs.cells.Operator.{operator_kind}},
-  frame_store.specs.Parts.{with_heading},
-  frame_select.{proofs.{AnswerLaws.{column_seen}, HeadingLaws.{different, repeated_seen}, RefusalLaws.{repeated_settled}}, specs.Headings.{repeated_heading, NamesRepeated}},
-  frame_ops.{proofs.{MeetingLaws.{map-replicate, levels_one}, HeadingLaws.{one_label, heading_at}, InfixLaws.{series_given}}, specs.{Joining.{AreApart, AreSideRows}, Widening.{heading_tuple, labels_axis, headings_of_keys, widened, AreColumnKeys, spread_table, kind_or, takes_wide}, Pairs.{repeated}}},
-  label_align.specs.pick.Rows.{rows_where, are_some},
-  row_keys.specs.{Keys.{same_tuple as same_numbers}, Partners.{rows_with}},
-}
+use Rattle.{frame_parts.{proofs.Common.{◌≡◌, ◌∙◌, ◌<◌, ◌+◌, ◌++◌, ℕ, zero, suc, pos, List, [], ◌∷◌, length, map, take, replicate, refl, ap, sym, subst, arith, add-one, All, Option, Some, None, Result, slice_index_or, Bool, true, false, Ok, Err, if◌then◌else◌, ◌&&◌, ◌||◌, nat_eq, drop, map_more, length-map, length-replicate, map-append, All-nil, All-cons, All-head, All-tail, All-map, All-replicate, list_all-map, get_or_from_slice_get, nat_tests, drop-cons, slice_get, IsSome, unwrap_or, list_any, list_all, single_block, HeadingList, block_column, table_column, labels_value, headings_value, columns_value, IsKnownTable, OpFault, Refused, NoMemory, settled_by, table_settled, columns_settled, columns_given, columns_name_part, level_names_part, labels_part, headings_part, columns_part, Cell, Na, Label, Kind, Shape, Frame, Series, AreGiven, IsGiven, AreDistinct, Text, LabelValue, int, na_cell, datum, limit, FaultValue, wrong_kind, bad_value, not_aligned, then_value, Binary, CellBlock, CellColumn, IsPlaceOf, AxisValue, HaveLevels, IsSettled, ColumnOf, NumberedTable, column_at, column_value, table_value, Table, tuple_value, AreHeadings, IsWhole, within_limits, Entry, column_labels, unless_repeated, limited_table, column_of_value, same_kind, tuple_heading, columns_or_missing, spread, same_tuple, on_levels, compares, labels_fit, MakesBy, tuple_by_number, tuples_settled}, specs.form.{Infix.{column_or_missing, on_columns, spread_series, spread_frame, takes_each, joined_turned, across_unequal, pairs_fit, frames_fit, takes_twice, same_count}, Finish.{first_repeated}}}, column_core.{proofs.cells.Common.{get_or-map}}, frame_store.specs.Parts.{with_heading}, frame_select.{proofs.AnswerLaws.{column_seen}, specs.Headings.{shared_heading, NamesRepeated}}, frame_ops.{proofs.{MeetingLaws.{map-replicate, levels_one}, HeadingLaws.{one_label, none_repeated, one_repeated}, InfixLaws.{series_given}, FitLaws.{rows_pass, pairs_by_firsts, one_kind_fits}, FrameFitLaws.{spread_fit, turned_fit}}, specs.{Joining.{AreSideRows}, Fitting.{of_one_kind, fits_first, firsts_fit, MayWiden}, Widening.{heading_tuple, labels_axis, headings_of_keys, widened, spread_table}, Pairs.{repeated}}}, label_align.{specs.pick.Rows.{rows_where, are_some}, proofs.SameLaws.{tuple_decides}}, row_keys.specs.{Keys.{same_tuple as same_numbers}, Partners.{rows_with}}}
+
+-- lists of as many items
+same_itself : {A : Type 0} (xs : List A) → same_count xs xs ≡ true
+same_itself [] = refl
+same_itself (x ∷ xs) = same_itself xs
+
+count_turned : {A B : Type 0} (xs : List A) (ys : List B) → same_count xs ys ≡ true → same_count ys xs ≡ true
+count_turned [] [] same = refl
+count_turned (x ∷ xs) (y ∷ ys) same = count_turned xs ys same
+count_turned [] (y ∷ ys) same = grind arith
+count_turned (x ∷ xs) [] same = grind arith
 
 -- labels of columns as tuples
 pub tuples_alike : (hs : List (Option Label)) → HaveLevels 1 (map heading_tuple hs)
@@ -28,18 +30,12 @@ module _ (texts : List Text) where
   keys_seen ([] ∷ keys) = cc (keys_seen keys)
   keys_seen ((l ∷ ls) ∷ keys) = cc (keys_seen keys)
 
-tuple_at : (hs : List (Option Label)) (k : ℕ) (d : List Label) → k < length hs → slice_index_or (map heading_tuple hs) k d ≡ heading_tuple (slice_index_or hs k None)
-tuple_at hs k d = get_or-map heading_tuple hs k None d
-
 module _ (x : AxisValue) (t : NumberedTable) (is : x ≡ labels_axis t) where
   pub labels_seen : (texts : List Text) → labels_value texts x.tuples ≡ column_labels (table_value texts t)
   labels_seen = grind (arith, tuples_seen)
 
   pub labels_given : (texts : List Text) → IsSettled table_value texts t → IsSettled labels_value texts x.tuples
   labels_given _ settled = rw is (settled_by headings_value labels_value (map _) _ _ _ (λ more. tuples_seen _ _) (headings_part _ t settled))
-
-  pub labels_apart : IsWhole t → t.shape ≡ Frame → AreApart x.tuples
-  labels_apart = grind (arith, length-map, tuple_at)
 
 -- the headings of keys, one more of them
 
@@ -82,59 +78,19 @@ module _ (count : ℕ) (own other : List (ColumnOf Cell)) where
     wide_seen [] os = refl
     wide_seen (p ∷ ps) [] = refl
 
--- what is left of a list from an item on
-dropped : {X : Type 0} (xs : List X) (k : ℕ) (x : X) → k < length xs → slice_get xs k ≡ Some x → drop k xs ≡ x ∷ drop (k + 1) xs
-dropped xs k x lt at = grind (arith, drop-cons xs k x lt, get_or_from_slice_get xs k x x at, add-one)
+-- labels of columns, each of one level, as headings of a frame
+headings_some : (labels : List (List Label)) → HaveLevels 1 labels → All IsSome (map tuple_heading labels)
+headings_some labels alike = All-map IsSome tuple_heading labels (λ k d lt. grind (arith, one_label))
 
--- the kinds of columns that joined labels bring together
-module _ (op : Binary) (own other : List (ColumnOf Cell)) where
-  abbrev taken_at : Option ℕ → Option ℕ → Bool
-  taken_at p o = is_some (operator_kind op (kind_or own other p o) (kind_or other own o p))
-
-  taken_first : (p o : Option ℕ) (ps os rest rest' : List (Option ℕ)) → ps ≡ p ∷ rest → os ≡ o ∷ rest' → takes_wide op own other ps os ≡ (taken_at p o && takes_wide op own other rest rest')
-  taken_first _ _ _ _ _ _ is is' = rw (is, is') refl
-
-  module _ (k : ℕ) (ps os : List (Option ℕ)) (p o : Option ℕ) (lt : k < length ps) (same : length os ≡ length ps) (at : slice_get ps k ≡ Some p) (at' : slice_get os k ≡ Some o) where
-    taken_from : takes_wide op own other (drop k ps) (drop k os) ≡ (taken_at p o && takes_wide op own other (drop (k + 1) ps) (drop (k + 1) os))
-    taken_from = taken_first p o _ _ _ _ (dropped ps k p lt at) (dropped os k o (omega (arith, lt, same)) at')
-
-    pub one_more_taken : (whole : Bool) → taken_at p o ≡ true → takes_wide op own other (drop k ps) (drop k os) ≡ whole → takes_wide op own other (drop (k + 1) ps) (drop (k + 1) os) ≡ whole
-    one_more_taken _ taken before = cc taken_from
-
-    pub one_not_taken : (whole : Bool) → taken_at p o ≡ false → takes_wide op own other (drop k ps) (drop k os) ≡ whole → false ≡ whole
-    one_not_taken _ not before = cc taken_from
-
-kind_seen : (texts : List Text) (own other : List (ColumnOf Cell)) (count : ℕ) (p o : Option ℕ) → (column_or_missing na_cell count (columns_value texts own) (columns_value texts other) p o).kind ≡ kind_or own other p o
-kind_seen texts own other _ (Some p) o = grind (arith, column_seen texts own p)
-kind_seen texts own other _ None (Some o) = grind (arith, column_seen texts other o)
-kind_seen _ _ _ _ None None = refl
-
--- with texts
-pub meets_wide : (op : Binary) (texts : List Text) (own other : List (ColumnOf Cell)) (m n : ℕ) (ps os : List (Option ℕ)) → length os ≡ length ps
-    → list_all (meets op) (beside (columns_or_missing na_cell m (columns_value texts own) (columns_value texts other) ps os) (columns_or_missing na_cell n (columns_value texts other) (columns_value texts own) os ps))
-    ≡ takes_wide op own other ps os
-meets_wide _ _ _ _ _ _ [] [] _ = refl
-meets_wide _ _ _ _ _ _ [] (o ∷ os) same = search
-meets_wide _ _ _ _ _ _ (p ∷ ps) [] same = search
-meets_wide op texts own other m n (p ∷ ps) (o ∷ os) same =
-    grind (arith, kind_seen texts own other m p o, kind_seen texts other own n o p, meets_wide op texts own other m n ps os)
-
--- rows of the labels of columns are places of columns
-pub places_inside : (t : NumberedTable) (count : ℕ) (places : List (Option ℕ)) → AreSideRows count (labels_axis t) places → IsWhole t → All (IsPlaceOf (length t.columns)) places
-places_inside = grind (arith, length-map)
-
-heading_apart : (s t : List Label) → length s ≡ 1 → length t ≡ 1 → s ≢ t → tuple_heading s ≢ tuple_heading t
-heading_apart s t one one' = grind (arith, one_label s one, one_label t one')
-
-keys_head : (shape : Shape) → shape ≡ Frame → (name : Option Label) (keys : List (List Label)) → AreColumnKeys keys → AreHeadings shape name (map tuple_heading keys)
-keys_head = grind (arith, one_label, length-map, heading_at, heading_apart)
+keys_head : (shape : Shape) → shape ≡ Frame → (name : Option Label) (keys : List (List Label)) → HaveLevels 1 keys → AreHeadings shape name (map tuple_heading keys)
+keys_head = grind (arith, headings_some)
 
 module _ (own other : NumberedTable) (keys : List (List Label)) (places opposites : List (Option ℕ)) where
   pub widened_seen : (texts : List Text) → table_value texts (widened own other keys places opposites) ≡ on_columns (table_value texts own) (table_value texts other) (labels_value texts keys) places opposites
   widened_seen = search (wide_seen, length-map, keys_seen)
 
   -- rows of the labels of columns are places of columns
-  module _ (frame : own.shape ≡ Frame) (are : AreColumnKeys keys) (side : AreSideRows (length keys) (labels_axis own) places) (side' : AreSideRows (length keys) (labels_axis other) opposites) where
+  module _ (frame : own.shape ≡ Frame) (are : HaveLevels 1 keys) (side : AreSideRows (length keys) (labels_axis own) places) (side' : AreSideRows (length keys) (labels_axis other) opposites) where
     inside : IsWhole own → All (IsPlaceOf (length own.columns)) places
     inside = grind (arith, length-map)
 
@@ -189,12 +145,6 @@ spread_seen_columns : (texts : List Text) (kind : Kind) (rows : ℕ) (cells : Li
 spread_seen_columns _ _ _ [] = refl
 spread_seen_columns texts kind rows (c ∷ cs) = search (map-replicate, spread_seen_columns texts kind rows cs)
 
-headings_some : (labels : List (List Label)) → HaveLevels 1 labels → All IsSome (map tuple_heading labels)
-headings_some labels alike = All-map IsSome tuple_heading labels (λ k d lt. grind (arith, one_label))
-
-frame_head : (shape : Shape) → shape ≡ Frame → (name : Option Label) (hs : List (Option Label)) → All IsSome hs → repeated_heading hs ≡ None → AreHeadings shape name hs
-frame_head = grind (arith, different)
-
 -- the kinds need no texts
 takes_seen : (op : Binary) (texts : List Text) (f s : NumberedTable) → takes_each op (table_value texts f) (table_value texts s) ≡ takes_each op f s
 takes_seen = grind (arith, list_all-map, column_seen)
@@ -225,6 +175,39 @@ module _ (kind : Kind) (labels keys : List (List Label)) (cs : List (ColumnOf Ce
     pub one_unfit : (whole : Bool) → fits ≡ false → fit_at place ≡ whole → false ≡ whole
     one_unfit _ unfit before = cc fits_from
 
+-- one column more, beside the first of another frame
+module _ (keys others : List (List Label)) (cs columns : List (ColumnOf Cell)) (place : ℕ) (rows : List ℕ) (is : rows ≡ slice_index_or (map (rows_with others) keys) place []) (lt : place < length keys) where
+  rows_here : rows ≡ rows_where (same_numbers (slice_index_or keys place [])) 0 others
+  rows_here = grind (arith, get_or-map)
+
+  pub firsts_inside : length others ≡ length columns → All (λ row. row < length columns) rows
+  firsts_inside many = λ k d inside. let all = rw (← rows_here) at (rows_pass (same_numbers (slice_index_or keys place [])) others) in omega (arith, (all k d inside).0, many)
+
+  abbrev first_fits : Bool
+  first_fits = fits_first (column_at cs place).kind columns rows
+
+  abbrev firsts_at : ℕ → Bool
+  firsts_at k = firsts_fit same_numbers (drop k keys) (drop k cs) others columns
+
+  module _ (lt' : place < length cs) where
+    firsts_from : firsts_at place ≡ (first_fits && firsts_at (place + 1))
+    firsts_from = grind (arith, rows_here, drop-cons, add-one)
+
+    pub one_more_first : (whole : Bool) → first_fits ≡ true → firsts_at place ≡ whole → firsts_at (place + 1) ≡ whole
+    one_more_first _ fit before = cc firsts_from
+
+    pub no_first : (whole : Bool) → first_fits ≡ false → firsts_at place ≡ whole → false ≡ whole
+    no_first _ unfit before = cc firsts_from
+
+pub pairs_firsts : (f g : NumberedTable) → length f.headings ≡ length f.columns → length g.headings ≡ length g.columns
+    → pairs_fit same_numbers (map heading_tuple f.headings) f.columns (map heading_tuple g.headings) g.columns
+    ≡ (firsts_fit same_numbers (map heading_tuple f.headings) f.columns (map heading_tuple g.headings) g.columns && firsts_fit same_numbers (map heading_tuple g.headings) g.columns (map heading_tuple f.headings) f.columns)
+pairs_firsts f g headed headed' = pairs_by_firsts same_numbers tuple_decides (map heading_tuple f.headings) f.columns (map heading_tuple g.headings) g.columns (grind (arith, length-map)) (grind (arith, length-map))
+
+pub pairs_alike : (f g : NumberedTable) → length f.headings ≡ length f.columns → length g.headings ≡ length g.columns → of_one_kind f.columns g.columns ≡ true
+    → pairs_fit same_numbers (map heading_tuple f.headings) f.columns (map heading_tuple g.headings) g.columns ≡ true
+pairs_alike f g headed headed' alike = one_kind_fits same_numbers (map heading_tuple f.headings) f.columns (map heading_tuple g.headings) g.columns (grind (arith, length-map)) (grind (arith, length-map)) alike
+
 -- with texts
 any_seen : (texts : List Text) (key : List Label) (labels : List (List Label)) → AreDistinct texts → IsSettled tuple_value texts key → All (IsSettled tuple_value texts) labels → list_any (same_tuple (tuple_value texts key)) (labels_value texts labels) ≡ list_any (same_numbers key) labels
 any_seen _ _ [] _ _ _ = refl
@@ -238,6 +221,25 @@ fit_seen _ _ _ (k ∷ ks) [] _ _ _ = refl
 fit_seen texts kind _ (k ∷ ks) (c ∷ cs) distinct all each =
     λ j. (if any_seen _ k _ distinct (All-head (IsSettled tuple_value texts) k ks each) all j then same_kind c.kind kind else true)
     && fit_seen _ kind _ ks cs distinct all (All-tail (IsSettled tuple_value texts) k ks each) j
+
+pairs_seen : (texts : List Text) (keys : List (List Label)) (cs : List (ColumnOf Cell)) (others : List (List Label)) (columns : List (ColumnOf Cell)) → AreDistinct texts → All (IsSettled tuple_value texts) keys → All (IsSettled tuple_value texts) others
+    → pairs_fit same_tuple (labels_value texts keys) (columns_value texts cs) (labels_value texts others) (columns_value texts columns) ≡ pairs_fit same_numbers keys cs others columns
+pairs_seen _ [] _ _ _ _ _ _ = refl
+pairs_seen _ (k ∷ ks) [] _ _ _ _ _ = refl
+pairs_seen texts (k ∷ ks) (c ∷ cs) others columns distinct all each =
+    let here : All (IsSettled tuple_value texts) (k ∷ []) = All-cons (IsSettled tuple_value texts) k [] (All-head (IsSettled tuple_value texts) k ks all) (All-nil (IsSettled tuple_value texts)) in
+    λ j. fit_seen texts c.kind (k ∷ []) others columns distinct here each j && pairs_seen texts ks cs others columns distinct (All-tail (IsSettled tuple_value texts) k ks all) each j
+
+-- the labels of columns were given
+keys_given : (texts : List Text) (t : NumberedTable) → IsSettled table_value texts t → All (IsSettled tuple_value texts) (map heading_tuple t.headings)
+keys_given texts t given = tuples_settled texts _ (labels_given (labels_axis t) t refl texts given)
+
+pub frames_seen : (op : Binary) (texts : List Text) (f g : NumberedTable) → AreDistinct texts → IsSettled table_value texts f → IsSettled table_value texts g
+    → frames_fit op (table_value texts f) (table_value texts g)
+    ≡ (list_all (takes_twice op) f.columns && list_all (takes_twice op) g.columns && pairs_fit same_numbers (map heading_tuple f.headings) f.columns (map heading_tuple g.headings) g.columns)
+frames_seen op texts f g distinct given given' =
+    let pairs = pairs_seen texts (map heading_tuple f.headings) f.columns (map heading_tuple g.headings) g.columns distinct (keys_given texts f given) (keys_given texts g given') in
+    grind (arith, list_all-map, tuples_seen texts f.headings, tuples_seen texts g.headings)
 
 module _ (texts : List Text) (f s : NumberedTable) where
   abbrev cells : List Cell
@@ -262,12 +264,12 @@ module _ (texts : List Text) (f s : NumberedTable) where
     headings_given : IsSettled headings_value texts labels
     headings_given = search (settled_by, keys_seen, labels_part)
 
-    pub spread_known : HaveLevels 1 s.labels → repeated_heading labels ≡ None → IsKnownTable texts (spread_table f s)
-    spread_known alike none = record {
+    pub spread_known : HaveLevels 1 s.labels → IsKnownTable texts (spread_table f s)
+    spread_known alike = record {
       whole = record {
         headed = grind (arith, length-map);
         filled = All-map (λ c. length c.cells ≡ length f.labels) (repeated kind (length f.labels)) cells (λ k d lt. length-replicate (length f.labels) _);
-        headings = search (frame_head, headings_some);
+        headings = search keys_head;
       };
       given = table_settled _ _ (columns_name_part _ f known.given) (level_names_part _ f known.given) (labels_part _ f known.given) headings_given
           (columns_settled _ _
@@ -276,29 +278,40 @@ module _ (texts : List Text) (f s : NumberedTable) where
     }
 
     module _ (distinct : AreDistinct texts) where
-      -- unless a label stands twice, by numbers
-      frame_by : (found : Option Label) → repeated_heading labels ≡ found → spread_frame v w ≡ unless_repeated (heading_value texts found) (limited_table (spread_series v w))
-      frame_by _ is = cc (keys_seen texts s.labels, repeated_seen texts labels distinct headings_given)
+      -- unless a label of the Series stands twice, or one of the frame
+      abbrev frame_after : Result Table FaultValue
+      frame_after = unless_repeated (first_repeated v.headings) (limited_table (spread_series v w))
 
-      pub spread_refused : (fault : OpFault) → NamesRepeated fault (repeated_heading labels) → MakesBy table_value texts (Err fault) (spread_frame v w)
-      spread_refused (Refused code) named = (
-        frame_by _ named.1 ∙ ap (λ c. Err (fault_of texts c)) (sym named.2),
-        search (repeated_settled, headings_given),
-      )
+      series_first : spread_frame v w ≡ unless_repeated (first_repeated (headings_value texts labels)) frame_after
+      series_first = cc (keys_seen texts s.labels)
+
+      pub spread_refused : (fault : OpFault) → NamesRepeated fault (shared_heading labels []) → MakesBy table_value texts (Err fault) (spread_frame v w)
+      spread_refused (Refused code) named = rw series_first (one_repeated texts labels distinct headings_given frame_after code named)
       spread_refused NoMemory _ = tt
+
+      module _ (none : shared_heading labels [] ≡ None) where
+        frame_next : spread_frame v w ≡ frame_after
+        frame_next = series_first ∙ none_repeated texts labels distinct headings_given frame_after none
+
+        pub frame_refused : (fault : OpFault) → NamesRepeated fault (shared_heading f.headings []) → MakesBy table_value texts (Err fault) (spread_frame v w)
+        frame_refused (Refused code) named = rw frame_next (one_repeated texts f.headings distinct (headings_part _ f known.given) (limited_table (spread_series v w)) code named)
+        frame_refused NoMemory _ = tt
 
       -- within the limits, and beyond them
       many : length (spread_series v w).columns ≡ length s.labels
       many = grind (arith, length-map, column_seen)
 
-      limited_by : (b : Bool) → repeated_heading labels ≡ None → within_limits (length f.labels) (length s.labels) ≡ b → spread_frame v w ≡ (if b then Ok (spread_series v w) else Err limit)
-      limited_by _ none within = grind (arith, length-map, many, frame_by None none)
+      module _ (none : shared_heading labels [] ≡ None) (none' : shared_heading f.headings [] ≡ None) where
+        limited_by : (b : Bool) → within_limits (length f.labels) (length s.labels) ≡ b → spread_frame v w ≡ (if b then Ok (spread_series v w) else Err limit)
+        limited_by _ within =
+            let last = none_repeated texts f.headings distinct (headings_part _ f known.given) (limited_table (spread_series v w)) none' in
+            grind (arith, length-map, many, frame_next none)
 
-      pub spread_made : repeated_heading labels ≡ None → within_limits (length f.labels) (length s.labels) ≡ true → spread_frame v w ≡ Ok (table_value texts (spread_table f s))
-      spread_made none within = limited_by _ none within ∙ ap Ok (sym spread_seen)
+        pub spread_made : within_limits (length f.labels) (length s.labels) ≡ true → spread_frame v w ≡ Ok (table_value texts (spread_table f s))
+        spread_made within = limited_by _ within ∙ ap Ok (sym spread_seen)
 
-      pub spread_beyond : repeated_heading labels ≡ None → within_limits (length f.labels) (length s.labels) ≡ false → spread_frame v w ≡ Err limit
-      spread_beyond none within = limited_by _ none within
+        pub spread_beyond : within_limits (length f.labels) (length s.labels) ≡ false → spread_frame v w ≡ Err limit
+        spread_beyond within = limited_by _ within
 
   -- A frame and a Series of other labels than its columns.
   module _ (op : Binary) (left : Bool) where
@@ -322,3 +335,33 @@ module _ (texts : List Text) (f s : NumberedTable) where
     pub by_labels : (fit compared : Bool) → takes_each op f s ≡ true → length s.level_names ≡ 1 → AreDistinct texts → IsSettled table_value texts f → IsSettled table_value texts s
         → fit ≡ labels_fit same_numbers kind s.labels (map heading_tuple f.headings) f.columns → compares op ≡ compared → across_unequal op left v w ≡ rest fit compared
     by_labels _ _ kinds one distinct given given' is compared = cc (by_tests true true kinds (grind (arith, nat_tests)), fit_is distinct given given')
+
+    -- the frame and the Series in each of its rows pass the tests of frames of other columns
+    pub spread_may : IsWhole f → IsWhole s → s.shape ≡ Series → HaveLevels 1 s.labels → takes_each op f s ≡ true → AreDistinct texts → IsSettled table_value texts f → IsSettled table_value texts s
+        → labels_fit same_numbers kind s.labels (map heading_tuple f.headings) f.columns ≡ true → compares op ≡ false → MayWiden op v (spread_series v w)
+    spread_may whole whole' series alike taken distinct given given' fit apart = record {
+      fit = spread_fit op v w (grind (arith, length-map)) (grind (arith, length-map, column_seen)) (All-map (λ (t : List LabelValue). length t ≡ 1) (tuple_value texts) s.labels (λ k d lt. grind (arith, length-map)))
+          (takes_seen op texts f s ∙ taken) (fit_is distinct given given' ∙ fit);
+      levels = same_itself v.level_names;
+      apart = apart;
+    }
+
+-- what a Series in each row of a frame comes to
+spread_is : (f s t : Table) → spread_frame f s ≡ Ok t → t ≡ spread_series f s
+spread_is = grind arith
+
+may_turned : (op : Binary) (texts : List Text) (f g : NumberedTable) → IsWhole f → IsWhole g → MayWiden op (table_value texts f) (table_value texts g) → MayWiden op (table_value texts g) (table_value texts f)
+may_turned op texts f g whole whole' may = record {
+  fit = turned_fit op (table_value texts f) (table_value texts g) may.fit (grind (arith, length-map)) (grind (arith, length-map));
+  levels = count_turned (table_value texts f).level_names (table_value texts g).level_names may.levels;
+  apart = may.apart;
+}
+
+-- so the frame passes them with what was made, and that with the frame
+module _ (op : Binary) (texts : List Text) (f s other made : NumberedTable) (is : other ≡ made) (are : spread_frame (table_value texts f) (table_value texts s) ≡ Ok (table_value texts made))
+    (may : MayWiden op (table_value texts f) (spread_series (table_value texts f) (table_value texts s))) where
+  pub may_right : MayWiden op (table_value texts f) (table_value texts other)
+  may_right = subst (MayWiden op (table_value texts f)) (sym (ap (table_value texts) is ∙ spread_is (table_value texts f) (table_value texts s) (table_value texts made) are)) may
+
+  pub may_left : IsWhole f → IsWhole made → MayWiden op (table_value texts other) (table_value texts f)
+  may_left whole whole' = may_turned op texts f other whole (rw is whole') may_right

@@ -1,8 +1,7 @@
 -- Rows that are joined by their labels, with texts by number.
-use Rattle.std.specs.Prelude.{◌≡◌, ◌≢◌, ◌≤◌, ◌^◌, ℕ, true, List, length, Option, Result, Err, All, AllPairs, if◌then◌else◌}
+use Rattle.std.specs.Prelude.{◌≡◌, ◌≤◌, ◌^◌, ℕ, true, List, length, Option, Result, Err, All, if◌then◌else◌}
 use Rattle.std.specs.List.{list_all}
 use Rattle.cell_core.specs.declared.cell.Cell.TheVariants.{Na}
-use Rattle.cell_core.specs.declared.cell.Label.{Label}
 use Rattle.column_core.specs.cells.Text.{Text}
 use Rattle.column_core.specs.cells.Cell.{LabelValue}
 use Rattle.column_core.specs.cells.Fault.{FaultValue, bad_value, not_aligned}
@@ -40,10 +39,6 @@ pub record IsJoined (a b : AxisValue) (rows : Joined) : Type 0 where
   pub levels : HaveLevels (length a.names) rows.axis.tuples
   pub left : AreSideRows (length rows.axis.tuples) a rows.left
   pub right : AreSideRows (length rows.axis.tuples) b rows.right
-
--- tuples of which none stands twice
-abbrev pub AreApart : List (List Label) → Type 0
-AreApart tuples = AllPairs (λ a b. a ≢ b) tuples
 
 -- a side on joined rows, which are numbered
 abbrev pub side_on : NumberedTable → List (Option ℕ) → NumberedTable

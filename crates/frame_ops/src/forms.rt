@@ -115,12 +115,13 @@ fn sign_made(
 /// # Errors
 ///
 /// In this order: `WrongKind` of two scalars, and where the operator doesn't take the kinds of some
-/// columns that meet, or twice the kind of one that a side lacks; `BadValue(Levels)` where the rows of
-/// two Series or two frames have levels of different numbers, or the Series beside a frame has several;
-/// `BadValue(NotAligned)` of a comparison where the labels of rows or columns differ;
-/// `BadValue(Repeated)` of a Series that has a label twice, beside a frame whose columns have others;
-/// `Limit`; `ZeroDivide` by a divisor of 0 with a present dividend. `NoMemory` may come in place of any answer.
-/// After a refusal all objects are as they were.
+/// columns that meet or have one label, or twice the kind of one that a side lacks;
+/// `BadValue(Levels)` where the rows of two Series or two frames have levels of different numbers, or
+/// the Series beside a frame has several; `BadValue(NotAligned)` of a comparison where the labels of
+/// rows or columns differ; `BadValue(Repeated)` where columns meet by their labels and one stands
+/// twice: in the left frame, then in the right one, or in the Series, then in the frame beside it;
+/// `Limit`; `ZeroDivide` by a divisor of 0 with a present dividend. `NoMemory` may come in place of any
+/// answer. After a refusal all objects are as they were.
 pub fn infix(
     alloc: Global,
     store: &mut Store,

@@ -1,12 +1,15 @@
 // Labels of columns that meet.
-ghost use Rattle.std.specs.Prelude.{◌≡◌};
+ghost use Rattle.std.specs.Prelude.{◌≡◌, [], None, length, IfOk, IfErr};
 ghost use Rattle.frame_store.specs.Shown.{headings_value, labels_value};
 ghost use Rattle.frame_store.specs.World.{IsKnownTable};
 ghost use Rattle.frame_parts.specs.form.Infix as meant;
+ghost use Rattle.frame_select.specs.Headings.{shared_heading, NamesRepeated};
 
-use cell_core::{Grid, TextDict};
+use cell_core::{Grid, Label, NoMemory, TextDict};
 use frame_parts::same_heading;
-use frame_store::ObjRef;
+use frame_select::expect_unshared;
+use frame_store::{ObjRef, OpFault};
+use std::alloc::Global;
 
 /// Whether two tables have the same labels at the same columns.
 pub(crate) fn same_headings(dict: &TextDict, a: &ObjRef<'_>, b: &ObjRef<'_>) -> bool
@@ -47,4 +50,30 @@ pub(crate) fn are_headings(dict: &TextDict, series: &ObjRef<'_>, frame: &ObjRef<
         }
     }
     true
+}
+
+// The headings of a table, in order.
+fn listed_headings(alloc: Global, on: &ObjRef<'_>) -> Result<Vec<Option<Label>>, NoMemory>
+    requires { length on.now.headings ≡ length on.now.columns }
+    ensures { IfOk result (λ made. made.items ≡ on.now.headings) }
+{
+    let mut made = Vec::new(alloc);
+    for place in 0..on.columns() {
+        made.push(on.heading(place))?;
+    }
+    Ok(made)
+}
+
+/// Tests that the labels of a frame's columns differ. Texts are told apart by their numbers.
+///
+/// `BadValue(Repeated)` of the first one that stands again at a later column. `NoMemory` may come in place of any
+/// answer.
+pub(crate) fn expect_different(alloc: Global, frame: &ObjRef<'_>) -> Result<(), OpFault>
+    requires { length frame.now.headings ≡ length frame.now.columns }
+    ensures none { IfOk result (λ done. shared_heading frame.now.headings [] ≡ None) }
+    ensures refused { IfErr result (λ fault.
+        NamesRepeated fault (shared_heading frame.now.headings [])) }
+{
+    let headings = listed_headings(alloc, frame)?;
+    expect_unshared(alloc, &headings, &[])
 }

@@ -15,7 +15,7 @@ ghost use Rattle.frame_store.specs.Shown.{Makes, labels_value, headings_value};
 ghost use Rattle.frame_store.specs.World.{IsKnownTable};
 ghost use Rattle.frame_parts.specs.Makes.{MakesBy, AreColumns, blocks_value};
 ghost use Rattle.frame_ops.specs.declared.other.Other.TheVariants.{Beside};
-ghost use Rattle.frame_ops.specs.Joining.{joined_value, joined_within, side_on, IsJoined, AreApart};
+ghost use Rattle.frame_ops.specs.Joining.{joined_value, joined_within, side_on, IsJoined};
 ghost use Rattle.frame_ops.specs.Namings.{named_by, IsNaming, IsSettledNaming};
 ghost use Rattle.frame_ops.specs.Pairs.{all_met, kinds_meet, columns_meant};
 
@@ -48,8 +48,6 @@ pub(crate) fn joined_rows(
     ensures given { IfOk result (λ rows. IsSettled labels_value dict.now rows.axis.tuples) }
     ensures inside { IfOk result (IsJoined a.now b.now) }
     ensures names { IfOk result (λ rows. length rows.axis.names ≡ length a.now.names) }
-    ensures apart { IfOk result (λ rows. AreApart a.now.tuples → AreApart b.now.tuples
-        → AreApart rows.axis.tuples) }
 {
     // Equal texts have equal numbers: `TextDict::len` says so. Each row has a label for each level: `Axis::levels`
     // does.

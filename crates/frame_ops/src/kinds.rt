@@ -34,7 +34,7 @@ fn takes_kind(op: Operator, kind: Kind) -> bool
 }
 
 // Whether it takes columns of these kinds, whichever is on the left: never of two.
-pub(crate) fn takes(op: Operator, a: Kind, b: Kind) -> bool
+fn takes(op: Operator, a: Kind, b: Kind) -> bool
     ensures straight { result ≡ is_some (operator_kind (operator_of op) a b) }
     ensures turned { result ≡ is_some (operator_kind (operator_of op) b a) }
 {
@@ -93,8 +93,8 @@ pub(crate) fn columns_fit(op: Operator, a: &ObjRef<'_>, b: &ObjRef<'_>) -> bool
     true
 }
 
-// Whether the operator takes columns of each column's kind on both sides.
-fn columns_taken(op: Operator, frame: &ObjRef<'_>) -> bool
+/// Whether the operator takes columns of each column's kind on both sides.
+pub(crate) fn columns_taken(op: Operator, frame: &ObjRef<'_>) -> bool
     ensures { result ≡ list_all (meant.takes_twice (operator_of op)) frame.now.columns }
 {
     for place in 0..frame.columns() {
@@ -125,8 +125,8 @@ pub(crate) fn takes_each(op: Operator, frame: &ObjRef<'_>, series: &ObjRef<'_>) 
     columns_taken(op, frame) && rows_taken(op, series)
 }
 
-// Whether two kinds are one.
-fn same_kind(a: Kind, b: Kind) -> bool
+/// Whether two kinds are one.
+pub(crate) fn same_kind(a: Kind, b: Kind) -> bool
     ensures { result ≡ finish.same_kind a b }
 {
     match a {

@@ -14,6 +14,7 @@
 #![tactic(auto)]
 
 mod columns;
+mod fitting;
 mod forms;
 mod headings;
 mod joining;

@@ -1,5 +1,5 @@
 // A Series in each row of a frame whose columns have other labels.
-ghost use Rattle.std.specs.Prelude.{◌≡◌, ◌≤◌, length, map, None, All, IfOk, IfErr};
+ghost use Rattle.std.specs.Prelude.{◌≡◌, ◌≤◌, [], length, map, None, All, IfOk, IfErr};
 ghost use Rattle.cell_core.specs.declared.grid.Shape.TheVariants.{Series as one_column, Frame as columns};
 ghost use Rattle.multi_index.specs.Axes.{HaveLevels};
 ghost use Rattle.row_keys.specs.Keys.{same_tuple as same_numbers};
@@ -9,16 +9,17 @@ ghost use Rattle.frame_parts.specs.form.Infix.{tuple_heading};
 ghost use Rattle.frame_store.specs.Parts.{columns_of, IsSingle};
 ghost use Rattle.frame_store.specs.World.{IsKnownTable};
 ghost use Rattle.frame_parts.specs.Makes.{MakesBy};
-ghost use Rattle.frame_select.specs.Headings.{repeated_heading, NamesRepeated};
+ghost use Rattle.frame_select.specs.Headings.{shared_heading, NamesRepeated};
 ghost use Rattle.frame_ops.specs.Pairs.{repeated};
 ghost use Rattle.frame_ops.specs.Widening.{heading_tuple, headings_of_keys};
 
+use crate::headings::expect_different;
 use crate::kinds::fits_rows;
 use crate::widening::heading_tuples;
 use cell_core::{Code, Grid, Label, NoMemory, TextDict};
 use column_core::{ColRef, Column};
 use frame_parts::within_limits;
-use frame_select::different_headings;
+use frame_select::{expect_unshared, heading_list};
 use frame_store::{Blocks, Headings, ObjRef, OpFault, Table};
 use row_keys::find_partners;
 use std::alloc::Global;
@@ -72,12 +73,13 @@ fn spread_headings(
     requires one { length series.now.level_names ≡ 1 }
     ensures made { IfOk result (λ made. made ≡ headings_of_keys name series.now.labels) }
     ensures different { IfOk result (λ made.
-        repeated_heading (map tuple_heading series.now.labels) ≡ None) }
+        shared_heading (map tuple_heading series.now.labels) [] ≡ None) }
     ensures refused { IfErr result (λ fault.
-        NamesRepeated fault (repeated_heading (map tuple_heading series.now.labels))) }
+        NamesRepeated fault (shared_heading (map tuple_heading series.now.labels) [])) }
 {
     let labels = label_headings(alloc, series)?;
-    different_headings(alloc, name, &labels)
+    expect_unshared(alloc, &labels, &[])?;
+    Ok(heading_list(alloc, name, &labels)?)
 }
 
 // A column for each of these cells, which stands in so many rows.
@@ -97,7 +99,8 @@ fn spread_columns(alloc: Global, cells: ColRef<'_>, rows: usize) -> Result<Block
 
 /// A Series in each row of a frame, as a frame whose columns it labels.
 ///
-/// `BadValue(Repeated)` of the first label that stands again at a later row, then `Limit` before a column is made.
+/// `BadValue(Repeated)` of the first label that stands again at a later row, then of the frame's first one that stands
+/// again at a later column, and then `Limit` before a column is made.
 /// `NoMemory` may come in place of any answer.
 #[tactic(auto, using(crate::proofs::Hints::spread_frame))]
 pub(crate) fn spread_frame(
@@ -120,6 +123,7 @@ pub(crate) fn spread_frame(
     // Equal texts have equal numbers: `TextDict::len` says so.
     let _ = dict.len();
     let headings = spread_headings(alloc, frame.columns_name(), series)?;
+    expect_different(alloc, frame)?;
     if !within_limits(frame.rows(), series.rows()) {
         return Err(OpFault::Refused(Code::Limit));
     }

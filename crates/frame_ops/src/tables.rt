@@ -7,33 +7,32 @@ ghost use Rattle.column_core.specs.cells.Fault.{FaultValue, then_value};
 ghost use Rattle.multi_index.specs.Axes.{HaveLevels};
 ghost use Rattle.column_operators.specs.Tasks.{operator_of};
 ghost use Rattle.frame_store.specs.tables.Table.{table_value};
-ghost use Rattle.frame_store.specs.tables.Valid.{IsWhole};
 ghost use Rattle.frame_store.specs.tables.Value as value;
 ghost use Rattle.frame_store.specs.tables.Value.{Entry};
 ghost use Rattle.frame_parts.specs.form.Finish.{with_columns};
 ghost use Rattle.frame_parts.specs.form.Infix as meant;
-ghost use Rattle.frame_parts.specs.form.Infix.{on_columns, same_tuples};
+ghost use Rattle.frame_parts.specs.form.Infix.{same_tuples, spread_series};
 ghost use Rattle.frame_store.specs.Shown.{Makes, labels_value};
 ghost use Rattle.frame_store.specs.World.{IsKnownTable};
 ghost use Rattle.frame_parts.specs.Makes.{Passes};
-ghost use Rattle.frame_ops.specs.Joining.{joined_after, joined_value, AreSideRows, MayJoin};
+ghost use Rattle.frame_ops.specs.Fitting.{unequal_after, MayWiden};
+ghost use Rattle.frame_ops.specs.Joining.{joined_after, MayJoin};
 ghost use Rattle.frame_ops.specs.Pairs.{columns_for, IsOpposite, IsGivenOther};
 ghost use Rattle.frame_ops.specs.Namings.{named_by, IsNaming, IsSettledNaming};
-ghost use Rattle.frame_ops.specs.Widening.{labels_axis};
 
 use crate::columns::infix_columns;
-use crate::headings::{are_headings, same_headings};
+use crate::fitting::frames_fit;
+use crate::headings::{are_headings, expect_different, same_headings};
 use crate::joining::joined_infix;
 use crate::kinds::{columns_fit, compares, takes_each};
 use crate::naming::{Naming, headings_by};
 use crate::other::Other;
 use crate::spreading::{labels_fit, spread_frame};
-use crate::widening::{joined_labels, takes_wide, widened};
+use crate::widening::{joined_labels, widened};
 use cell_core::{Cell, Code, Grid, Reason, Shape, TextDict};
 use column_operators::Operator;
 use frame_parts::{common_name, same_rows, within_limits};
 use frame_store::{ObjRef, OpFault, Table, table_under};
-use label_align::Joined;
 use std::alloc::Global;
 
 // The table of what the operator makes of each column and what it meets.
@@ -197,26 +196,27 @@ fn common_infix(
     rows_infix(alloc, dict, op, a, b, Naming::ColumnsName(name))
 }
 
-// Tests what frames must have whose columns are joined by their labels, before a column is made: columns that the
-// operator takes, as many levels, and room for the rows of either, each of which is a row of the answer. None are
-// compared.
-#[tactic(auto, using(crate::proofs::Hints::expect_wide))]
-fn expect_wide(op: Operator, a: &ObjRef<'_>, b: &ObjRef<'_>, joined: &Joined) -> Result<(), OpFault>
-    requires whole_a { IsWhole a.now }
-    requires whole_b { IsWhole b.now }
-    requires left { AreSideRows (length joined.now.axis.tuples)
-        (labels_axis a.now) joined.now.left }
-    requires right { AreSideRows (length joined.now.axis.tuples)
-        (labels_axis b.now) joined.now.right }
-    ensures passes { (texts : List Text) → let v = table_value texts a.now in
-        let w = table_value texts b.now in
-        let keys = labels_value texts joined.now.axis.tuples in
-        Passes texts result (meant.common_infix (operator_of op)
-        (on_columns v w keys joined.now.left joined.now.right)
-        (on_columns w v keys joined.now.right joined.now.left))
-        (meant.wide_infix (operator_of op) v w (joined_value texts joined.now)) }
+// Tests what frames of other columns must have: columns that the operator takes, those of one label of one kind, as
+// many levels, and no label of columns twice. None are compared.
+#[tactic(auto, using(crate::proofs::Hints::expect_unequal))]
+fn expect_unequal(
+    alloc: Global,
+    dict: &TextDict,
+    op: Operator,
+    a: &ObjRef<'_>,
+    b: &ObjRef<'_>,
+) -> Result<(), OpFault>
+    requires known_a { IsKnownTable dict.now a.now }
+    requires known_b { IsKnownTable dict.now b.now }
+    ensures may { OnOk result (MayWiden (operator_of op)
+        (table_value dict.now a.now) (table_value dict.now b.now)) }
+    ensures passes { (rest : Result Entry FaultValue)
+        → Passes dict.now result rest (unequal_after (operator_of op)
+        (table_value dict.now a.now) (table_value dict.now b.now) rest) }
 {
-    if !takes_wide(op, a, b, &joined.left, &joined.right) {
+    // Equal texts have equal numbers: `TextDict::len` says so.
+    let _ = dict.len();
+    if !frames_fit(alloc, dict, op, a, b)? {
         return Err(OpFault::Refused(Code::WrongKind));
     }
     if a.levels() != b.levels() {
@@ -225,13 +225,12 @@ fn expect_wide(op: Operator, a: &ObjRef<'_>, b: &ObjRef<'_>, joined: &Joined) ->
     if compares(op) {
         return Err(OpFault::Refused(Code::BadValue(Reason::NotAligned)));
     }
-    if !within_limits(a.rows().max(b.rows()), joined.axis.len()) {
-        return Err(OpFault::Refused(Code::Limit));
-    }
-    Ok(())
+    expect_different(alloc, a)?;
+    expect_different(alloc, b)
 }
 
-// Two frames by the labels of columns that either has.
+// Two frames by the labels of columns that either has. `Limit` before a column is made, where the rows of either are
+// too many: each is a row of the answer.
 #[tactic(auto, using(crate::proofs::Hints::wide_infix))]
 fn wide_infix(
     alloc: Global,
@@ -244,12 +243,16 @@ fn wide_infix(
     requires known_b { IsKnownTable dict.old b.now }
     requires frame_a { a.now.shape ≡ columns }
     requires frame_b { b.now.shape ≡ columns }
+    requires may { MayWiden (operator_of op)
+        (table_value dict.old a.now) (table_value dict.old b.now) }
     ensures longer { IsLonger dict.old dict.new }
     ensures makes { Makes dict.new result (meant.joined_frames (operator_of op)
         (table_value dict.old a.now) (table_value dict.old b.now)) }
 {
     let joined = joined_labels(alloc, dict, a, b)?;
-    expect_wide(op, a, b, &joined)?;
+    if !within_limits(a.rows().max(b.rows()), joined.axis.len()) {
+        return Err(OpFault::Refused(Code::Limit));
+    }
     let left = widened(alloc, a, b, &joined.axis, &joined.left, &joined.right)?;
     let right = widened(alloc, b, a, &joined.axis, &joined.right, &joined.left)?;
     let on = left.read();
@@ -272,10 +275,11 @@ fn frame_infix(
     ensures makes { Makes dict.new result (meant.frame_infix (operator_of op)
         (table_value dict.old a.now) (table_value dict.old b.entry)) }
 {
-    if !same_headings(dict, a, &b) {
-        return wide_infix(alloc, dict, op, a, &b);
+    if same_headings(dict, a, &b) {
+        return common_infix(alloc, dict, op, a, b);
     }
-    common_infix(alloc, dict, op, a, b)
+    expect_unequal(alloc, dict, op, a, &b)?;
+    wide_infix(alloc, dict, op, a, &b)
 }
 
 // A frame and a Series, by the labels of columns that either has.
@@ -293,6 +297,8 @@ fn joined_across(
     requires series { series.now.shape ≡ one_column }
     requires level { HaveLevels 1 series.now.labels }
     requires one { length series.now.level_names ≡ 1 }
+    requires may { MayWiden (operator_of op) (table_value dict.old frame.now)
+        (spread_series (table_value dict.old frame.now) (table_value dict.old series.now)) }
     ensures longer { IsLonger dict.old dict.new }
     ensures makes { Makes dict.new result (then_value (meant.spread_frame
         (table_value dict.old frame.now) (table_value dict.old series.now))

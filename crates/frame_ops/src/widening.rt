@@ -3,6 +3,7 @@ ghost use Rattle.std.specs.Prelude.{◌≡◌, ◌∷◌, [], length, map, All, 
 ghost use Rattle.cell_core.specs.declared.cell.Cell.TheVariants.{Na};
 ghost use Rattle.cell_core.specs.declared.grid.Shape.TheVariants.{Frame as columns};
 ghost use Rattle.column_core.specs.Moves.{IsPlaceOf};
+ghost use Rattle.multi_index.specs.Axes.{HaveLevels};
 ghost use Rattle.frame_store.specs.tables.Settled.{IsSettled};
 ghost use Rattle.frame_store.specs.tables.Table.{table_value};
 ghost use Rattle.frame_store.specs.tables.Valid.{IsWhole};
@@ -14,14 +15,11 @@ ghost use Rattle.frame_store.specs.Shown.{labels_value};
 ghost use Rattle.frame_store.specs.World.{IsKnownTable};
 ghost use Rattle.frame_parts.specs.Makes.{MakesBy};
 ghost use Rattle.frame_ops.specs.Joining.{joined_value, AreSideRows};
-ghost use Rattle.frame_ops.specs.Widening.{heading_tuple, labels_axis, headings_of_keys, kind_or, takes_wide, widened, AreColumnKeys};
-ghost use Rattle.column_operators.specs.Tasks.{operator_of};
+ghost use Rattle.frame_ops.specs.Widening.{heading_tuple, labels_axis, headings_of_keys, widened};
 
 use crate::joining::joined_rows;
-use crate::kinds::takes;
 use cell_core::{Cell, Gaps, Grid, Kind, Label, NoMemory, TextDict, Tuple, Tuples};
 use column_core::Column;
-use column_operators::Operator;
 use frame_store::{Blocks, Headings, ObjRef, OpFault, Table};
 use label_align::Joined;
 use multi_index::Axis;
@@ -77,7 +75,7 @@ pub(crate) fn joined_labels(
     ensures columns { MakesBy joined_value dict.now result (meant.joined_rows
         (column_labels (table_value dict.now a.now)) (column_labels (table_value dict.now b.now))) }
     ensures given { IfOk result (λ joined. IsSettled labels_value dict.now joined.axis.tuples) }
-    ensures keys { IfOk result (λ joined. AreColumnKeys joined.axis.tuples) }
+    ensures keys { IfOk result (λ joined. HaveLevels 1 joined.axis.tuples) }
     ensures level { IfOk result (λ joined. length joined.axis.names ≡ 1) }
     ensures left { IfOk result (λ joined.
         AreSideRows (length joined.axis.tuples) (labels_axis a.now) joined.left) }
@@ -159,7 +157,7 @@ pub(crate) fn widened(
 ) -> Result<Table, NoMemory>
     requires whole { IsWhole own.now }
     requires frame { own.now.shape ≡ columns }
-    requires keys { AreColumnKeys keys.now.tuples }
+    requires keys { HaveLevels 1 keys.now.tuples }
     requires level { length keys.now.names ≡ 1 }
     requires places { AreSideRows (length keys.now.tuples) (labels_axis own.now) places.now }
     requires opposites { AreSideRows (length keys.now.tuples)
@@ -172,47 +170,4 @@ pub(crate) fn widened(
     let blocks = columns_or_missing(alloc, own, other, places, opposites)?;
     let axis = own.axis().copy(alloc)?;
     Ok(Table::new(own.shape(), axis, headings, blocks))
-}
-
-// The kind of a side's column at a place, or of the one that stands opposite.
-fn kind_or(
-    own: &ObjRef<'_>,
-    other: &ObjRef<'_>,
-    place: Option<usize>,
-    opposite: Option<usize>,
-) -> Kind
-    requires place { IsPlaceOf (length own.now.columns) place }
-    requires opposite { IsPlaceOf (length other.now.columns) opposite }
-    ensures { result ≡ kind_or own.now.columns other.now.columns place opposite }
-{
-    match (place, opposite) {
-        (Some(place), _) => own.kind(place),
-        (None, Some(opposite)) => other.kind(opposite),
-        (None, None) => Kind::Int64,
-    }
-}
-
-/// Whether the operator takes the columns that joined labels bring together. Takes no memory.
-#[tactic(auto, using(crate::proofs::WideLaws::one_more_taken, crate::proofs::WideLaws::one_not_taken))]
-pub(crate) fn takes_wide(
-    op: Operator,
-    own: &ObjRef<'_>,
-    other: &ObjRef<'_>,
-    places: &Gaps,
-    opposites: &Gaps,
-) -> bool
-    requires places { All (IsPlaceOf (length own.now.columns)) places.now }
-    requires opposites { All (IsPlaceOf (length other.now.columns)) opposites.now }
-    requires many { length opposites.now ≡ length places.now }
-    ensures { result ≡ takes_wide (operator_of op)
-        own.now.columns other.now.columns places.now opposites.now }
-{
-    for k in 0..places.len() {
-        let (place, opposite) = (*places.at(k), *opposites.at(k));
-        let kind = kind_or(own, other, place, opposite);
-        if !takes(op, kind, kind_or(other, own, opposite, place)) {
-            return false;
-        }
-    }
-    true
 }

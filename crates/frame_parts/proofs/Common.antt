@@ -6,7 +6,7 @@ pub use Rattle.{
   nullable_array.specs.{Answers.{Answers}, declared.ops.ArrayFault.{ArrayFault}},
   multi_index.{proofs.SideLaws.{label_there}, specs.Axes.{AxisValue, HaveLevels, nameless_axis, range_axis, single_tuples, taken_axis}},
   frame_store.{proofs.{tables.KindLaws.{kind_itself}, ColumnLaws.{map-put_at, map-remove}, FormLaws.{answer_cost, cells_with_texts, charged_within, cost_within, forms_within, free_forms, free_sets, holds_within, sets_within}, Settling.{cell_given, cell_settled, cells_given, cells_settled, column_settled, columns_given, columns_name_part, columns_part, columns_settled, headings_part, labels_part, level_names_part, longer_self, longer_twice, object_settled, seen_later, settled_by, settled_later, settled_with, table_settled}}, specs.{tables.{Change.{put_at, with_column, with_labels, with_values, with_values_from}, Settled.{IsSettled}, Table.{ColumnOf, NumberedTable, Table, column_at, column_value, heading_value, no_column, row_of, table_value, tuple_value}, Valid.{AreHeadings, IsWhole}, Cost.{answer_charge, cost_of, free}, Value.{Entry, Given, GivenList, GivenSub, NamedGiven, cell, dict_in, list_in, many, more_given, no_given, object_in, one, scalar_in, table}}, Arguments.{AreLive, AreLiveItems, IsLive, IsLiveArgument, IsLiveItem, argument_of, arguments_of, entries_of, entry_of, item_of, items_of, items_row, object_value, subscript_of}, Grids.{grid_of}, Objects.{Holding, Tables, changing, holding_of, table_at, table_or, tables, with_object}, Parts.{AreColumnsOf, HaveRows, HeadingList, IsSingle, axis_of, block_column, columns_of, headings_of, single_block, table_column, table_of, table_with}, Shown.{FormAnswers, Makes, Refuses, Shown, cells_value, columns_value, headings_value, labels_value, shown, table_in, with_shown}, Stores.{charged}, World.{AreKnownArguments, Forms, FormsFor, Holds, IsKnownArgument, IsKnownSubscript, IsKnownTable, IsKnownValue, IsSettledWorld, Keeps, SetsFor, World, argument_in, arguments_in, entry_in, objects_of, world}, declared.{arguments.{Argument.{Argument, Many, One}, Item.{Item, Row', Row_of-Item, end_of-Item, more_of-Item}, Named.{Named}, Subscript.{Subscript, TheVariants.{Key}}, Value.{Value, TheVariants.{Object, Scalar}}}, fault.OpFault.{OpFault, TheVariants.{NoMemory, Refused}}, object.ObjId.{ObjId}, store.Store.{Store}}}},
-  meaning_form.{proofs.align.{OrderLaws.{all_distinct, all_flat}, SeenLaws.{distinct_map, first_map}}, specs.{align.{Faults.{met_rows}, Joins.{most_rows}, Targets.{first_repeated, first_where, reindexed}}, Finish.{column_labels, column_of_value, default_labels, finished, limited, limited_table, made_column, missing_column, same_heading, same_kind, try_all, unless_repeated, value_of_column, with_columns, within_limits}, Given.{same_label}, Infix.{Meeting, are_headings, beside, columns_or_missing, common_name, compares, labels_fit, meets, met, on_levels, on_rows, same_tuple, same_tuples, spread, tuple_heading, with_scalar}, Make.{on, pairs_in, pairs_onto, with_pair}, Select.{cells_of, argument_column, heading_at, labels_of, place_of_label, selected_column}, Set.{first_kind, list_column}}},
+  meaning_form.{proofs.align.{OrderLaws.{all_distinct, all_flat}, SeenLaws.{distinct_map, first_map}}, specs.{align.{Faults.{met_rows}, Joins.{most_rows}, Targets.{first_repeated, first_where, reindexed}}, Finish.{column_labels, column_of_value, default_labels, limited, limited_table, made_column, missing_column, same_heading, same_kind, try_all, unless_repeated, value_of_column, with_columns, within_limits}, Given.{same_label}, Infix.{Meeting, are_headings, beside, columns_or_missing, common_name, compares, labels_fit, meets, met, on_levels, on_rows, same_tuple, same_tuples, spread, tuple_heading, with_scalar}, Make.{on, pairs_in, pairs_onto, with_pair}, Select.{cells_of, heading_at, labels_of, place_of_label}, Set.{first_kind, list_column}}},
   label_align.specs.{Answers.{AlignsBy, as_it_is}, Joined.{lists_seen}, Tuples.{tuple_less}, declared.joined.Joined.{Joined}},
   frame_parts.{proofs.{GapLaws.{block_on, on_rows_given, on_rows_seen, rows_below, rows_counted, rows_met, rows_refused, single_on}, LabelLaws.{default_seen, heading_label, same_by_number, value_decides}, RowLaws.{settled_tuples, tuple_by_number, tuples_settled}, TableMade.{made_is_meant, made_is_settled, refused_on}}, specs.Makes.{AreColumns, IsKindOf, MakesBy, block_value, blocks_value, column_listed, column_seen, held_column}},
 }

@@ -1,5 +1,5 @@
 -- The frame that `melt` makes is the one that is meant.
-use Rattle.{frame_parts.proofs.Common.{◌≡◌, ◌∙◌, ap, refl, sym, subst, arith, ℕ, suc, zero, ◌<◌, ◌≤◌, ◌^◌, pos, true, false, List, [], ◌∷◌, ◌++◌, map, length, replicate, flat_map, All, Option, None, IsSome, Result, Ok, Err, nat_tests, append_assoc, map-append, length-map, length-append, length-replicate, get_or-map, length-map-range_with_len, All-map, All-append, All-cons, All-nil, Cell, Label, Kind, Frame, Limit, WrongKind, AreDistinct, IsLonger, Text, datum, CellValue, FaultValue, then_value, int, fault_of, CellBlock, AxisValue, range_axis, default_labels, default_seen, IsSettled, ColumnOf, NumberedTable, Table, table_value, column_value, heading_value, tuple_value, column_at, IsWhole, Entry, table, OpFault, Refused, NoMemory, HeadingList, columns_of, single_block, table_column, CellColumn, table_of, table_settled, settled_by, settled_later, seen_later, IsKnownTable, columns_value, headings_value, cells_value, Makes, MakesBy, column_listed, within_limits, limited, finished, unless_repeated, refused_on}, column_core.proofs.{cells.Common.{◌*◌}, CellRows.{map-map}}, frame_parts.specs.form.Finish.{first_repeated}, frame_select.{specs.Headings.{NamesRepeated, repeated_heading}, proofs.{AnswerLaws.{column_seen}, HeadingLaws.{repeated_seen}, RefusalLaws.{repeated_settled}}}, frame_labels.{specs.method.{Concat.{columns_below}, Reshape.{value_labels, label_column, melted_headings, melted, melt_of}}, proofs.{TableLaws.{limited_within, frame_heads}, IndexingLaws.{labelled, headings_seen}}}, frame_reshape.{specs.{Checks.{kinds_at, are_one}, Melts.{heading_cell, heading_cells, label_cells, kept_column, melted_value, IsMelted}, declared.melting.Melted.{Melted}}, proofs.MeltCells.{first_kind, below, below_meant, below_count, rows_of_columns, headings_meant}}}
+use Rattle.{frame_parts.proofs.Common.{◌≡◌, ◌∙◌, ap, refl, sym, subst, arith, ℕ, suc, zero, ◌<◌, ◌≤◌, ◌^◌, pos, true, false, List, [], ◌∷◌, ◌++◌, map, length, replicate, flat_map, All, Option, None, IsSome, Result, Ok, Err, nat_tests, append_assoc, map-append, length-map, length-append, length-replicate, get_or-map, length-map-range_with_len, All-map, All-append, All-cons, All-nil, Cell, Label, Kind, Frame, Limit, WrongKind, IsLonger, Text, datum, CellValue, FaultValue, then_value, int, CellBlock, AxisValue, range_axis, default_labels, default_seen, IsSettled, ColumnOf, NumberedTable, Table, table_value, column_value, heading_value, tuple_value, column_at, IsWhole, Entry, table, OpFault, Refused, HeadingList, columns_of, single_block, table_column, CellColumn, table_of, table_settled, settled_by, settled_later, seen_later, IsKnownTable, columns_value, headings_value, cells_value, Makes, MakesBy, column_listed, within_limits, limited, refused_on}, column_core.proofs.{cells.Common.{◌*◌}, CellRows.{map-map}}, frame_select.proofs.AnswerLaws.{column_seen}, frame_labels.{specs.method.{Concat.{columns_below}, Reshape.{value_labels, label_column, melted_headings, melted, melt_of}}, proofs.{TableLaws.{limited_within, frame_heads}, IndexingLaws.{labelled, headings_seen}}}, frame_reshape.{specs.{Checks.{kinds_at, are_one}, Melts.{heading_cell, heading_cells, label_cells, kept_column, melted_value, IsMelted}, declared.melting.Melted.{Melted}}, proofs.MeltCells.{first_kind, below, below_meant, below_count, rows_of_columns, headings_meant}}}
 use Rattle.frame_labels.specs.method.Reshape as meant
 
 -- the columns of the frame, and as they are seen
@@ -111,7 +111,7 @@ module _ (texts : List Text) (t : NumberedTable) (m : Melted) where
 
 -- the frame of labels that were made
 module _ (old new : List Text) (t : NumberedTable) (m : Melted) (known : IsKnownTable old t) (frame : t.shape ≡ Frame) (there : IsMelted t m) (kind : Kind) (told : value_labels (table_value old t) m.values ≡ Ok (column_listed (heading_cells t m.values) old kind)) (one : are_one (kinds_at t m.values) ≡ true)
-    (longer : IsLonger old new) (distinct : AreDistinct new) (labels slice : List (Option Label)) (given : IsSettled headings_value new labels) (labels_are : headings_value new labels ≡ melted_headings (table_value old t) m.kept) (sliced : slice ≡ labels) where
+    (longer : IsLonger old new) (labels slice : List (Option Label)) (given : IsSettled headings_value new labels) (labels_are : headings_value new labels ≡ melted_headings (table_value old t) m.kept) (sliced : slice ≡ labels) where
   abbrev T : Table
   T = table_value old t
 
@@ -121,22 +121,10 @@ module _ (old new : List Text) (t : NumberedTable) (m : Melted) (known : IsKnown
   abbrev frame_meant : Table
   frame_meant = melted T (melted_value m) (column_listed (heading_cells t m.values) old kind) (column_value old (below t m.values))
 
-  answer_is : answer ≡ finished frame_meant
+  answer_is : answer ≡ limited frame_meant
   answer_is =
-      ap (λ r. then_value r (λ labels. then_value (columns_below (map (column_at T.columns) m.values)) (λ cells. finished (melted T (melted_value m) labels cells)))) told
-      ∙ ap (λ r. then_value r (λ cells. finished (melted T (melted_value m) (column_listed (heading_cells t m.values) old kind) cells))) (below_meant old t m.values true one)
-
-  finished_by : (found : Option Label) → repeated_heading slice ≡ found → answer ≡ unless_repeated (heading_value new found) (limited frame_meant)
-  finished_by found is =
-      let headings : first_repeated frame_meant.headings ≡ heading_value new found =
-      ap first_repeated (sym labels_are) ∙ sym (repeated_seen new labels distinct given) ∙ ap (λ hs. heading_value new (repeated_heading hs)) (sym sliced) ∙ ap (heading_value new) is in
-      answer_is ∙ ap (λ h. unless_repeated h (limited frame_meant)) headings
-
-  pub repeated_so : (why : OpFault) → NamesRepeated why (repeated_heading slice) → Makes new (Err why) answer
-  repeated_so (Refused code) named =
-      let settled : IsSettled headings_value new slice = rw sliced given in
-      (finished_by _ named.1 ∙ ap (λ c. Err (fault_of new c)) (sym named.2), search repeated_settled)
-  repeated_so NoMemory _ = tt
+      ap (λ r. then_value r (λ labels. then_value (columns_below (map (column_at T.columns) m.values)) (λ cells. limited (melted T (melted_value m) labels cells)))) told
+      ∙ ap (λ r. then_value r (λ cells. limited (melted T (melted_value m) (column_listed (heading_cells t m.values) old kind) cells))) (below_meant old t m.values true one)
 
   rows_meant : length frame_meant.labels ≡ length m.values * length t.labels
   rows_meant = length-map-range_with_len (λ row. int (pos row) ∷ []) 0 (length m.values * length T.labels) ∙ ap (λ n. length m.values * n) (length-map t.labels (tuple_value old))
@@ -148,64 +136,63 @@ module _ (old new : List Text) (t : NumberedTable) (m : Melted) (known : IsKnown
   headed : length frame_meant.columns ≡ length slice
   headed = grind (arith, length-append, length-map)
 
-  module _ (none : repeated_heading slice ≡ None) where
-    pub beyond_so : within_limits (length t.labels * length m.values) (length slice) ≡ false → Makes new (Err (Refused Limit)) answer
-    beyond_so beyond =
-        let many : within_limits (length frame_meant.labels) (length frame_meant.columns) ≡ false = rw (rows_meant, headed) (grind arith) in
-        grind (arith, finished_by None none)
+  pub beyond_so : within_limits (length t.labels * length m.values) (length slice) ≡ false → Makes new (Err (Refused Limit)) answer
+  beyond_so beyond =
+      let many : within_limits (length frame_meant.labels) (length frame_meant.columns) ≡ false = rw (rows_meant, headed) (grind arith) in
+      grind (arith, answer_is)
 
-    -- its columns and rows
-    module _ (count : ℕ) (counted : count ≡ length t.labels * length m.values) (within : within_limits count (length slice) ≡ true) (axis : AxisValue) (axis_is : axis ≡ range_axis count) (headings : HeadingList) (headings_are : headings ≡ record { columns_name = None; labels = slice }) (blocks : List CellBlock)
-        (blocks_are : columns_of blocks ≡ melted_columns t m kind) where
-      abbrev whole : NumberedTable
-      whole = record {
-        shape = Frame;
-        columns_name = None;
-        level_names = (range_axis count).names;
-        labels = (range_axis count).tuples;
-        headings = labels;
-        columns = melted_columns t m kind;
-      }
+  -- its columns and rows
+  module _ (count : ℕ) (counted : count ≡ length t.labels * length m.values) (within : within_limits count (length slice) ≡ true) (axis : AxisValue) (axis_is : axis ≡ range_axis count) (headings : HeadingList) (headings_are : headings ≡ record { columns_name = None; labels = slice }) (blocks : List CellBlock)
+      (blocks_are : columns_of blocks ≡ melted_columns t m kind) where
+    abbrev whole : NumberedTable
+    whole = record {
+      shape = Frame;
+      columns_name = None;
+      level_names = (range_axis count).names;
+      labels = (range_axis count).tuples;
+      headings = labels;
+      columns = melted_columns t m kind;
+    }
 
-      rows_are : count ≡ length m.values * length T.labels
-      rows_are =
-          let turned : length t.labels * length m.values ≡ length m.values * length t.labels = omega arith in
-          counted ∙ turned ∙ ap (λ n. length m.values * n) (sym (length-map t.labels (tuple_value old)))
+    rows_are : count ≡ length m.values * length T.labels
+    rows_are =
+        let turned : length t.labels * length m.values ≡ length m.values * length t.labels = omega arith in
+        counted ∙ turned ∙ ap (λ n. length m.values * n) (sym (length-map t.labels (tuple_value old)))
 
-      columns_are : columns_value new (melted_columns t m kind) ≡ frame_meant.columns
-      columns_are =
-          let own : frame_meant.columns ≡ columns_meant T m kind =
-          λ i. map (meant.kept_column T m.values) m.kept ++ label_column T record { kind = kind; cells = headings_meant old t m.values i } ∷ record { kind = first_kind (kinds_seen old t m.values i); cells = cells_seen old t m.values i } ∷ [] in
-          columns_seen new t m kind ∙ ap (λ v. columns_meant v m kind) (seen_later table_value old new t longer known.given) ∙ sym own
+    columns_are : columns_value new (melted_columns t m kind) ≡ frame_meant.columns
+    columns_are =
+        let own : frame_meant.columns ≡ columns_meant T m kind =
+        λ i. map (meant.kept_column T m.values) m.kept ++ label_column T record { kind = kind; cells = headings_meant old t m.values i } ∷ record { kind = first_kind (kinds_seen old t m.values i); cells = cells_seen old t m.values i } ∷ [] in
+        columns_seen new t m kind ∙ ap (λ v. columns_meant v m kind) (seen_later table_value old new t longer known.given) ∙ sym own
 
-      whole_seen : table_value new whole ≡ frame_meant
-      whole_seen = λ i. record {
-        shape = Frame;
-        columns_name = None;
-        level_names = None ∷ [];
-        labels = (default_seen new _ ∙ ap default_labels rows_are) i;
-        headings = labels_are i;
-        columns = columns_are i;
-      }
+    whole_seen : table_value new whole ≡ frame_meant
+    whole_seen = λ i. record {
+      shape = Frame;
+      columns_name = None;
+      level_names = None ∷ [];
+      labels = (default_seen new _ ∙ ap default_labels rows_are) i;
+      headings = labels_are i;
+      columns = columns_are i;
+    }
 
-      whole_settled : IsSettled table_value new whole
-      whole_settled =
-          table_settled _ whole (λ more. refl) (λ more. refl) (λ more. default_seen _ _ ∙ sym (default_seen _ _)) given
-          (settled_by table_value columns_value (λ v. columns_meant v m kind) new t (melted_columns t m kind) (λ ts. sym (columns_seen ts t m kind)) (settled_later table_value old new t longer known.given))
+    whole_settled : IsSettled table_value new whole
+    whole_settled =
+        table_settled _ whole (λ more. refl) (λ more. refl) (λ more. default_seen _ _ ∙ sym (default_seen _ _)) given
+        (settled_by table_value columns_value (λ v. columns_meant v m kind) new t (melted_columns t m kind) (λ ts. sym (columns_seen ts t m kind)) (settled_later table_value old new t longer known.given))
 
-      -- the frame that is made is the one that is meant
-      pub made_is : (made : NumberedTable) → made ≡ table_of Frame axis headings blocks → Makes new (Ok made) answer
-      made_is made is =
-          let whole_is : made ≡ whole = cc in
-          (finished_by None none ∙ limited_within frame_meant count (length slice) (grind (arith, rows_meant)) headed within ∙ ap (λ v. Ok (table v)) (sym whole_seen) ∙ ap (λ n. Ok (table (table_value new n))) (sym whole_is), rw whole_is whole_settled)
+    -- the frame that is made is the one that is meant
+    pub made_is : (made : NumberedTable) → made ≡ table_of Frame axis headings blocks → Makes new (Ok made) answer
+    made_is made is =
+        let whole_is : made ≡ whole = cc in
+        (answer_is ∙ limited_within frame_meant count (length slice) (grind (arith, rows_meant)) headed within ∙ ap (λ v. Ok (table v)) (sym whole_seen) ∙ ap (λ n. Ok (table (table_value new n))) (sym whole_is), rw whole_is whole_settled)
 
-      -- its parts fit
-      pub parts_fit : IsWhole (table_of Frame axis headings blocks)
-      parts_fit =
-          let same : table_of Frame axis headings blocks ≡ whole = cc in
-          let some = labels_some old new t m.kept labels known.whole frame there.kept labels_are in
-          rw same (record {
-            headed = labels_counted;
-            filled = rw (rows_numbered count ∙ rows_are ∙ ap (λ n. length m.values * n) (length-map t.labels (tuple_value old))) (columns_filled t m kind known.whole there);
-            headings = frame_heads _ labels some (rw sliced at none);
-          })
+    -- its parts fit
+    pub parts_fit : IsWhole (table_of Frame axis headings blocks)
+    parts_fit =
+        let same : table_of Frame axis headings blocks ≡ whole = cc in
+        let some = labels_some old new t m.kept labels known.whole frame there.kept labels_are in
+        rw same (record {
+          headed = labels_counted;
+          filled = rw (rows_numbered count ∙ rows_are ∙ ap (λ n. length m.values * n) (length-map t.labels (tuple_value old))) (columns_filled t m kind known.whole there);
+          headings = frame_heads _ labels some;
+        })

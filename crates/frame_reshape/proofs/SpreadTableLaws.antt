@@ -1,5 +1,5 @@
 -- The frame of rows that are spread over columns.
-use Rattle.{frame_parts.proofs.Common.{arith, ◌≡◌, ◌∙◌, refl, ap, sym, subst, zero, suc, ℕ, ◌<◌, Bool, true, false, List, [], ◌∷◌, ◌++◌, map, length, slice_index_or, Option, Some, None, Result, Ok, Err, if◌then◌else◌, map-append, map-map, length-map, length-map-range_with_len, All, All-nil, All-cons, All-map, All-head, All-tail, IsSome, range_with_len, Na, Label, Frame, AreDistinct, Text, Cell, LabelValue, label_datum, FaultValue, bad_value, then_value, CellColumn, IsPlaceOf, AreGiven, HaveLevels, IsSettled, ColumnOf, NumberedTable, table_value, heading_value, tuple_value, column_value, IsWhole, Entry, OpFault, Refused, NoMemory, table_column, headings_value, labels_value, columns_value, Makes, table_settled, settled_by, columns_settled, within_limits, limited, finished, unless_repeated, first_where, first_repeated, all_distinct, on_rows_seen, on_rows_given, tuple_by_number, tuples_settled, settled_tuples, tuple_less}, column_core.{specs.cells.{Column.{taken}, Fault.{entry}}}, std.proofs.lemmas.Slice.Zip.{length-zip}, multi_index.{specs.pick.Rows.{rows_where, only_row}, proofs.pick.InsideLaws.{rows_inside}}, frame_parts.{specs.align.Joins.{keys_in_order}, proofs.align.OrderLaws.{all_in_order}}, frame_select.{specs.{Headings.{NamesRepeated, repeated_heading}, select.Select.{row_name}}, proofs.{HeadingLaws.{repeated_seen, different}, RefusalLaws.{repeated_settled}}}, reshape.{specs.{Answers.{Unstacks}, declared.fault.ReshapeFault.{ReshapeFault, TheVariants.{Duplicates, MixedKinds, TooLarge}}, row_keys.Keys.{label_in, same_tuple}, shapes.{Reshape.{SpreadOf, UnstackRefusal, duplicate_entry, too_large, entries, every_entry, spread_out, unless_twice, spread_within_limits, unstacked}, Unstacking.{place_at}}}, proofs.shapes.GridLaws.{length-even}}, frame_labels.{specs.method.Reshape.{met_labels, spread_frame, spread_result, spread_column}, proofs.TableLaws.{limited_within}}, frame_reshape.{specs.{Spreads.{spread_labels, places_of_column, spread_columns, IsSpreadOf, AreEntries}, Checks.{refusal}}, proofs.SpreadSeen.{spread_seen, answer_seen, unstacked_seen}}}
+use Rattle.{frame_parts.proofs.Common.{arith, ◌≡◌, ◌∙◌, refl, ap, sym, subst, zero, suc, ℕ, ◌<◌, Bool, true, false, List, [], ◌∷◌, ◌++◌, map, length, slice_index_or, Option, Some, None, Result, Ok, Err, if◌then◌else◌, map-append, map-map, length-map, length-map-range_with_len, All, All-nil, All-cons, All-map, All-head, All-tail, IsSome, range_with_len, Na, Label, Frame, AreDistinct, Text, Cell, LabelValue, label_datum, FaultValue, bad_value, then_value, CellColumn, IsPlaceOf, AreGiven, HaveLevels, IsSettled, ColumnOf, NumberedTable, table_value, heading_value, tuple_value, column_value, IsWhole, Entry, table_column, headings_value, labels_value, columns_value, Makes, table_settled, settled_by, columns_settled, within_limits, limited, first_where, first_repeated, all_distinct, on_rows_seen, on_rows_given, tuple_by_number, tuples_settled, settled_tuples, tuple_less}, column_core.{specs.cells.{Column.{taken}, Fault.{entry}}}, std.proofs.lemmas.Slice.Zip.{length-zip}, multi_index.{specs.pick.Rows.{rows_where, only_row}, proofs.pick.InsideLaws.{rows_inside}}, frame_parts.{specs.align.Joins.{keys_in_order}, proofs.align.OrderLaws.{all_in_order}}, frame_select.specs.select.Select.{row_name}, reshape.{specs.{Answers.{Unstacks}, declared.fault.ReshapeFault.{ReshapeFault, TheVariants.{Duplicates, MixedKinds, TooLarge}}, row_keys.Keys.{label_in, same_tuple}, shapes.{Reshape.{SpreadOf, UnstackRefusal, duplicate_entry, too_large, entries, every_entry, spread_out, unless_twice, spread_within_limits, unstacked}, Unstacking.{place_at}}}, proofs.shapes.GridLaws.{length-even}}, frame_labels.{specs.method.Reshape.{met_labels, spread_frame, spread_result, spread_column}, proofs.TableLaws.{limited_within}}, frame_reshape.{specs.{Spreads.{spread_labels, places_of_column, spread_columns, IsSpreadOf, AreEntries}, Checks.{refusal}}, proofs.SpreadSeen.{spread_seen, answer_seen, unstacked_seen}}}
 use Rattle.reshape.specs.declared.fault.ReshapeFault.TheVariants as fault
 use Rattle.frame_parts.specs.form.Infix as text
 use Rattle.frame_labels.specs.method.Reshape as meant
@@ -75,15 +75,14 @@ some_labels s = All-map IsSome (λ tuple. Some (label_in 0 tuple)) s.columns (λ
 headed_alike : (s : SpreadOf Label) (c : CellColumn) → length (spread_labels s) ≡ length (spread_columns s c)
 headed_alike s c = length-map s.columns _ ∙ sym (length-map-range_with_len _ 0 (length s.columns))
 
-pub spread_whole : (names : List (Option Label)) (name : Option Label) (c : CellColumn) (s : SpreadOf Label) → repeated_heading (spread_labels s) ≡ None → IsWhole (spread_numbered names name c s)
-spread_whole names name c s none = record {
+pub spread_whole : (names : List (Option Label)) (name : Option Label) (c : CellColumn) (s : SpreadOf Label) → IsWhole (spread_numbered names name c s)
+spread_whole names name c s = record {
   headed = headed_alike s c;
   filled = columns_long s c;
   headings = record {
     single = λ e. cc;
     nameless = λ e. cc;
     labelled = λ e. some_labels s;
-    different = λ e. different (spread_labels s) (some_labels s) none;
   };
 }
 
@@ -187,7 +186,7 @@ module _ (texts : List Text) (rest labels : List (List Label)) (rows levels : �
 
   module _ (distinct : AreDistinct texts) (names : List (Option Label)) (name : Option Label) (c : CellColumn) where
     abbrev framed : SpreadOf LabelValue → Result Entry FaultValue
-    framed s = finished (spread_frame (headings_value texts names) (heading_value texts name) (column_value texts (table_column c)) s)
+    framed s = limited (spread_frame (headings_value texts names) (heading_value texts name) (column_value texts (table_column c)) s)
 
     abbrev pub spread_meant : Result Entry FaultValue
     spread_meant = spread_result (labels_value texts rest) (labels_value texts labels) (headings_value texts names) (heading_value texts name) (column_value texts (table_column c))
@@ -209,21 +208,13 @@ module _ (texts : List Text) (rest labels : List (List Label)) (rows levels : �
       abbrev frame : NumberedTable
       frame = spread_numbered names name c s
 
-      headed : (found : Option Label) → repeated_heading (spread_labels s) ≡ found → spread_meant ≡ unless_repeated (heading_value texts found) (limited (table_value texts frame))
-      headed found at =
-          answered _ is
-          ∙ ap finished (sym (frame_seen texts s c names name (is_spread_of s is).labels))
-          ∙ ap (λ o. unless_repeated o (limited (table_value texts frame))) (sym (repeated_seen texts (spread_labels s) distinct (headings_settled s is)) ∙ ap (heading_value texts) at)
-
-      -- a heading that stands again
-      pub spread_repeated : (why : OpFault) → NamesRepeated why (repeated_heading (spread_labels s)) → Makes texts (Err why) spread_meant
-      spread_repeated (Refused code) named = grind (arith, headed _ named.1, repeated_settled, headings_settled s is)
-      spread_repeated NoMemory named = tt
+      framed_is : spread_meant ≡ limited (table_value texts frame)
+      framed_is = answered _ is ∙ ap limited (sym (frame_seen texts s c names name (is_spread_of s is).labels))
 
       -- the frame
-      pub spread_made : repeated_heading (spread_labels s) ≡ None → rows ≡ length c.cells → IsSettled headings_value texts names → IsSettled heading_value texts name → AreGiven texts c.cells → (made : NumberedTable) → made ≡ frame → Makes texts (Ok made) spread_meant
-      spread_made none long named named' given made same =
+      pub spread_made : rows ≡ length c.cells → IsSettled headings_value texts names → IsSettled heading_value texts name → AreGiven texts c.cells → (made : NumberedTable) → made ≡ frame → Makes texts (Ok made) spread_meant
+      spread_made long named named' given made same =
           rw same (
-            headed None none ∙ limited_within (table_value texts frame) _ _ (length-map s.rows _) (length-map (spread_columns s c) _ ∙ length-map-range_with_len _ 0 (length s.columns)) (within s is),
+            framed_is ∙ limited_within (table_value texts frame) _ _ (length-map s.rows _) (length-map (spread_columns s c) _ ∙ length-map-range_with_len _ 0 (length s.columns)) (within s is),
             table_settled texts frame named' named (rows_settled s is) (headings_settled s is) (columns_given texts s c levels (rw (← long) (is_spread_of s is)) given),
           )

@@ -1,5 +1,5 @@
 -- The labels of a level as columns.
-use Rattle.{frame_parts.proofs.Common.{arith, ◌≡◌, ◌∙◌, refused_on, columns_given, columns_part, level_names_part, AreGiven, Series, no_column, All-head, OpFault, MakesBy, Makes, then_value, bad_value, levels, refl, ap, sym, ℕ, ◌<◌, ◌≤◌, List, [], ◌∷◌, map, length, slice_get, slice_index_or, Option, Some, None, Result, Ok, Err, get_or-map, map-map, length-map, nat_tests, All-map, get_or_from_slice_get, Label, Text, na, label_datum, CellValue, FaultValue, CellColumn, AxisValue, HaveLevels, IsSettled, NumberedTable, column_at, table_value, heading_value, tuple_value, column_value, IsKnownTable, Entry, axis_of, table_column, headings_value, labels_value, settled_by, labels_part, map-remove}, column_core.proofs.cells.Common.{length-remove, remove}, cell_core.specs.declared.cell.Label.TheVariants.{Na}, multi_index.specs.Axes.{without_level}, frame_select.{specs.Selected.{as_it_is}, proofs.AnswerLaws.{column_seen}}, factorize.specs.Keys.{levels_of}, frame_labels.specs.method.{Levels.{level_of}, Reshape.{spread_result, unstack_result, unstacked_at}}, reshape.specs.row_keys.Keys.{label_in}, frame_reshape.{specs.{Keys.{level_keys}, Spreads.{AreEntries}}, proofs.LevelKeyLaws.{one_label}}}
+use Rattle.{frame_parts.proofs.Common.{arith, ◌≡◌, ◌∙◌, refused_on, columns_given, columns_part, level_names_part, AreGiven, Series, no_column, All-head, All-nil, subst, OpFault, MakesBy, Makes, then_value, bad_value, levels, refl, ap, sym, ℕ, ◌<◌, ◌≤◌, List, [], ◌∷◌, map, length, slice_get, slice_index_or, Option, Some, None, Result, Ok, Err, get_or-map, map-map, length-map, nat_tests, All-map, get_or_from_slice_get, Label, Text, na, label_datum, CellValue, FaultValue, CellColumn, AxisValue, HaveLevels, IsSettled, NumberedTable, column_at, table_value, heading_value, tuple_value, column_value, IsKnownTable, Entry, axis_of, table_column, headings_value, labels_value, settled_by, labels_part, map-remove}, column_core.proofs.cells.Common.{length-remove, remove}, cell_core.specs.declared.cell.Label.TheVariants.{Na}, multi_index.specs.Axes.{without_level}, frame_select.{specs.Selected.{as_it_is}, proofs.AnswerLaws.{column_seen}}, factorize.specs.Keys.{levels_of}, frame_labels.specs.method.{Levels.{level_of}, Reshape.{spread_result, unstack_result, unstacked_at}}, reshape.specs.row_keys.Keys.{label_in}, frame_reshape.{specs.{Keys.{level_keys}, Spreads.{AreEntries}}, proofs.LevelKeyLaws.{one_label}}}
 
 -- the labels of rows on the other levels, and on the level
 rest_seen : (texts : List Text) (tuples : List (List Label)) (level : ℕ) → labels_value texts (map (λ tuple. remove tuple level) tuples) ≡ map (λ labels. remove labels level) (labels_value texts tuples)
@@ -16,6 +16,10 @@ labels_seen texts (t ∷ ts) level = λ i. (sym (label_seen texts t level) i ∷
 pub few_by_first : (n : ℕ) (tuples : List (List Label)) → HaveLevels n tuples → n ≤ 3 → levels_of tuples ≤ 3
 few_by_first n [] all few = omega arith
 few_by_first n (t ∷ ts) all few = omega (arith, few, All-head (λ tuple. length tuple ≡ n) t ts all)
+
+pub alike_by_first : (n : ℕ) (tuples : List (List Label)) → HaveLevels n tuples → HaveLevels (levels_of tuples) tuples
+alike_by_first n [] all = All-nil (λ tuple. length tuple ≡ levels_of [])
+alike_by_first n (t ∷ ts) all = subst (λ k. HaveLevels k (t ∷ ts)) (sym (All-head (λ tuple. length tuple ≡ n) t ts all)) all
 
 -- the cells of the one column of a Series
 pub cells_there : (texts : List Text) (t : NumberedTable) (c : CellColumn) → IsKnownTable texts t → t.shape ≡ Series → column_at t.columns 0 ≡ table_column c → AreGiven texts c.cells
@@ -81,6 +85,9 @@ module _ (texts : List Text) (t : NumberedTable) (axis rest : AxisValue) (count 
 
   pub few_read : levels_of rest.tuples ≤ 3
   few_read = let e = entries_read (length t.labels) refl in few_by_first (length rest.names) rest.tuples e.keys e.few
+
+  pub alike_read : HaveLevels (levels_of rest.tuples) rest.tuples
+  alike_read = let e = entries_read (length t.labels) refl in alike_by_first (length rest.names) rest.tuples e.keys
 
   pub names_read : IsSettled headings_value texts rest.names
   names_read = rw (rest_is, is) (names_given texts t level (omega (arith, several, there)) (omega (arith, few, there)) of_labels inside known)

@@ -107,11 +107,11 @@ fn reshaped(
 /// - of `stack`: `WrongKind` of columns of different kinds; `Limit`, also of a frame with four levels.
 /// - of `unstack`: `BadValue(Levels)` of one level; the refusals of a level that isn't there; `BadValue(Entry)` of the first
 ///   labels that two rows have, that of the level last; `Limit`.
-/// - of `pivot`: `NoKey` of the first label that no column has, of `index`, `columns` and `values`; `Limit` of more labels
-///   than three in `index`; `BadValue(Entry)`; `Limit`.
-/// - of `pivot_table`: `NoKey` as of `pivot`; `WrongKind` of a sum of texts; `Limit`, as of `pivot`.
-/// - of `melt`: `NoKey` of the first label that no column has, of `id_vars` and `value_vars`; `WrongKind` of value columns
-///   of different kinds, or whose labels are; `BadValue(Repeated)` of a label that stands again in the answer; `Limit`.
+/// - of `pivot`: `NoKey` of the first label that no column has, then `BadValue(Repeated)` of one that several columns have,
+///   of `index`, `columns` and `values` in turn; `Limit` of more labels than three in `index`; `BadValue(Entry)`; `Limit`.
+/// - of `pivot_table`: the refusals of labels as of `pivot`; `WrongKind` of a sum of texts; `Limit`, as of `pivot`.
+/// - of `melt`: the refusals of labels as of `pivot`, of `id_vars` and `value_vars` in turn; `WrongKind` of value columns of
+///   different kinds, or whose labels are; `Limit`.
 ///
 /// `NoMemory` may come in place of any answer. After a refusal all objects are as they were.
 pub fn method(

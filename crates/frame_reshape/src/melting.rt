@@ -22,7 +22,7 @@ use cell_core::{Cell, Code, Grid, Kind, Label, NoMemory, Places, Shape, TextDict
 use column_core::Column;
 use frame_labels::{cell_of, column_label, columns_at, places_besides, told_places};
 use frame_parts::{CellList, list_kind};
-use frame_select::{different_headings, headings_at};
+use frame_select::{heading_list, headings_at};
 use frame_signatures::{Bound, arguments};
 use frame_store::{Blocks, ObjId, ObjRef, OpFault, Store, Table};
 use multi_index::Axis;
@@ -256,9 +256,7 @@ pub(crate) fn melt(
         return Err(OpFault::Refused(Code::WrongKind));
     }
     let labels = melted_labels(alloc, dict, on, &m.kept)?;
-    // Equal texts have equal numbers: `TextDict::len` says so.
-    let _ = dict.len();
-    let headings = different_headings(alloc, None, labels.as_slice())?;
+    let headings = heading_list(alloc, None, labels.as_slice())?;
     let Some(count) = rows_within_limits(on.rows(), m.values.len(), labels.len()) else {
         return Err(OpFault::Refused(Code::Limit));
     };

@@ -18,7 +18,7 @@ use crate::checks::refusal_of;
 use cell_core::{Gaps, Label, NoMemory, Shape, TextDict};
 use column_core::{ColRef, take};
 use frame_labels::named_axis;
-use frame_select::different_headings;
+use frame_select::heading_list;
 use frame_store::{Blocks, OpFault, Table};
 use multi_index::Axis;
 use reshape::{ReshapeFault, Spread};
@@ -104,7 +104,7 @@ pub(crate) fn spread_table(
         Err(fault) => return Err(refusal_of(fault)),
     };
     let labels = spread_labels(alloc, &spread)?;
-    let headings = different_headings(alloc, columns_name, labels.as_slice())?;
+    let headings = heading_list(alloc, columns_name, labels.as_slice())?;
     let axis = Axis::from_tuples(alloc, dict, &spread.rows, names.len())?;
     let blocks = spread_blocks(alloc, &spread, cells)?;
     Ok(Table::new(Shape::Frame, named_axis(axis, names), headings, blocks))

@@ -1,2 +1,2 @@
 -- Laws of HeadingLaws under the name that others know.
-pub use Rattle.frame_select.proofs.HeadingLaws.{column_planned}
+pub use Rattle.frame_select.proofs.HeadingLaws.{columns_planned}

@@ -1,5 +1,5 @@
 -- What a form answers with a new object.
-use Rattle.{frame_parts.{proofs.Common.{◌≡◌, ℕ, List, arith, Option, Some, None, Result, Ok, take, ◌∙◌, suc, zero, ◌+◌, ◌<◌, pos, [], ◌∷◌, length, map, refl, ap, All, ◌++◌, sym, true, drop, Bool, false, ◌&&◌, Err, if◌then◌else◌, unwrap_or, subst, get_or-map, drop-cons, drop-length, get_or_from_slice_get, slice_get_within, map_more, length-map, map-append, get_or-range_with_len, length-range_with_len, fill_by_all, All-map, All-push, list_all-map, map-map, IsSome, slice_index_or, slice_get, slice_index, ◌≢◌, range_with_len, list_all, Cell, Na, Label, Kind, Int64, Rows, Shape, Series, Frame, AreDistinct, Text, FaultValue, wrong_kind, limit, LabelValue, datum, CellValue, label_datum, int, na_cell, tabulate, fault_of, IsSettled, ColumnOf, NumberedTable, table_value, heading_value, column_value, column_at, Table, no_column, tuple_value, Entry, GivenSub, IsWhole, AreHeadings, kind_itself, Value, Object, Scalar, ObjId, Store, OpFault, Refused, NoMemory, HeadingList, block_column, IsSingle, table_with, axis_of, Tables, with_object, table_or, tables, shown, headings_value, columns_value, FormAnswers, Makes, world, IsSettledWorld, FormsFor, World, entry_in, object_value, object_settled, columns_name_part, longer_self, table_settled, level_names_part, labels_part, columns_part, settled_by, headings_part, AxisValue, taken_axis, CellColumn, CellBlock, get_or-tabulate, limited, within_limits, same_kind, unless_repeated, finished, heading_at, MakesBy}, specs.form.Select.{columns_frame}}, column_core.{proofs.{cells.Common.{map-id, get_or-map as get_or-map_at, drop-map, option_and_then}, CellRows.{range-same}}, specs.Columns.{column_with}}, std.proofs.lemmas.{List.Folds.{map_fixed}, Option.{slice_get-get_or}}, frame_store.{specs.tables.Change.{cut_columns}, proofs.FormLaws.{holds_still}}, indexers.{proofs.SpanLaws.{all_listed}, specs.{Picks.{pick_of}, declared.keys.Picked.{Picked}, pick.Rows.{rows_of}}}, meaning_charge.specs.{Charge.{select_charge}, select.{Keys.{Reach}, Select.{picked_result, without_leading, column_rows, rows_taken, kind_across, one_kind, cut, first_cell, row_name, row_series, row_result, as_series, shown_as, Way, way_reach, select_result}}}, frame_select.{specs.{Plans.{reach_of_plan, rows_in, levels_lost, taken_table, AreTakenFrom, CanTake, has_single_row, has_single_column, is_shared, is_sliced, unless_shared, IsPlanOf, PlansBy}, declared.{planning.{Plan.{Plan}, Taken.{Taken, TheVariants.{Slice, Listed, Under}}, Extent.{Extent}}}, Reaches.{picked_reach, columns_axis, tuples_value}, Chosen.{cells_by_place, cells_at, columns_at, chosen, chosen_under, AreSettledHeadings}, Across.{cell_across}, Selected.{as_it_is, headings_at}, Headings.{NamesRepeated, repeated_heading}, Picked.{headed_by}}, proofs.{FreeLaws.{selection_within}, HeadingLaws.{heading_seen, repeated_seen, different, repeated_settled}}}}
+use Rattle.{frame_parts.{proofs.Common.{◌≡◌, ℕ, List, arith, Option, Some, None, Result, Ok, take, ◌∙◌, suc, zero, ◌+◌, ◌<◌, pos, [], ◌∷◌, length, map, refl, ap, All, ◌++◌, sym, true, drop, Bool, false, ◌&&◌, Err, if◌then◌else◌, unwrap_or, subst, get_or-map, drop-cons, drop-length, get_or_from_slice_get, slice_get_within, map_more, length-map, map-append, get_or-range_with_len, length-range_with_len, fill_by_all, All-map, All-push, list_all-map, map-map, IsSome, slice_index_or, slice_get, slice_index, ◌≢◌, range_with_len, list_all, Cell, Na, Label, Kind, Int64, Rows, Shape, Series, Frame, Text, FaultValue, wrong_kind, limit, LabelValue, datum, CellValue, label_datum, int, na_cell, tabulate, IsSettled, ColumnOf, NumberedTable, table_value, heading_value, column_value, column_at, Table, no_column, tuple_value, Entry, GivenSub, IsWhole, AreHeadings, kind_itself, Value, Object, Scalar, ObjId, Store, OpFault, HeadingList, block_column, IsSingle, table_with, axis_of, Tables, with_object, table_or, tables, shown, headings_value, columns_value, FormAnswers, Makes, world, IsSettledWorld, FormsFor, World, entry_in, object_value, object_settled, columns_name_part, longer_self, table_settled, level_names_part, labels_part, columns_part, settled_by, headings_part, AxisValue, taken_axis, CellColumn, CellBlock, get_or-tabulate, limited, within_limits, same_kind, heading_at, MakesBy}, specs.form.Select.{columns_frame}}, column_core.{proofs.{cells.Common.{map-id, get_or-map as get_or-map_at, drop-map, option_and_then}, CellRows.{range-same}}, specs.Columns.{column_with}}, std.proofs.lemmas.{List.Folds.{map_fixed}, Option.{slice_get-get_or}}, frame_store.{specs.tables.Change.{cut_columns}}, indexers.{proofs.SpanLaws.{all_listed}, specs.{Picks.{pick_of}, declared.keys.Picked.{Picked}, pick.Rows.{rows_of}}}, meaning_charge.specs.{Charge.{select_charge}, select.{Keys.{Reach}, Select.{picked_result, without_leading, column_rows, rows_taken, kind_across, one_kind, cut, first_cell, row_name, row_series, row_result, as_series, shown_as, Way, way_reach, select_result}}}, frame_select.{specs.{Plans.{reach_of_plan, rows_in, levels_lost, taken_table, AreTakenFrom, CanTake, has_single_row, has_single_column, is_shared, is_sliced, unless_shared, IsPlanOf, PlansBy}, declared.{planning.{Plan.{Plan}, Taken.{Taken, TheVariants.{Slice, Listed, Under}}, Extent.{Extent}}}, Reaches.{picked_reach, columns_axis, tuples_value}, Chosen.{cells_by_place, cells_at, columns_at, chosen, chosen_under, AreSettledHeadings}, Across.{cell_across}, Selected.{as_it_is, headings_at}, Picked.{headed_by}}, proofs.{FreeLaws.{selection_within}, HeadingLaws.{heading_seen}}}}
 use Rattle.frame_store.specs.tables.Value as value
 use Rattle.frame_select.specs.declared.planning.Extent.TheVariants as answer
 
@@ -364,8 +364,8 @@ abbrev pub own_headings : NumberedTable → HeadingList
 own_headings t = record { columns_name = t.columns_name; labels = t.headings }
 
 pub frame_taken : (t : NumberedTable) (rows : Taken) (columns : List ℕ) (headings : HeadingList) → IsWhole t → t.shape ≡ Frame → AreTakenFrom t rows → All (λ place. place < length t.columns) columns
-    → headings ≡ headings_with t.columns_name t columns → repeated_heading (headings_at t columns) ≡ None → CanTake Frame headings rows columns t
-frame_taken = grind (arith, all_labelled, length-map, different)
+    → headings ≡ headings_with t.columns_name t columns → CanTake Frame headings rows columns t
+frame_taken = grind (arith, all_labelled, length-map)
 
 -- each has headings whose texts were given
 module _ (texts : List Text) (t : NumberedTable) where
@@ -379,22 +379,10 @@ module _ (texts : List Text) (t : NumberedTable) where
   pub own_given : (headings : HeadingList) → headings ≡ own_headings t → IsSettled table_value texts t → AreSettledHeadings texts headings
   own_given = search (own_name, own_labels)
 
-  -- unless a heading stands again, by numbers
-  module _ (columns : List ℕ) (distinct : AreDistinct texts) (settled : IsSettled headings_value texts t.headings) where
-    pub finished_is : (lost : ℕ) (rows : List ℕ) (found : Option Label) → repeated_heading (headings_at t columns) ≡ found
-        → finished (without_leading lost (cut (table_value texts t) rows columns)) ≡ unless_repeated (heading_value texts found) (limited (without_leading lost (cut (table_value texts t) rows columns)))
-    finished_is _ _ _ is = cc (headings_seen texts t columns, repeated_seen texts (headings_at t columns) distinct (headings_settled texts t columns settled))
-
-    pub frame_meant : (taken : Taken) (headings : HeadingList) → t.shape ≡ Frame → headings ≡ headings_with t.columns_name t columns → repeated_heading (headings_at t columns) ≡ None
-        → limited (table_value texts (taken_table Frame headings taken columns t)) ≡ finished (without_leading (levels_lost taken) (cut (table_value texts t) (rows_in taken) columns))
-    frame_meant taken _ frame is none = grind (arith, taken_seen, cut_seen texts (rows_in taken) columns t Frame t.columns_name, finished_is (levels_lost taken) (rows_in taken) None none)
-
-    pub frame_refused : (store : Store) (lost : ℕ) (rows : List ℕ) (why : OpFault) → NamesRepeated why (repeated_heading (headings_at t columns)) → IsSettledWorld (world store texts)
-        → (charge : Entry → ℕ) → FormsFor charge (Err why) (finished (without_leading lost (cut (table_value texts t) rows columns))) (world store texts) (world store texts)
-    frame_refused _ lost rows (Refused code) named left _ =
-        let meant = finished_is lost rows _ named.1 ∙ ap (λ c. Err (fault_of texts c)) (sym named.2) in
-        search (repeated_settled, headings_settled, longer_self, holds_still)
-    frame_refused _ _ _ NoMemory named left _ = search (longer_self, holds_still)
+  -- rows and columns of a frame
+  pub frame_meant : (columns : List ℕ) (taken : Taken) (headings : HeadingList) → t.shape ≡ Frame → headings ≡ headings_with t.columns_name t columns
+      → limited (table_value texts (taken_table Frame headings taken columns t)) ≡ limited (without_leading (levels_lost taken) (cut (table_value texts t) (rows_in taken) columns))
+  frame_meant columns taken _ frame is = grind (arith, taken_seen, cut_seen texts (rows_in taken) columns t Frame t.columns_name)
 
 -- What a plan answers, and a selection with it.
 

@@ -1,8 +1,6 @@
 -- Headings that are told apart by the numbers of their texts.
-use Rattle.{frame_parts.{proofs.{Common.{◌≡◌, ◌<◌, ◌+◌, refl, ℕ, zero, suc, Bool, false, ◌||◌, cond, List, [], ◌∷◌, map, length, drop, slice_index_or, Option, Some, None, All, if◌then◌else◌, arith, rules, true, ◌++◌, ap, append_assoc, append-nil, Result, Ok, Err, ℤ, ◌-◌, ◌&&◌, take, drop_more, length-map, list_any-append, list_any_at, get_or_from_slice_get, slice_get_within, get_or-map, drop-cons, drop-length, ◌≢◌, IsSome, AllPairs, slice_get, Decides, list_any, list_all, lookup, option_map, Label, Cell, Na, Code, NoKey, AreDistinct, Text, label_datum, na_cell, LabelValue, datum, CellValue, fault_of, cell_label, FaultValue, then_value, IsSettled, heading_value, NumberedTable, Table, table_value, tuple_value, IsWhole, cell, table, GivenList, one, many, no_given, more_given, try_all, place_of_label, argument_column, cells_of, same_by_number, heading_label, value_decides, label_of, headings_value, cells_value, Item, Tables, items_of}, LabelLaws.{label_given, label_one}}, specs.form.{Finish.{first_repeated}, Select.{found}, Given.{count_of, each, is_scalar, is_truth}}}, column_core.proofs.cells.Common.{position_from}, indexmap.specs.IndexSet.{insert_key}, cell_core.specs.declared.code.{Code.TheVariants.{BadValue}, Reason.TheVariants.{Repeated}}, frame_store.specs.tables.Value.{nothing, row, entries}, frame_select.specs.{Headings.{same_number, same_heading, repeated_heading, HaveFirstPlaces}, Reaches.{tuples_value}, Selected.{each_truth, scalars_in}, Plans.{IsPlanOf, TakesAll}, declared.planning.Plan.{Plan}}, meaning_charge.specs.select.{Keys.{whole_cell}, Select.{are_truths, column_reach}}}
+use Rattle.{frame_parts.{proofs.{Common.{◌≡◌, ◌<◌, ◌+◌, refl, ℕ, suc, Bool, false, ◌||◌, cond, List, [], ◌∷◌, map, length, drop, slice_index_or, Option, Some, None, All, arith, rules, true, ◌++◌, ap, append_assoc, append-nil, Result, Ok, Err, ℤ, ◌-◌, ◌&&◌, take, take_more, drop_more, length-map, list_any-append, get_or_from_slice_get, slice_get_within, get_or-map, drop-cons, drop-length, ◌≢◌, slice_get, Decides, list_any, list_all, lookup, option_map, Label, Cell, Na, Code, NoKey, AreDistinct, Text, label_datum, na_cell, LabelValue, datum, CellValue, fault_of, cell_label, FaultValue, then_value, IsSettled, heading_value, NumberedTable, Table, table_value, tuple_value, IsWhole, cell, table, GivenList, one, many, no_given, more_given, try_all, place_of_label, cells_of, same_by_number, heading_label, value_decides, label_of, headings_value, cells_value, Item, Tables, items_of}, LabelLaws.{label_given, label_one}}, specs.form.{Finish.{first_shared}, Select.{found, first_column}, Given.{count_of, each, is_scalar, is_truth}}}, column_core.proofs.cells.Common.{position_from}, indexmap.specs.IndexSet.{insert_key}, cell_core.specs.declared.code.{Code.TheVariants.{BadValue}, Reason.TheVariants.{Repeated}}, frame_store.specs.tables.Value.{nothing, row, entries}, frame_select.specs.{Headings.{same_number, same_heading, shared_heading, HaveFirstPlaces}, Reaches.{tuples_value}, Selected.{each_truth, scalars_in}, Plans.{IsPlanOf, TakesAll, has_single_row, has_single_column}, declared.planning.Plan.{Plan}}, indexers.specs.{Picks.{pick_of}, pick.Keys.{Pick}, declared.keys.Picked.{Picked}}, meaning_charge.specs.select.{Keys.{whole_cell, reach_of, all_rows_of}, Select.{are_truths}}}
 use Rattle.frame_parts.specs.form.Finish as finish
-use Rattle.frame_parts.specs.form.Select as form
-use Rattle.frame_select.specs.declared.planning.Extent.TheVariants as answer
 
 pub label_decides : (a b : Label) → Decides (same_number a b) (a ≡ b)
 label_decides = search rules
@@ -31,32 +29,23 @@ module _ (texts : List Text) where
   any_seen h [] _ _ _ = refl
   any_seen h (g ∷ gs) distinct here settled = cc (same_seen h g distinct here (search head_settled), any_seen h gs distinct here (grind arith))
 
-  pub repeated_seen : (hs : List (Option Label)) → AreDistinct texts → IsSettled headings_value texts hs → heading_value texts (repeated_heading hs) ≡ first_repeated (headings_value texts hs)
-  repeated_seen [] _ _ = refl
-  repeated_seen (h ∷ hs) distinct settled = grind (arith, repeated_seen hs distinct (grind arith), any_seen h hs distinct (search head_settled) (grind arith))
-
--- headings of which none stands again are different
-not_among : (h : Option Label) (hs : List (Option Label)) → list_any (same_heading h) hs ≡ false → (j : ℕ) (d : Option Label) → j < length hs → h ≢ slice_index_or hs j d
-not_among h hs none j d lt = grind (arith, list_any_at (same_heading h) hs j d lt, heading_decides)
-
-not_again : (b : Bool) (h rest : Option Label) → IsSome h → (if b then h else rest) ≡ None → (b ≡ false) × (rest ≡ None)
-not_again = grind arith
-
-pub different : (hs : List (Option Label)) → All IsSome hs → repeated_heading hs ≡ None → AllPairs (λ a b. a ≢ b) hs
-different [] all none i j d before lt = absurd (omega arith)
-different (h ∷ hs) all none i zero d before lt = absurd (omega arith)
-different (h ∷ hs) all none zero (suc j) d before lt =
-    not_among h hs (not_again _ h _ (all 0 h (omega arith)) none).0 j d (omega arith)
-different (h ∷ hs) all none (suc i) (suc j) d before lt =
-    different hs (λ k g below. all (suc k) g (omega arith)) (not_again _ h _ (all 0 h (omega arith)) none).1 i j d (omega arith) (omega arith)
+  pub shared_seen : (hs others : List (Option Label)) → AreDistinct texts → IsSettled headings_value texts hs → IsSettled headings_value texts others
+      → heading_value texts (shared_heading hs others) ≡ first_shared (headings_value texts hs) (headings_value texts others)
+  shared_seen [] others _ _ _ = refl
+  shared_seen (h ∷ hs) others distinct settled given =
+      grind (arith, list_any-append, shared_seen hs others distinct (grind arith) given, any_seen h hs distinct (search head_settled) (grind arith), any_seen h others distinct (search head_settled) given)
 
 -- one heading more, from the last on
-key_more : (q h : Option Label) (keys : List (Option Label)) → list_any (same_heading q) (insert_key same_heading keys h) ≡ (same_heading q h || list_any (same_heading q) keys)
+pub key_more : (q h : Option Label) (keys : List (Option Label)) → list_any (same_heading q) (insert_key same_heading keys h) ≡ (same_heading q h || list_any (same_heading q) keys)
 key_more = search (rules, list_any-append)
 
-pub later_step : (hs keys keys' : List (Option Label)) (p : ℕ) (d q : Option Label) → p < length hs → ((q : Option Label) → list_any (same_heading q) keys ≡ list_any (same_heading q) (drop (p + 1) hs))
-    → keys' ≡ insert_key same_heading keys (slice_index_or hs p d) → list_any (same_heading q) keys' ≡ list_any (same_heading q) (drop p hs)
+pub later_step : (hs others keys keys' : List (Option Label)) (p : ℕ) (d q : Option Label) → p < length hs → ((q : Option Label) → list_any (same_heading q) keys ≡ list_any (same_heading q) (drop (p + 1) hs ++ others))
+    → keys' ≡ insert_key same_heading keys (slice_index_or hs p d) → list_any (same_heading q) keys' ≡ list_any (same_heading q) (drop p hs ++ others)
 later_step = grind (arith, key_more, drop_more)
+
+pub other_step : (others keys keys' : List (Option Label)) (k : ℕ) (d q : Option Label) → k < length others → ((q : Option Label) → list_any (same_heading q) keys ≡ list_any (same_heading q) (take k others))
+    → keys' ≡ insert_key same_heading keys (slice_index_or others k d) → list_any (same_heading q) keys' ≡ list_any (same_heading q) (take (k + 1) others)
+other_step others keys keys' k d q lt before is = grind (arith, key_more, take_more others k d lt, list_any-append)
 
 -- the first place of each heading, with one heading more before the others
 pub first_places_more : (hs : List (Option Label)) (p : ℕ) (d h : Option Label) (es es' : List (Option Label × ℕ)) → p < length hs → h ≡ slice_index_or hs p d
@@ -76,15 +65,18 @@ module _ (texts : List Text) where
   no_key_settled = search
 
   -- a heading that stands again
-  heading_repeated : (hs : List (Option Label)) → IsSettled headings_value texts hs → IsSettled heading_value texts (repeated_heading hs)
-  heading_repeated [] _ = λ more. refl
-  heading_repeated (h ∷ hs) settled = λ more. grind (arith, settled more, heading_repeated hs (grind arith) more)
+  heading_shared : (hs others : List (Option Label)) → IsSettled headings_value texts hs → IsSettled heading_value texts (shared_heading hs others)
+  heading_shared [] others _ = λ more. refl
+  heading_shared (h ∷ hs) others settled = λ more. grind (arith, settled more, heading_shared hs others (grind arith) more)
 
-  pub repeated_settled : (code : Code) (hs : List (Option Label)) (label : Label) → repeated_heading hs ≡ Some label → code ≡ BadValue (Repeated (label ∷ [])) → IsSettled headings_value texts hs
+  pub repeated_settled : (code : Code) (label : Label) → code ≡ BadValue (Repeated (label ∷ [])) → IsSettled label_datum texts label → IsSettled fault_of texts code
+  repeated_settled = grind arith
+
+  pub shared_settled : (code : Code) (hs others : List (Option Label)) (label : Label) → shared_heading hs others ≡ Some label → code ≡ BadValue (Repeated (label ∷ [])) → IsSettled headings_value texts hs
       → IsSettled fault_of texts code
-  repeated_settled _ _ label found is settled =
-      let here : IsSettled label_datum texts label = search (heading_label, heading_repeated) in
-      grind arith
+  shared_settled code hs others label found is settled =
+      let here : IsSettled label_datum texts label = search (heading_label, heading_shared) in
+      repeated_settled code label is here
 
   -- Columns by their labels.
 
@@ -148,7 +140,7 @@ module _ (texts : List Text) where
     from_label = grind (arith, drop-cons, length-map, get_or-map cell_label (cells_value texts cells) k na_cell, cell_seen, slice_get_within cells k cell at)
 
     -- or none
-    pub place_refused : (t : Table) (places : List ℕ) (fault : FaultValue) (whole : Result (List ℕ) FaultValue) → argument_column t (label_datum texts label) ≡ Err fault → made_after (argument_column t) places (drop k (labels_seen texts cells)) ≡ whole
+    pub place_refused : (t : Table) (places : List ℕ) (fault : FaultValue) (whole : Result (List ℕ) FaultValue) → first_column t (label_datum texts label) ≡ Err fault → made_after (first_column t) places (drop k (labels_seen texts cells)) ≡ whole
         → whole ≡ Err fault
     place_refused = grind (arith, from_label)
 
@@ -172,7 +164,7 @@ module _ (texts : List Text) where
 
   -- what the entries have for a label
   pub looked_up : (es : List (Option Label × ℕ)) (t : NumberedTable) (label : Label) (place : Option ℕ) → AreDistinct texts → IsSettled headings_value texts t.headings → IsSettled label_datum texts label
-      → HaveFirstPlaces es 0 t.headings → place ≡ lookup (same_heading (Some label)) es → argument_column (table_value texts t) (label_datum texts label) ≡ found (label_datum texts label) place
+      → HaveFirstPlaces es 0 t.headings → place ≡ lookup (same_heading (Some label)) es → first_column (table_value texts t) (label_datum texts label) ≡ found (label_datum texts label) place
   looked_up _ t label place distinct settled here first is = grind (arith, first (Some label), position_seen 0 t.headings label distinct settled here)
 
 pub looked_inside : (es : List (Option Label × ℕ)) (t : NumberedTable) (label : Label) (place : ℕ) → IsWhole t → HaveFirstPlaces es 0 t.headings → Some place ≡ lookup (same_heading (Some label)) es → place < length t.columns
@@ -248,6 +240,6 @@ module _ (texts : List Text) where
 
   -- all rows of some columns
   module _ (t : NumberedTable) (plan : Plan) (all : TakesAll t plan.rows) where
-    pub column_planned : (label : LabelValue) (place : ℕ) → form.selected_column (table_value texts t) label ≡ Ok place → plan.columns ≡ place ∷ [] → plan.extent ≡ answer.Column
-        → IsPlanOf texts t plan (column_reach (table_value texts t) label)
-    column_planned _ _ found column extent = record { picked = grind (arith, length-map); shared = grind arith }
+    pub columns_planned : (columns : Picked) (picked : Result Pick FaultValue) → picked ≡ Ok (pick_of columns) → plan.columns ≡ columns.places → has_single_row plan.extent ≡ false → has_single_column plan.extent ≡ columns.single
+        → IsPlanOf texts t plan (reach_of (Ok (all_rows_of (table_value texts t))) picked)
+    columns_planned columns picked is places several single = record { picked = grind (arith, length-map); shared = grind arith }

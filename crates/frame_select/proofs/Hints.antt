@@ -2,7 +2,7 @@
 use Rattle.{
   frame_parts.proofs.Common.{length-map, length-range_with_len, get_or-tabulate},
   frame_store.proofs.RowLaws.{item_of-Row},
-  frame_select.proofs.{ListedLaws.{beyond_single, beyond_different, beyond_repeated, reached_both, planned_beyond}, HeadingLaws.{place_met, place_passed, absent_is, no_place}, CutLaws.{reached_plan, places_inside, places_count, read_is, whole_axis, frame_taken, gathered_with, gathered, one_more_chosen, one_more_single, chosen_whole}},
+  frame_select.proofs.{ListedLaws.{beyond_rows, reached_both, planned_beyond}, HeadingLaws.{all_made, place_met, place_passed, absent_is, no_place}, NamedLaws.{argument_missing, argument_several, places_met, places_passed, all_placed, label_missed}, CutLaws.{reached_plan, places_inside, places_count, read_is, whole_axis, frame_taken, gathered_with, gathered, one_more_chosen, one_more_single, chosen_whole}},
   indexers.proofs.SpanLaws.{place_pushed},
 }
 
@@ -22,8 +22,14 @@ pub ruleset chosen_blocks = (one_more_chosen, one_more_single)
 
 pub ruleset table_under = (chosen_whole, length-map)
 
-pub ruleset beyond_limits = (beyond_single, beyond_different, beyond_repeated)
+pub ruleset places_of_label = (places_met, places_passed, all_placed)
+
+pub ruleset named_columns = (all_made, length-map)
+
+pub ruleset argument_column = (argument_missing, argument_several)
+
+pub ruleset label_columns = (label_missed)
 
 pub ruleset reach_by = (reached_both, length-map)
 
-pub ruleset access_plan = (reached_plan, planned_beyond)
+pub ruleset access_plan = (reached_plan, planned_beyond, beyond_rows)

@@ -1,6 +1,7 @@
 pub mod PickedLaws
 pub mod AnswerLaws
 pub mod HeadingLaws
+pub mod NamedLaws
 pub mod RefusalLaws
 pub mod PlaceLaws
 pub mod TakeLaws

@@ -1,11 +1,12 @@
 -- Lists of labels that may meet more rows than a table may have, and what a selection of so many answers.
 use Rattle.{
-  frame_parts.proofs.Common.{◌≡◌, ◌∙◌, refl, ap, sym, arith, ◌<◌, ◌^◌, ℕ, true, false, List, length, Option, Some, None, Result, Ok, Err, length-map, nat_tests, Label, AreDistinct, Text, FaultValue, Entry, limit, fault_of, IsSettled, tuple_value, NumberedTable, table_value, headings_part, tuples_settled, OpFault, Refused, NoMemory, IsKnownTable, MakesBy},
+  frame_parts.proofs.Common.{Bool, Table, ◌≡◌, ◌∙◌, refl, ap, arith, ◌<◌, ◌^◌, ℕ, false, List, length, Option, Some, None, Result, Ok, Err, length-map, nat_tests, Label, AreDistinct, Text, FaultValue, limit, IsSettled, tuple_value, NumberedTable, tuples_settled, OpFault, Refused, NoMemory, MakesBy},
   indexers.{specs.{Lists.{rows_of_list, list_within}, Picks.{PicksBy, pick_of, as_it_is}, declared.keys.{Picked.{Picked}, KeyFault.{KeyFault}}, pick.{Faults.{then_pick, pick_seen}, Keys.{Pick, each_key, listed_pick}}}, proofs.{AnswerLaws.{handed_on}, ListLaws.{some_within, none_within, refused_within}}},
-  meaning_charge.specs.select.{Keys.{found_pick, found_labels, reach_of, Reach}, Select.{picked_result}},
-  frame_select.{specs.{Reaches.{label_key_value, tuples_value, pick_value, refusal_of, listed_reach, FindsBy, IsPicked, IsReached}, Plans.{PlansBy}, Selected.{headings_at}, Headings.{NamesRepeated, repeated_heading}}, proofs.{ReachLaws.{labels_found, picked_is}, CutLaws.{finished_is, headings_settled}, HeadingLaws.{repeated_settled}}},
+  meaning_charge.specs.select.{Keys.{found_pick, found_labels, reach_of, Reach}, Select.{shown_as}},
+  frame_select.{specs.{Reaches.{label_key_value, tuples_value, pick_value, refusal_of, listed_reach, FindsBy, IsPicked, IsReached}, Plans.{PlansBy}}, proofs.ReachLaws.{labels_found, picked_is}},
 }
 use Rattle.indexers.specs.declared.keys.LocKey.TheVariants as key
+use Rattle.cell_core.specs.declared.code.Code.TheVariants.{Limit}
 
 -- a refusal is one of what is found
 refused_so : (texts : List Text) (why : OpFault) (meant : Result Pick FaultValue) → MakesBy pick_value texts (Err why) meant → FindsBy texts (Err why) meant
@@ -46,23 +47,9 @@ pub planned_beyond : (texts : List Text) (t : NumberedTable) (reach : Result Rea
 planned_beyond _ _ _ _ (Refused code) beyond plans = rw beyond.2 (plans beyond.0 beyond.1)
 planned_beyond _ _ _ _ NoMemory _ _ = tt
 
--- so many rows are beyond the limits, but for a column that is listed twice
-module _ (texts : List Text) (t : NumberedTable) (rows : List ℕ) (columns : Picked) (many : 2 ^ 26 < length rows) where
-  abbrev answered : Result Entry FaultValue
-  answered = picked_result (table_value texts t) (listed_reach rows columns)
+-- so many rows are beyond the limits
+many_limited : (single : Bool) (u : Table) → 2 ^ 26 < length u.labels → shown_as false single u ≡ Err limit
+many_limited = grind (arith, nat_tests)
 
-  pub beyond_single : columns.single ≡ true → answered ≡ Err limit
-  beyond_single single = grind (arith, length-map, nat_tests)
-
-  module _ (several : columns.single ≡ false) (distinct : AreDistinct texts) (known : IsKnownTable texts t) where
-    pub beyond_different : repeated_heading (headings_at t columns.places) ≡ None → answered ≡ Err limit
-    beyond_different none =
-        let settled = headings_part texts t known.given in
-        grind (arith, finished_is texts t columns.places distinct settled 0 rows None none, length-map, nat_tests)
-
-    pub beyond_repeated : (why : OpFault) → NamesRepeated why (repeated_heading (headings_at t columns.places)) → PlansBy texts t (Err why) (Ok (listed_reach rows columns))
-    beyond_repeated (Refused code) named =
-        let settled = headings_part texts t known.given in
-        let is = finished_is texts t columns.places distinct settled 0 rows _ named.1 ∙ ap (λ c. Err (fault_of texts c)) (sym named.2) in
-        (grind arith, search (repeated_settled, headings_settled))
-    beyond_repeated NoMemory _ = tt
+pub beyond_rows : (texts : List Text) (t : NumberedTable) (columns : Picked) (rows : List ℕ) → 2 ^ 26 < length rows → PlansBy texts t (Err (Refused Limit)) (Ok (listed_reach rows columns))
+beyond_rows texts t columns rows many = grind (arith, many_limited, length-map)

@@ -14,6 +14,7 @@ use Rattle.frame_store.specs.World.{World, subscript_in, IsKnownSubscript}
 use Rattle.frame_store.specs.declared.arguments.Subscript.{Subscript}
 use Rattle.frame_store.specs.declared.arguments.Selector.{Selector}
 use Rattle.frame_store.specs.declared.arguments.Selector.TheVariants as selector
+use Rattle.frame_select.specs.declared.labels.Named.{Named}
 
 abbrev pub way_of : Selector → Way
 way_of selector.Plain = plain
@@ -44,6 +45,10 @@ each_truth parts = each is_truth_part parts
 -- what doesn't depend on texts
 abbrev pub as_it_is : {X : Type 0} → List Text → X → X
 as_it_is texts x = x
+
+-- the first columns that labels name
+abbrev pub places_named : List Text → Named → List ℕ
+places_named texts named = named.places
 
 -- the headings of the columns at these places
 abbrev pub heading_of : NumberedTable → ℕ → Option Label

@@ -1,39 +1,62 @@
-// Headings of which none stands twice. Texts are told apart by their numbers.
-ghost use Rattle.std.specs.Prelude.{◌≡◌, None, length, IfOk, IfErr};
-ghost use Rattle.frame_select.specs.Headings.{NamesRepeated, repeated_heading, HaveFirstPlaces};
+// Headings, and those that stand again. Texts are told apart by their numbers.
+ghost use Rattle.std.specs.Prelude.{◌≡◌, [], ◌∷◌, None, length, IfOk, IfErr};
+ghost use Rattle.cell_core.specs.declared.code.Code.TheVariants.{BadValue};
+ghost use Rattle.cell_core.specs.declared.code.Reason.TheVariants.{Repeated};
+ghost use Rattle.frame_store.specs.declared.fault.OpFault.TheVariants.{Refused};
+ghost use Rattle.frame_select.specs.Headings.{NamesRepeated, shared_heading, HaveFirstPlaces, AreRepeated};
 
 use cell_core::{Code, Grid, Label, NoMemory, Reason, Tuple};
 use frame_store::{Headings, ObjRef, OpFault};
 use indexmap::{IndexMap, IndexSet};
 use std::alloc::Global;
 
-// Each heading of an object with the place of the first column that has it.
-pub(crate) fn first_places(
-    alloc: Global,
-    on: &ObjRef<'_>,
-) -> Result<IndexMap<Option<Label>, usize>, NoMemory>
-    requires { length on.now.headings ≡ length on.now.columns }
-    ensures { IfOk result (λ places. HaveFirstPlaces places.entries 0 on.now.headings) }
-{
-    let mut places = IndexMap::new(alloc);
-    for place in (0..on.columns()).rev() {
-        places.insert(on.heading(place), place)?;
-    }
-    Ok(places)
+/// Where the headings of an object stand.
+#[derive(Drop)]
+pub(crate) struct HeadingPlaces {
+    /// The first column of each heading.
+    pub first: IndexMap<Option<Label>, usize>,
+    /// The headings of several columns.
+    pub repeated: IndexSet<Option<Label>>,
 }
 
-// The first heading that stands again at a later place.
-fn first_repeated(alloc: Global, headings: &[Option<Label>]) -> Result<Option<Label>, NoMemory>
-    ensures { IfOk result (λ found. found ≡ repeated_heading headings.now) }
+// Where the headings of an object stand.
+pub(crate) fn heading_places(alloc: Global, on: &ObjRef<'_>) -> Result<HeadingPlaces, NoMemory>
+    requires { length on.now.headings ≡ length on.now.columns }
+    ensures first { IfOk result (λ places.
+        HaveFirstPlaces places.first.entries 0 on.now.headings) }
+    ensures repeated { IfOk result (λ places.
+        AreRepeated places.repeated.keys 0 on.now.headings) }
 {
-    let mut later = IndexSet::new(alloc);
-    let mut repeated = None;
-    for place in (0..headings.len()).rev() {
-        if !later.insert(headings[place])? {
-            repeated = headings[place];
+    let mut first = IndexMap::new(alloc);
+    let mut repeated = IndexSet::new(alloc);
+    for place in (0..on.columns()).rev() {
+        let heading = on.heading(place);
+        if first.insert(heading, place)?.is_some() {
+            repeated.insert(heading)?;
         }
     }
-    Ok(repeated)
+    Ok(HeadingPlaces { first, repeated })
+}
+
+// The first of these headings that stands again, at a later place or among others.
+fn first_shared(
+    alloc: Global,
+    headings: &[Option<Label>],
+    others: &[Option<Label>],
+) -> Result<Option<Label>, NoMemory>
+    ensures { IfOk result (λ found. found ≡ shared_heading headings.now others.now) }
+{
+    let mut later = IndexSet::new(alloc);
+    for heading in others {
+        later.insert(*heading)?;
+    }
+    let mut shared = None;
+    for place in (0..headings.len()).rev() {
+        if !later.insert(headings[place])? {
+            shared = headings[place];
+        }
+    }
+    Ok(shared)
 }
 
 /// These headings, and the name that the columns have together. `NoMemory` is the only refusal.
@@ -52,29 +75,32 @@ pub fn heading_list(
     Ok(made)
 }
 
-/// The headings of a table of which none stands twice, and the name that its columns have together.
+/// The fault of a label that stands several times where each may stand once.
+pub fn repeated_label(alloc: Global, label: Label) -> OpFault
+    ensures { result ≡ Refused (BadValue (Repeated (label ∷ []))) }
+{
+    OpFault::Refused(Code::BadValue(Reason::Repeated(Tuple::of(alloc, &[label]))))
+}
+
+/// Tests that none of these headings stands again, at a later place or among others.
 ///
 /// At most one heading of a table is missing, that of a Series without a name. A missing heading
-/// that stands twice in the list has no label to be named: it isn't refused, and nothing behind it
-/// is looked at.
+/// that stands again has no label to be named: it isn't refused, and nothing behind it is looked at.
 ///
 /// # Errors
 ///
-/// `BadValue(Repeated)` of the first heading that stands again at a later place. `NoMemory` may
-/// come in place of any answer.
-pub fn different_headings(
+/// `BadValue(Repeated)` of the first one that does. `NoMemory` may come in place of any answer.
+pub fn expect_unshared(
     alloc: Global,
-    columns_name: Option<Label>,
     headings: &[Option<Label>],
-) -> Result<Headings, OpFault>
-    ensures different { IfOk result (λ made. repeated_heading headings.now ≡ None) }
-    ensures made { IfOk result (λ made. made
-        ≡ record { columns_name = columns_name; labels = headings.now }) }
-    ensures refused { IfErr result (λ fault. NamesRepeated fault (repeated_heading headings.now)) }
+    others: &[Option<Label>],
+) -> Result<(), OpFault>
+    ensures none { IfOk result (λ done. shared_heading headings.now others.now ≡ None) }
+    ensures refused { IfErr result (λ fault.
+        NamesRepeated fault (shared_heading headings.now others.now)) }
 {
-    if let Some(label) = first_repeated(alloc, headings)? {
-        let key = Tuple::of(alloc, &[label]);
-        return Err(OpFault::Refused(Code::BadValue(Reason::Repeated(key))));
+    match first_shared(alloc, headings, others)? {
+        Some(label) => Err(repeated_label(alloc, label)),
+        None => Ok(()),
     }
-    Ok(heading_list(alloc, columns_name, headings)?)
 }

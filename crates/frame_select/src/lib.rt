@@ -27,11 +27,11 @@ mod selecting;
 mod subscripts;
 mod taking;
 
-pub use headings::{different_headings, heading_list};
+pub use headings::{expect_unshared, heading_list, repeated_label};
 pub use keys::{joined_key, listed_keys};
 pub use labels::{
-    argument_column, argument_columns, headings_at, place_of_label, selected_column,
-    selected_columns,
+    Named, argument_column, argument_columns, headings_at, label_columns, named_columns,
+    place_of_label, places_of_label,
 };
 pub use new_objects::{as_frame, copied, places_below, renamed};
 pub use reaching::{all_columns, columns_by, may_stand_alone, rows_by};

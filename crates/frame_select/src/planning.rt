@@ -1,26 +1,26 @@
 // Plans of selections: what they take from a table that is read.
-ghost use Rattle.std.specs.Prelude.{◌≡◌, ℕ, ◌<◌, ◌^◌, ◌∷◌, [], List, length, Some, None, Ok, Err, IfOk, IfErr, All};
+ghost use Rattle.std.specs.Prelude.{◌≡◌, ◌<◌, ◌∷◌, [], List, length, Some, Result, Ok, IfOk};
 ghost use Rattle.std.specs.Option.{is_some};
 ghost use Rattle.cell_core.specs.declared.grid.Shape.TheVariants.{Frame};
 ghost use Rattle.column_core.specs.cells.Text.{Text as OneText};
 ghost use Rattle.frame_store.specs.tables.Settled.{IsSettled};
 ghost use Rattle.frame_store.specs.tables.Table.{NumberedTable, table_value};
 ghost use Rattle.frame_store.specs.tables.Value.{one, key_given};
-ghost use Rattle.meaning_charge.specs.select.Keys.{reach_by};
+ghost use Rattle.meaning_charge.specs.select.Keys.{reach_by, reach_of, all_rows_of};
 ghost use Rattle.meaning_charge.specs.select.Select as meant;
 ghost use Rattle.frame_store.specs.Objects.{Tables, tables};
 ghost use Rattle.frame_store.specs.Arguments.{object_value, items_of, subscript_of, IsLiveObject};
 ghost use Rattle.frame_store.specs.World.{world, entry_in, subscript_in, IsKnownValue, IsKnownSubscript, IsKnownTable, IsSettledWorld};
 ghost use Rattle.indexers.specs.Picks.{pick_of};
-ghost use Rattle.frame_select.specs.Plans.{rows_in, TakesPicked, TakesAll, has_single_row, has_single_column, is_shared, is_sliced, share_cells, reach_of_plan, IsPlanFor, PlansBy};
-ghost use Rattle.frame_select.specs.Headings.{repeated_heading, NamesRepeated};
-ghost use Rattle.frame_select.specs.Reaches.{accessor_of, picked_reach, listed_reach, PicksBelow, ReachesWithin, CanSelect};
-ghost use Rattle.frame_select.specs.Selected.{headings_at as meant_headings, IsKnownSecond, second_in, each_truth, way_of};
+ghost use Rattle.indexers.specs.pick.Keys.{Pick};
+ghost use Rattle.column_core.specs.cells.Fault.{FaultValue};
+ghost use Rattle.frame_store.specs.tables.Valid.{IsWhole};
+ghost use Rattle.frame_select.specs.Plans.{rows_in, TakesPicked, TakesAll, has_single_row, has_single_column, is_shared, is_sliced, share_cells, reach_of_plan, IsPlanFor, IsPlanOf, PlansBy};
+ghost use Rattle.frame_select.specs.Reaches.{accessor_of, picked_reach, PicksBelow, ReachesWithin, CanSelect};
+ghost use Rattle.frame_select.specs.Selected.{IsKnownSecond, second_in, each_truth, way_of};
 
-use crate::headings::different_headings;
-use crate::labels::{headings_at, selected_column, selected_columns};
-use crate::reaching::{Reach, all_columns, mask_rows, reach_by};
-use crate::subscripts::scalars_alone;
+use crate::labels::label_columns;
+use crate::reaching::{Reach, all_columns, loc_columns, mask_rows, reach_by};
 use cell_core::{Cell, Code, Grid, Label, Places, Rows, Shape, TextDict};
 use frame_parts::wrong_kind;
 use frame_store::{Argument, Item, ObjId, ObjRef, OpFault, Selector, Store, Subscript, Value};
@@ -131,38 +131,6 @@ fn plan_of(rows: Picked, columns: Picked) -> Plan
     }
 }
 
-// Tests that none of these columns has the label of another one.
-fn expect_different(alloc: Global, on: &ObjRef<'_>, columns: &Places) -> Result<(), OpFault>
-    requires { All (λ place. place < length on.now.columns) columns.now }
-    ensures different { IfOk result (λ done.
-        repeated_heading (meant_headings on.now columns.now) ≡ None) }
-    ensures refused { IfErr result (λ fault. NamesRepeated fault
-        (repeated_heading (meant_headings on.now columns.now))) }
-{
-    let labels = headings_at(alloc, on, columns)?;
-    let _ = different_headings(alloc, on.columns_name(), &labels)?;
-    Ok(())
-}
-
-// What a selection of more rows than a table may have answers: the first column that is listed twice, else `Limit`.
-#[tactic(auto, using(crate::proofs::Hints::beyond_limits))]
-fn beyond_limits(alloc: Global, dict: &TextDict, on: &ObjRef<'_>, columns: &Picked) -> OpFault
-    requires known { IsKnownTable dict.now on.now }
-    requires columns { PicksBelow (length on.now.columns) columns.now }
-    ensures { (rows : List ℕ) → 2 ^ 26 < length rows
-        → PlansBy dict.now on.now (Err result) (Ok (listed_reach rows columns.now)) }
-{
-    // Equal texts have equal numbers: `TextDict::len` says so.
-    let _ = dict.len();
-    if columns.single {
-        return OpFault::Refused(Code::Limit);
-    }
-    match expect_different(alloc, on, &columns.places) {
-        Ok(()) => OpFault::Refused(Code::Limit),
-        Err(fault) => fault,
-    }
-}
-
 /// All rows of a table.
 pub(crate) fn all_rows(on: &ObjRef<'_>) -> Taken
     ensures { TakesAll on.now result }
@@ -187,27 +155,19 @@ pub(crate) fn whole_columns(on: &ObjRef<'_>, columns: Places, extent: Extent) ->
     }
 }
 
-// The columns that a list names.
-fn list_plan(
-    alloc: Global,
-    dict: &TextDict,
-    on: &ObjRef<'_>,
-    items: &[Item],
-) -> Result<Plan, OpFault>
-    requires known { IsKnownTable dict.now on.now }
+// All rows of the columns that were picked.
+#[tactic(auto, using(crate::proofs::BracketLaws::columns_planned))]
+fn column_plan(on: &ObjRef<'_>, columns: Picked) -> Plan
+    requires whole { IsWhole on.now }
     requires shape { on.now.shape ≡ Frame }
-    requires items { (live : Tables) × IsSettled (items_of live) dict.now items.now }
-    ensures plan { (live : Tables) → PlansBy dict.now on.now result
-        (meant.list_reach (table_value dict.now on.now) (items_of live dict.now items.now)) }
-    ensures whole { IfOk result (IsPlanFor on.now) }
+    requires columns { PicksBelow (length on.now.columns) columns }
+    ensures plan { (texts : List OneText) (picked : Result Pick FaultValue)
+        → picked ≡ Ok (pick_of columns)
+        → IsPlanOf texts on.now result (reach_of (Ok (all_rows_of (table_value texts on.now))) picked) }
+    ensures whole { IsPlanFor on.now result }
 {
-    match scalars_alone(alloc, items)? {
-        Some(cells) => {
-            let places = selected_columns(alloc, dict, on, &cells)?;
-            Ok(whole_columns(on, places, Extent::Frame))
-        }
-        None => Err(wrong_kind()),
-    }
+    let extent = extent_of(false, columns.single);
+    whole_columns(on, columns.places, extent)
 }
 
 // The rows that a mask keeps of all columns.
@@ -232,7 +192,6 @@ fn mask_plan(
 }
 
 // What a value in brackets takes from a frame: the column of a label, or the rows of a mask.
-#[tactic(auto, using(crate::proofs::BracketLaws::column_planned))]
 fn value_plan(
     alloc: Global,
     store: &Store,
@@ -250,10 +209,8 @@ fn value_plan(
 {
     match value {
         Value::Scalar(cell) => {
-            let place = selected_column(alloc, dict, on, Label::from(cell))?;
-            let mut columns = Places::new(alloc);
-            columns.push(place)?;
-            Ok(whole_columns(on, columns, Extent::Column))
+            let columns = label_columns(alloc, dict, on, Label::from(cell))?;
+            Ok(column_plan(on, columns))
         }
         Value::Object(mask) => mask_plan(alloc, store, dict, on, mask),
     }
@@ -277,7 +234,10 @@ fn frame_plan(
 {
     match key {
         Subscript::Key(Argument::One(value)) => value_plan(alloc, store, dict, on, *value),
-        Subscript::Key(Argument::Many(items)) => list_plan(alloc, dict, on, items.as_slice()),
+        Subscript::Key(Argument::Many(_)) => {
+            let columns = loc_columns(alloc, dict, on, key)?;
+            Ok(column_plan(on, columns))
+        }
         _ => Err(wrong_kind()),
     }
 }
@@ -330,7 +290,7 @@ fn access_plan(
     let Reach { rows, columns } = reach_by(alloc, store, dict, on, by, first, second)?;
     match rows {
         Some(rows) => Ok(plan_of(rows, columns)),
-        None => Err(beyond_limits(alloc, dict, on, &columns)),
+        None => Err(OpFault::Refused(Code::Limit)),
     }
 }
 

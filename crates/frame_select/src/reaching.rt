@@ -3,6 +3,7 @@ ghost use Rattle.std.specs.Prelude.{◌≡◌, ◌<◌, ◌≤◌, List, length,
 ghost use Rattle.std.specs.List.{range_with_len};
 ghost use Rattle.std.specs.Option.{option_map, is_some};
 ghost use Rattle.cell_core.specs.declared.grid.Shape.TheVariants.{Series, Frame};
+ghost use Rattle.column_core.specs.cells.Symbol.{at};
 ghost use Rattle.column_core.specs.cells.Text.{Text as OneText};
 ghost use Rattle.frame_store.specs.tables.Table.{table_value};
 ghost use Rattle.frame_store.specs.tables.Valid.{IsWhole};
@@ -367,7 +368,7 @@ fn is_tuple(key: &Subscript) -> bool
 
 // The columns of a key of `loc`. No tuple and no mask names columns.
 #[tactic(auto, using(crate::proofs::SeenKeys::range_below))]
-fn loc_columns(
+pub(crate) fn loc_columns(
     alloc: Global,
     dict: &TextDict,
     on: &ObjRef<'_>,
@@ -388,13 +389,36 @@ fn loc_columns(
     labelled(alloc, dict, &axis, &key)
 }
 
+// The column of a key of `at`, whose label must stand once.
+fn at_columns(
+    alloc: Global,
+    dict: &TextDict,
+    on: &ObjRef<'_>,
+    key: &Subscript,
+) -> Result<Picked, OpFault>
+    requires table { CanSelect dict.now on.now }
+    requires shape { on.now.shape ≡ Frame }
+    ensures columns { (live : Tables) → IsSettled (subscript_of live) dict.now key.now
+        → MakesBy pick_value dict.now result
+        (meant.columns_by at (table_value dict.now on.now) (subscript_of live dict.now key.now)) }
+    ensures within { IfOk result (PicksBelow (length on.now.columns)) }
+{
+    let label = whole_key(alloc, 1, key)?;
+    let columns = loc_columns(alloc, dict, on, key)?;
+    if columns.single {
+        Ok(columns)
+    } else {
+        Err(OpFault::Refused(Code::BadValue(Reason::Repeated(label))))
+    }
+}
+
 /// The columns that a key picks, by an accessor. Brackets alone are `loc`.
 ///
 /// # Errors
 ///
 /// `WrongKind` of a key of a form that the accessor doesn't take, a tuple and a mask among them, tested first; then
-/// `NoKey` of a label that isn't there, `OutOfRange` of a position, `BadValue(Argument)` of a step of 0. `NoMemory` may come
-/// in place of any answer.
+/// `NoKey` of a label that isn't there, `BadValue(Repeated)` of a label of `at` that several columns have, `OutOfRange` of a
+/// position, `BadValue(Argument)` of a step of 0. `NoMemory` may come in place of any answer.
 pub fn columns_by(
     alloc: Global,
     dict: &TextDict,
@@ -413,10 +437,7 @@ pub fn columns_by(
         Selector::Plain => loc_columns(alloc, dict, on, key),
         Selector::Loc => loc_columns(alloc, dict, on, key),
         Selector::Iloc => places_among(alloc, on.columns(), key),
-        Selector::At => {
-            let _ = whole_key(alloc, 1, key)?;
-            loc_columns(alloc, dict, on, key)
-        }
+        Selector::At => at_columns(alloc, dict, on, key),
         Selector::Iat => place_among(alloc, on.columns(), key),
     }
 }

@@ -5,7 +5,7 @@ ghost use Rattle.cell_core.specs.declared.grid.Shape.TheVariants.{Frame};
 ghost use Rattle.column_core.specs.cells.Text.{Text as OneText};
 ghost use Rattle.frame_store.specs.tables.Cost.{free};
 ghost use Rattle.frame_store.specs.tables.Table.{table_value, tuple_value, heading_value};
-ghost use Rattle.frame_parts.specs.form.Finish.{limited, finished};
+ghost use Rattle.frame_parts.specs.form.Finish.{limited};
 ghost use Rattle.frame_parts.specs.form.Select.{columns_frame};
 ghost use Rattle.meaning_charge.specs.Charge.{select_charge};
 ghost use Rattle.meaning_charge.specs.select.Select as meant;
@@ -22,7 +22,7 @@ ghost use Rattle.frame_select.specs.Selected.{IsKnownSecond, second_in, as_it_is
 ghost use Rattle.frame_select.specs.Chosen.{AreSettledHeadings};
 ghost use Rattle.frame_select.specs.Across.{HaveKind, cells_across};
 
-use crate::headings::different_headings;
+use crate::headings::heading_list;
 use crate::labels::headings_at;
 use crate::new_objects::places_below;
 use crate::planning::{Extent, Plan, Taken, plan_for, whole_columns};
@@ -255,14 +255,12 @@ fn take_frame(
     requires plan { IsPlanFor (table_at (tables store.old) on.0) plan.now }
     requires several { has_single_column plan.now.extent ≡ false }
     ensures { FormsFor (unless_shared (share_cells plan.now.rows)) result
-        (finished (cut_by plan.now (object_value (tables store.old) dict.now on)))
+        (limited (cut_by plan.now (object_value (tables store.old) dict.now on)))
         (world store.old dict.now) (world store.new dict.now) }
 {
-    // Equal texts have equal numbers: `TextDict::len` says so.
-    let _ = dict.len();
     let source = store.read(on);
     let labels = headings_at(alloc, &source, &plan.columns)?;
-    let headings = different_headings(alloc, source.columns_name(), &labels)?;
+    let headings = heading_list(alloc, source.columns_name(), &labels)?;
     cut_within(
         alloc,
         store,
@@ -278,9 +276,8 @@ fn take_frame(
 ///
 /// # Errors
 ///
-/// `BadValue(Repeated)` of the first column that is listed twice, then `Limit` where the frame would
-/// be beyond the limits. `NoMemory` may come in place of any answer. After a refusal all objects are
-/// as they were.
+/// `Limit` where the frame would be beyond the limits. `NoMemory` may come in place of any answer.
+/// After a refusal all objects are as they were.
 pub fn columns_of(
     alloc: Global,
     store: &mut Store,
@@ -294,7 +291,7 @@ pub fn columns_of(
     requires columns { All (λ place. place < length (table_at (tables store.old) on.0).columns)
         columns }
     ensures { FormsFor free result
-        (finished (columns_frame (object_value (tables store.old) dict.now on) columns))
+        (limited (columns_frame (object_value (tables store.old) dict.now on) columns))
         (world store.old dict.now) (world store.new dict.now) }
 {
     let plan = whole_columns(&store.read(on), columns, Extent::Frame);
@@ -372,8 +369,7 @@ fn carry_out(
 /// of any on several levels; `OutOfRange` of a position; `NoMaskLabel` of a row whose label stands
 /// not just once in a mask of other labels; `BadValue(Argument)` of a step of 0;
 /// `BadValue(Repeated)` of a label of `at` that stands more than once. Then `WrongKind` of a row of
-/// several kinds, `BadValue(Repeated)` of the first column that is listed twice, `Limit`.
-/// `NoMemory` may come in place of any answer. After a refusal all objects are as they were.
+/// several kinds, `Limit`. `NoMemory` may come in place of any answer. After a refusal all objects are as they were.
 pub fn select(
     alloc: Global,
     store: &mut Store,

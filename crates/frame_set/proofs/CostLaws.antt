@@ -1,5 +1,5 @@
 -- What settings cost, and what they leave of other objects.
-use Rattle.{std.{proofs.Math.Nat.{le-mul_of_pos_right, mul-le-mul_left}, specs.Prelude.{◌==◌, ◌*◌, sum}}, column_core.proofs.cells.Common.{cond_both}, frame_parts.proofs.Common.{arith, nat_tests, ◌≡◌, ◌≤◌, ◌<◌, ℕ, Bool, List, [], ◌∷◌, length, map, All, refl, ap, if◌then◌else◌, range_with_len, Option, Some, None, Result, Ok, Err, IfOk, IsSome, nat_eq, length-map, length-range_with_len, Shape, Series, Frame, Text, FaultValue, wrong_kind, Accessor, NumberedTable, Table, table_value, column_at, cells_with_texts, IsWhole, GivenSub, table, Tables, with_object, ObjId, IsSingle, CellBlock, block_column}, frame_store.{specs.{cells.Reduce.{distinct}, Objects.{BlocksByObject, LieStill}}, proofs.CellLaws.{cells_of_named, distinct_more}}, frame_select.specs.{charge.Charge.{different_count, setting_charge, touched_in}, select.{Keys.{all_columns, may_stand_alone}, Select.{Way, through}, Set.{Reached, Target, columns_set, picked, rows_set, target_by, target_of}}}, frame_set.specs.{declared.changes.{Change.{Change}, Setting.{Setting}}, Changes.{cells_after, columns_after, columns_changed, ended, table_after, IsSettingOf}}}
+use Rattle.{std.{proofs.Math.Nat.{le-mul_of_pos_right, mul-le-mul_left}, specs.Prelude.{◌==◌, ◌*◌, sum}}, column_core.proofs.cells.Common.{cond_both}, frame_parts.proofs.Common.{arith, nat_tests, ◌≡◌, ◌≤◌, ◌<◌, ℕ, Bool, List, [], ◌∷◌, length, map, All, refl, ap, if◌then◌else◌, range_with_len, Option, Some, None, Result, Ok, Err, IfOk, IsSome, nat_eq, length-map, length-range_with_len, Shape, Series, Frame, Text, FaultValue, wrong_kind, Accessor, loc, LabelValue, NumberedTable, Table, table_value, column_at, cells_with_texts, IsWhole, GivenSub, table, Tables, with_object, ObjId, IsSingle, CellBlock, block_column}, frame_store.{specs.{cells.Reduce.{distinct}, Objects.{BlocksByObject, LieStill}}, proofs.CellLaws.{cells_of_named, distinct_more}}, frame_select.specs.{charge.Charge.{different_count, setting_charge, touched_in, touched_item}, select.{Keys.{all_columns, may_stand_alone}, Select.{Way, through}, Set.{Reached, Target, added_label, columns_set, or_last, picked, rows_set, target_by, target_of}}}, frame_set.{specs.{declared.changes.{Change.{Change}, Setting.{Setting}}, Changes.{cells_after, columns_after, columns_changed, ended, table_after, IsSettingOf}}, proofs.PutLaws.{labels_kept}}}
 use Rattle.frame_set.specs.declared.changes.Change.TheVariants as change
 use Rattle.frame_set.specs.declared.changes.Setting.TheVariants as setting
 
@@ -43,6 +43,14 @@ pub touched_more : {E : Type 0} (r : Result Change E) (m n : ℕ) → m ≤ n �
 touched_more (Ok change) m n more within = omega arith
 touched_more (Err fault) m n more within = tt
 
+-- a column is put somewhere
+some_place : (count : ℕ) (places : List ℕ) → 1 ≤ length (or_last count places)
+some_place count [] = omega arith
+some_place count (place ∷ places) = omega arith
+
+pub label_touched : (t : Table) (k : GivenSub) (l : LabelValue) → Some l ≡ added_label loc k → 1 ≤ touched_item t k None
+label_touched t k l is = grind (arith, some_place)
+
 -- a setting costs what it makes
 pub setting_within : (texts : List Text) (live : Tables) (ends : Option ObjId) (t : NumberedTable) (s : Setting) (way : Way) (first : GivenSub) (second : Option GivenSub) → IsSettingOf live ends t s
     → columns_after s ≤ touched_in t.shape way (table_value texts t) first second → cells_after t s ≤ setting_charge (table (table_value texts t)) way first second (table_value texts (table_after live t s))
@@ -50,6 +58,8 @@ setting_within texts live ends t (setting.Change (change.Cells rows columns valu
     grind (arith, nat_tests, length-map, mul-le-mul_left (length t.labels) touched)
 setting_within texts live ends t (setting.Change (change.Column place label block)) way first second fits touched =
     grind (arith, nat_tests, length-map, le-mul_of_pos_right)
+setting_within texts live ends t (setting.Change (change.Columns places label block)) way first second fits touched =
+    grind (arith, nat_tests, labels_kept, length-map, le-mul_of_pos_right)
 setting_within texts live ends t (setting.Change (change.Table made)) way first second fits touched =
     grind (arith, nat_tests, length-map, cells_with_texts)
 setting_within texts live ends t (setting.Move place label series) way first second fits touched = grind arith

@@ -1,10 +1,10 @@
 -- Tables that get a row or a column.
 use Rattle.{
-  frame_parts.proofs.Common.{◌≡◌, ◌∙◌, ℕ, suc, ◌+◌, ◌<◌, ◌%◌, ◌/◌, List, [], ◌∷◌, ◌++◌, length, take, drop, map, refl, ap, arith, All, Option, Some, None, get_or_default, get_or_push, map_push, map_more, length-map, length-append, length-set, All-map, All-push, nat_tests, slice_get, slice_index, Cell, Na, Kind, Label, CellBlock, CellColumn, ColumnOf, NumberedTable, column_at, no_column, IsWhole, AreHeadings, with_values_from, put_at, with_column, with_values, HaveRows, block_column, IsSingle},
+  frame_parts.proofs.Common.{◌≡◌, ◌∙◌, ℕ, suc, ◌+◌, ◌<◌, ◌%◌, ◌/◌, List, [], ◌∷◌, ◌++◌, length, take, drop, map, refl, ap, arith, All, Option, Some, None, get_or_default, get_or_push, map_push, map_more, length-map, length-append, length-set, All-map, All-push, nat_tests, slice_get, slice_index, Cell, Na, Kind, Label, CellBlock, CellColumn, ColumnOf, NumberedTable, column_at, no_column, IsWhole, with_values_from, put_at, with_column, with_values, HaveRows, block_column, IsSingle},
   column_core.proofs.cells.Common.{with_cell as with_block_cell},
   std.proofs.lemmas.List.{set_at},
   frame_store.{specs.{tables.Change.{with_cell_at}, Parts.{AreHeld, IsHeld}}, proofs.ValueLaws.{one_more_put}},
-  frame_set.{specs.{declared.targets.Target.{Target}, Grown.{grown_table, missing_column, new_column, with_gap, with_row}, Values.{count_with, rows_after, columns_after, ArePlacesOf, IsFreshIn}}, proofs.PutLaws.{put_headed}},
+  frame_set.specs.{declared.targets.Target.{Target}, Grown.{grown_table, missing_column, new_column, with_gap, with_row}, Values.{count_with, rows_after, columns_after, ArePlacesOf}},
 }
 
 -- one more column with a gap
@@ -56,10 +56,6 @@ values_last k cs m rows (x ∷ xs) = grind (arith, get_or_push, set_at, values_l
 pub column_filled : (t : NumberedTable) (label : Label) (kind : Kind) (rows : List ℕ) (values : List Cell) (c : ColumnOf Cell) → c ≡ new_column kind (length t.labels) rows values
     → with_column t (length t.columns) (Some label) c ≡ with_values (with_column t (length t.columns) (Some label) (missing_column kind (length t.labels))) rows (length t.columns ∷ []) values
 column_filled = grind (arith, put_last, values_last)
-
--- headings with one more
-pub fresh_headed : (t : NumberedTable) (label : Label) (place : ℕ) → IsWhole t → IsFreshIn t (Some label) → place ≡ length t.columns → AreHeadings t.shape t.columns_name (put_at t.headings place (Some label))
-fresh_headed t _ _ whole fresh is = put_headed t _ _ _ None whole fresh.0 is refl tt tt fresh.1
 
 -- the table that a target grows
 

@@ -8,7 +8,9 @@ pub mod GrowLaws
 pub mod MoveLaws
 pub mod PutCases
 pub mod PutLaws
+pub mod RemoveLaws
 pub mod SetLaws
+pub mod SharingLaws
 pub mod SoleLaws
 pub mod TargetLaws
 pub mod TouchLaws

@@ -1,9 +1,5 @@
 -- Columns for the rows of a frame, and rows that a frame gets with a column.
-use Rattle.{
-  frame_parts.proofs.Common.{column_seen, length-map, All-replicate, length-map-range_with_len, nat_tests, ◌≡◌, ℕ, ◌<◌, true, List, [], ◌∷◌, length, replicate, arith, Option, Some, None, Result, Ok, IfOk, map-put_at, cell_given, cells_given, columns_given, columns_part, labels_value, headings_value, columns_value, Tables, OpFault, Cell, Na, Label, Series, taken, Text, CellValue, LabelValue, datum, label_datum, na_cell, IsGiven, AreGiven, AxisValue, range_axis, CellColumn, IsSettled, NumberedTable, table_value, column_at, no_column, with_column, IsWhole, default_labels, same_tuples, default_seen},
-  frame_set.{proofs.{CellLaws.{none_seen}, AlignLaws.{tuples_decide, own_column, taken_seen}, PutLaws.{put_by, put_settled, rows_seen, rows_settled}}, specs.{declared.values.SetValue.{SetValue, TheVariants.{Same, Listed}}, Values.{value_in}, Assigned.{table_column, put_place, with_axis}}},
-  frame_select.{proofs.AnswerLaws.{column_seen as first_column}, specs.select.Set.{put_result, with_rows, list_set, column_at_rows, series_set}},
-}
+use Rattle.{frame_parts.proofs.Common.{column_seen, length-map, All-replicate, length-map-range_with_len, nat_tests, ◌≡◌, ◌∙◌, ap, sym, subst, ℕ, ◌<◌, true, List, [], ◌∷◌, length, replicate, arith, Option, None, Result, Ok, Err, IfOk, tuple_value, then_value, ColumnOf, MakesBy, cell_given, cells_given, columns_given, columns_part, labels_value, headings_value, columns_value, Tables, OpFault, Cell, Na, Label, Series, taken, Text, CellValue, LabelValue, datum, label_datum, na_cell, IsGiven, AreGiven, AxisValue, range_axis, CellColumn, IsSettled, NumberedTable, table_value, column_at, no_column, axis_of, IsWhole, default_labels, same_tuples, default_seen}, frame_set.{proofs.{CellLaws.{none_seen}, AlignLaws.{tuples_decide, own_column, taken_seen}, PutLaws.{put_by, put_seen, put_settled, put_there, places_seen, rows_seen, rows_settled}, SetLaws.{part_refused}}, specs.{Changes.{RefusesBy}, Places.{places_at}, declared.values.SetValue.{SetValue, TheVariants.{Same, Listed}}, Values.{value_in}, Assigned.{table_column, put_places, with_axis, with_places}}}, frame_select.{proofs.AnswerLaws.{column_seen as first_column}, specs.select.Set.{put_result, with_rows, list_set, column_at_rows, series_set}}}
 use Rattle.frame_select.specs.select.Set as meant
 
 -- the cells of a column were given
@@ -44,13 +40,32 @@ pub series_fits : (texts : List Text) (t s : NumberedTable) (l : LabelValue) →
 series_fits texts t s l many same = grind (arith, tuples_decide (labels_value texts t.labels) (labels_value texts s.labels), none_seen, nat_tests, own_column (length (table_value texts t).level_names) (labels_value texts t.labels) (table_value texts s) same, first_column texts s.columns 0, length-map)
 
 -- the frame with the rows of an axis and a column
-pub rows_meant : (texts : List Text) (t : NumberedTable) (axis : AxisValue) (place rows : ℕ) (label : Label) (c : CellColumn) (u : NumberedTable) → IsWhole t → rows ≡ length axis.tuples
-    → put_place rows (headings_value texts t.headings) (label_datum texts label) ≡ Ok place → u ≡ with_column (with_axis t axis) place (Some label) (table_column c)
+pub rows_meant : (texts : List Text) (t : NumberedTable) (axis : AxisValue) (places : List ℕ) (rows : ℕ) (label : Label) (c : CellColumn) (u : NumberedTable) → IsWhole t → rows ≡ length axis.tuples
+    → put_places rows (table_value texts t) (label_datum texts label) ≡ Ok places → u ≡ with_places (with_axis t axis) places label (table_column c)
     → put_result (with_rows (table_value texts t) (labels_value texts axis.tuples) (headings_value texts axis.names)) (label_datum texts label) (column_seen texts c) ≡ Ok (table_value texts u)
-rows_meant texts t axis _ _ label c = grind (arith, put_by (with_rows (table_value texts t) (labels_value texts axis.tuples) (headings_value texts axis.names)) (label_datum texts label) (column_seen texts c), rows_seen texts t axis, map-put_at, length-map)
+rows_meant texts t axis places _ label c = grind (arith, put_by (with_rows (table_value texts t) (labels_value texts axis.tuples) (headings_value texts axis.names)) (label_datum texts label) (column_seen texts c), rows_seen texts t axis, places_seen texts (with_axis t axis) places label c, length-map)
 
-pub rows_given : (texts : List Text) (t : NumberedTable) (axis : AxisValue) (place : ℕ) (label : Label) (c : CellColumn) (u : NumberedTable) → IsSettled table_value texts t → IsSettled labels_value texts axis.tuples → IsSettled headings_value texts axis.names
-    → IsSettled label_datum texts label → AreGiven texts c.cells → u ≡ with_column (with_axis t axis) place (Some label) (table_column c) → IsSettled table_value texts u
+-- or it isn't put
+pub put_refused : (texts : List Text) (t : NumberedTable) (label : Label) (c : ColumnOf CellValue) (rows : ℕ) (fault : OpFault) → IsWhole t → rows ≡ length t.labels → MakesBy places_at texts (Err fault) (put_places rows (table_value texts t) (label_datum texts label))
+    → RefusesBy texts fault (put_result (table_value texts t) (label_datum texts label) c)
+put_refused texts t label c rows fault whole is refused =
+    subst (RefusesBy texts fault) (sym (put_seen texts t label c rows whole is)) (part_refused places_at texts _ (put_there (table_value texts t) (label_datum texts label) c) fault refused)
+
+pub rows_refused : (texts : List Text) (t : NumberedTable) (axis : AxisValue) (label : Label) (c : ColumnOf CellValue) (rows : ℕ) (fault : OpFault) → IsWhole t → rows ≡ length axis.tuples → MakesBy places_at texts (Err fault) (put_places rows (table_value texts t) (label_datum texts label))
+    → RefusesBy texts fault (put_result (with_rows (table_value texts t) (labels_value texts axis.tuples) (headings_value texts axis.names)) (label_datum texts label) c)
+rows_refused texts t axis label c rows fault whole is refused =
+    let T = with_rows (table_value texts t) (labels_value texts axis.tuples) (headings_value texts axis.names) in
+    let l = label_datum texts label in
+    let same : put_places (length T.labels) T l ≡ put_places rows (table_value texts t) l = ap (λ n. put_places n (table_value texts t) l) (length-map axis.tuples (tuple_value texts) ∙ sym is) in
+    subst (RefusesBy texts fault) (sym (put_by T l c (search length-map) ∙ ap (λ r. then_value r (put_there T l c)) same)) (part_refused places_at texts _ (put_there T l c) fault refused)
+
+pub series_refused : (texts : List Text) (t s : NumberedTable) (label : Label) (rows : ℕ) (fault : OpFault) → IsWhole t → length t.labels ≡ 0 → 0 < length s.labels → rows ≡ length s.labels
+    → MakesBy places_at texts (Err fault) (put_places rows (table_value texts t) (label_datum texts label)) → RefusesBy texts fault (series_set (table_value texts t) (label_datum texts label) (table_value texts s))
+series_refused texts t s label rows fault whole none some is refused =
+    subst (RefusesBy texts fault) (sym (series_rows texts t s (label_datum texts label) none some)) (rows_refused texts t (axis_of s) label _ rows fault whole is refused)
+
+pub rows_given : (texts : List Text) (t : NumberedTable) (axis : AxisValue) (places : List ℕ) (label : Label) (c : CellColumn) (u : NumberedTable) → IsSettled table_value texts t → IsSettled labels_value texts axis.tuples → IsSettled headings_value texts axis.names
+    → IsSettled label_datum texts label → AreGiven texts c.cells → u ≡ with_places (with_axis t axis) places label (table_column c) → IsSettled table_value texts u
 rows_given _ t _ _ _ c u settled tuples names named given made = rw made (search (put_settled, rows_settled))
 
 -- the column of a Series, as that of a kernel

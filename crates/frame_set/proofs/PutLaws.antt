@@ -1,45 +1,74 @@
 -- Columns that are put into a frame.
-use Rattle.{
-  frame_parts.proofs.Common.{column_seen, map-map, length-map, length-set, length-append, All-map, All-push, nat_tests, ◌≡◌, ℕ, ◌<◌, List, [], ◌∷◌, ◌++◌, length, map, refl, arith, All, Option, Some, None, Result, Ok, ◌≢◌, IsSome, IfSome, slice_index_or, unwrap_or, ColumnOf, NumberedTable, Table, table_value, tuple_value, IsSettled, put_at, with_column, AreHeadings, IsWhole, Cell, Na, Label, Shape, Frame, Text, CellValue, LabelValue, label_datum, AreGiven, FaultValue, then_value, AxisValue, CellColumn, missing_column, HeadingList, HaveRows, table_with, Tables, with_object, labels_value, headings_value, columns_value, map-put_at, table_settled, columns_name_part, headings_part, columns_part, column_settled},
-  column_core.proofs.cells.Common.{set-get_or, all_pairs_push, IfNone},
-  frame_select.specs.select.Set.{put_result, with_rows},
-  frame_set.{specs.Assigned.{table_column, put_place, missing_cells, with_axis}, proofs.ColumnLaws.{map-replicate, length-replicate}},
-}
+use Rattle.{frame_parts.proofs.Common.{column_seen, map-map, length-map, length-set, length-append, All-head, All-tail, All-map, nat_tests, ◌≡◌, ◌∙◌, ap, ℕ, ◌<◌, List, [], ◌∷◌, ◌++◌, length, map, refl, sym, subst, arith, All, Some, None, Result, Ok, ◌≢◌, IsSome, fold, ColumnOf, NumberedTable, Table, table_value, tuple_value, IsSettled, put_at, with_column, IsWhole, Cell, Na, Label, Shape, Text, CellValue, LabelValue, label_datum, AreGiven, FaultValue, then_value, AxisValue, CellColumn, missing_column, HeadingList, HaveRows, table_with, Tables, with_object, labels_value, headings_value, columns_value, map-put_at, table_settled, columns_name_part, headings_part, columns_part, column_settled}, frame_store.specs.tables.Table.{TableOf}, frame_parts.specs.form.Select.{places_of_label}, multi_index.proofs.pick.InsideLaws.{rows_inside}, frame_select.specs.select.Set.{or_last, places_to_put, put_result, with_rows}, frame_set.{specs.Assigned.{count_after, table_column, put_places, missing_cells, with_axis, with_places}, proofs.ColumnLaws.{map-replicate, length-replicate}}}
+use Rattle.frame_parts.specs.form.Finish as finish
 
--- the headings that there are then
+-- a column in several places
 
-put_last : (headings : List (Option Label)) (place : ℕ) (label : Label) → place ≡ length headings → put_at headings place (Some label) ≡ headings ++ Some label ∷ []
-put_last = grind (arith, nat_tests)
+pub put_each : {L C : Type 0} (t : TableOf L C) (places : List ℕ) (label : L) (c : ColumnOf C)
+    → with_places t places label c ≡ record t { headings = fold (λ hs place. put_at hs place (Some label)) t.headings places; columns = fold (λ cs place. put_at cs place c) t.columns places }
+put_each t [] label c = refl
+put_each t (place ∷ places) label c = put_each (with_column t place (Some label) c) places label c
 
-pub put_headed : (t : NumberedTable) (label : Label) (columns place : ℕ) (found : Option ℕ) → IsWhole t → t.shape ≡ Frame → columns ≡ length t.columns → place ≡ unwrap_or found columns → IfSome found (λ p. p < length t.columns)
-    → IfSome found (λ p. slice_index_or t.headings p None ≡ Some label) → IfNone found (All (λ h. h ≢ Some label) t.headings) → AreHeadings t.shape t.columns_name (put_at t.headings place (Some label))
-put_headed t _ _ _ (Some p) whole frame count is inside met absent = grind (arith, nat_tests, set-get_or)
-put_headed t label _ place None whole frame count is inside met absent =
-    rw (put_last t.headings place label (search)) (record {
-      single = grind arith;
-      nameless = search;
-      labelled = λ e. All-push IsSome t.headings _ (whole.headings.labelled e) refl;
-      different = λ e. all_pairs_push (λ a b. a ≢ b) _ _ (whole.headings.different e) (λ k d lt. absent k d lt);
-    })
+pub labels_kept : {L C : Type 0} (t : TableOf L C) (places : List ℕ) (label : L) (c : ColumnOf C) → (with_places t places label c).labels ≡ t.labels
+labels_kept {L} {C} t places label c = ap (λ (u : TableOf L C). u.labels) (put_each t places label c)
 
-abbrev pub put_there : Table → LabelValue → ColumnOf CellValue → ℕ → Result Table FaultValue
-put_there t l c place = Ok (with_column t place (Some l) c)
+-- those that are there stay as many
+pub count_put : {X : Type 0} (xs : List X) (x : X) (places : List ℕ) → All (λ place. place < length xs) places → length (fold (λ ys place. put_at ys place x) xs places) ≡ length xs
+count_put xs x [] below = refl
+count_put xs x (place ∷ places) below =
+    let same : length (put_at xs place x) ≡ length xs = grind (arith, nat_tests, length-set, All-head (λ p. p < length xs) place places below) in
+    let later : All (λ p. p < length (put_at xs place x)) places = subst (λ n. All (λ p. p < n) places) (sym same) (All-tail (λ p. p < length xs) place places below) in
+    count_put (put_at xs place x) x places later ∙ same
 
-pub put_by : (t : Table) (l : LabelValue) (c : ColumnOf CellValue) → length t.headings ≡ length t.columns → put_result t l c ≡ then_value (put_place (length t.labels) t.headings l) (put_there t l c)
-put_by = grind (arith, length-set, length-append)
+count_put_or_last : {X : Type 0} (xs : List X) (x : X) (found : List ℕ) → All (λ place. place < length xs) found → length (fold (λ ys place. put_at ys place x) xs (or_last (length xs) found)) ≡ count_after (length xs) (length found)
+count_put_or_last xs x [] below = grind (arith, nat_tests, length-append)
+count_put_or_last xs x (place ∷ places) below = grind (arith, nat_tests, count_put xs x (place ∷ places) below)
+
+module _ (t : Table) (l : LabelValue) (c : ColumnOf CellValue) (headed : length t.headings ≡ length t.columns) where
+  abbrev found : List ℕ
+  found = places_of_label t.headings l
+
+  columns_after_put : length (with_places t (places_to_put t l) l c).columns ≡ count_after (length t.headings) (length found)
+  columns_after_put =
+      let below : All (λ place. place < length t.columns) found = subst (λ n. All (λ place. place < n) found) headed (rows_inside (finish.same_heading (Some l)) t.headings) in
+      ap (λ (u : Table). length u.columns) (put_each t (places_to_put t l) l c)
+      ∙ ap (λ n. length (fold (λ cs place. put_at cs place c) t.columns (or_last n found))) headed
+      ∙ count_put_or_last t.columns c found below
+      ∙ ap (λ n. count_after n (length found)) (sym headed)
+
+abbrev pub put_there : Table → LabelValue → ColumnOf CellValue → List ℕ → Result Table FaultValue
+put_there t l c places = Ok (with_places t places l c)
+
+pub put_by : (t : Table) (l : LabelValue) (c : ColumnOf CellValue) → length t.headings ≡ length t.columns → put_result t l c ≡ then_value (put_places (length t.labels) t l) (put_there t l c)
+put_by t l c headed = grind (arith, columns_after_put t l c headed, put_each t (places_to_put t l) l c)
 
 pub put_seen : (texts : List Text) (t : NumberedTable) (label : Label) (c : ColumnOf CellValue) (rows : ℕ) → IsWhole t → rows ≡ length t.labels
-    → put_result (table_value texts t) (label_datum texts label) c ≡ then_value (put_place rows (headings_value texts t.headings) (label_datum texts label)) (put_there (table_value texts t) (label_datum texts label) c)
+    → put_result (table_value texts t) (label_datum texts label) c ≡ then_value (put_places rows (table_value texts t) (label_datum texts label)) (put_there (table_value texts t) (label_datum texts label) c)
 put_seen texts t label c _ whole is = cc (put_by (table_value texts t) (label_datum texts label) c (search length-map), length-map t.labels (tuple_value texts))
 
-pub put_meant : (texts : List Text) (t : NumberedTable) (place rows : ℕ) (label : Label) (c : CellColumn) (u : NumberedTable) → IsWhole t → rows ≡ length t.labels → put_place rows (headings_value texts t.headings) (label_datum texts label) ≡ Ok place
-    → u ≡ with_column t place (Some label) (table_column c) → put_result (table_value texts t) (label_datum texts label) (column_seen texts c) ≡ Ok (table_value texts u)
-put_meant = grind (arith, put_seen, map-put_at)
+one_seen : (texts : List Text) (t : NumberedTable) (place : ℕ) (label : Label) (c : CellColumn)
+    → with_column (table_value texts t) place (Some (label_datum texts label)) (column_seen texts c) ≡ table_value texts (with_column t place (Some label) (table_column c))
+one_seen = search map-put_at
 
-pub put_settled : (texts : List Text) (t : NumberedTable) (place : ℕ) (label : Label) (c : ColumnOf Cell) → IsSettled table_value texts t → IsSettled label_datum texts label → AreGiven texts c.cells → IsSettled table_value texts (with_column t place (Some label) c)
-put_settled texts t place _ c settled named given more =
+pub places_seen : (texts : List Text) (t : NumberedTable) (places : List ℕ) (label : Label) (c : CellColumn)
+    → with_places (table_value texts t) places (label_datum texts label) (column_seen texts c) ≡ table_value texts (with_places t places label (table_column c))
+places_seen texts t [] label c = refl
+places_seen texts t (place ∷ places) label c =
+    ap (λ (u : Table). with_places u places (label_datum texts label) (column_seen texts c)) (one_seen texts t place label c)
+    ∙ places_seen texts (with_column t place (Some label) (table_column c)) places label c
+
+pub put_meant : (texts : List Text) (t : NumberedTable) (places : List ℕ) (rows : ℕ) (label : Label) (c : CellColumn) (u : NumberedTable) → IsWhole t → rows ≡ length t.labels → put_places rows (table_value texts t) (label_datum texts label) ≡ Ok places
+    → u ≡ with_places t places label (table_column c) → put_result (table_value texts t) (label_datum texts label) (column_seen texts c) ≡ Ok (table_value texts u)
+put_meant texts t places rows label c u whole count placed is = grind (arith, put_seen texts t label (column_seen texts c) rows whole count, places_seen texts t places label c)
+
+one_settled : (texts : List Text) (t : NumberedTable) (place : ℕ) (label : Label) (c : ColumnOf Cell) → IsSettled table_value texts t → IsSettled label_datum texts label → AreGiven texts c.cells → IsSettled table_value texts (with_column t place (Some label) c)
+one_settled texts t place _ c settled named given more =
     let part : columns_value (texts ++ more) (put_at t.columns place c) ≡ columns_value texts (put_at t.columns place c) = search (map-put_at, columns_part, column_settled) in
     grind (arith, map-put_at, settled more, named more)
+
+pub put_settled : (texts : List Text) (t : NumberedTable) (places : List ℕ) (label : Label) (c : ColumnOf Cell) → IsSettled table_value texts t → IsSettled label_datum texts label → AreGiven texts c.cells → IsSettled table_value texts (with_places t places label c)
+put_settled texts t [] label c settled named given = settled
+put_settled texts t (place ∷ places) label c settled named given = put_settled texts (with_column t place (Some label) c) places label c (one_settled texts t place label c settled named given) named given
 
 -- a frame with rows of missing cells
 missing_seen : (texts : List Text) (n : ℕ) (columns : List (ColumnOf Cell)) → columns_value texts (map (missing_cells n) columns) ≡ map (λ c. missing_column c.kind n) columns

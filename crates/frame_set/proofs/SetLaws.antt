@@ -1,11 +1,5 @@
 -- What settings make of the table of an object.
-use Rattle.{
-  column_core.proofs.cells.Common.{cond_both, all_pairs_remove, option_map},
-  frame_parts.proofs.Common.{nat_tests, ◌≡◌, ℕ, ◌+◌, ◌<◌, ◌≤◌, List, ◌++◌, length, refl, subst, arith, nat_eq, Option, Some, None, Result, Ok, Err, ◌≢◌, IsSome, Frame, Cell, Label, Code, Text, datum, label_datum, cell_label, FaultValue, then_value, fault_of, loc, IsSettled, NumberedTable, Table, table_value, AreHeadings, IsWhole, Given, GivenSub, selected_column, MakesBy, Value, Object, Scalar, Subscript, ObjId, OpFault, Refused, NoMemory, Tables, with_object, table_at, table_or, entry_of, subscript_of, shown, Holding, World, SetsFor, Holds, cost_of, free, table, map-remove, longer_self, settled_by, settled_with, object_settled},
-  frame_store.{specs.{tables.Change.{without_column}, Objects.{LieStill}}, proofs.{ColumnLaws.{All-remove}, Settling.{shown_with}}},
-  frame_select.specs.{charge.Charge.{setting_charge, touched_in}, select.{Set.{removal_result, added_label, assign_result, table_set}, Select.{Way}}},
-  frame_set.{specs.{declared.changes.Setting.{Setting}, Assigned.{without}, Changes.{cells_after, columns_after, ended, table_after, IsSettingOf, RefusesBy, SetsBy}}, proofs.CostLaws.{setting_within, still_without}},
-}
+use Rattle.{column_core.proofs.cells.Common.{cond_both, option_map}, frame_parts.proofs.Common.{nat_tests, ◌≡◌, ℕ, ◌+◌, ◌≤◌, List, ◌++◌, refl, subst, arith, nat_eq, Option, Some, None, Result, Ok, Err, Cell, Label, Code, Text, datum, label_datum, cell_label, FaultValue, then_value, fault_of, loc, IsSettled, NumberedTable, Table, table_value, Given, GivenSub, MakesBy, Value, Object, Scalar, Subscript, ObjId, OpFault, Refused, NoMemory, Tables, with_object, table_at, table_or, entry_of, subscript_of, shown, Holding, World, SetsFor, Holds, cost_of, table, longer_self, settled_with}, frame_store.{specs.Objects.{LieStill}, proofs.Settling.{shown_with}}, frame_select.specs.{charge.Charge.{setting_charge, touched_in}, select.{Set.{added_label, assign_result, table_set}, Select.{Way}}}, frame_set.{specs.{declared.changes.Setting.{Setting}, Assigned.{without}, Changes.{cells_after, columns_after, ended, table_after, IsSettingOf, RefusesBy, SetsBy}}, proofs.CostLaws.{setting_within, still_without}}}
 
 -- an object has got another table
 
@@ -30,28 +24,6 @@ set_left texts _ _ _ _ _ on meant settled same held still = (
 pub part_refused : {X Y : Type 0} (view : List Text → X → Y) (texts : List Text) (meant : Result Y FaultValue) (go : Y → Result Table FaultValue) (fault : OpFault) → MakesBy view texts (Err fault) meant
     → RefusesBy texts fault (then_value meant go)
 part_refused = grind arith
-
--- a column is removed
-pub removed_is : (texts : List Text) (t : NumberedTable) (place : ℕ) → without_column (table_value texts t) place ≡ table_value texts (without_column t place)
-removed_is = search map-remove
-
-pub removed_settled : (texts : List Text) (t : NumberedTable) (place : ℕ) → IsSettled table_value texts t → IsSettled table_value texts (without_column t place)
-removed_settled _ t place settled = settled_by table_value table_value (λ v. without_column v place) _ t _ (λ ts. removed_is ts t _) settled
-
-pub removed_headed : (t : NumberedTable) (place : ℕ) → IsWhole t → t.shape ≡ Frame → place < length t.columns → AreHeadings t.shape t.columns_name (without_column t place).headings
-removed_headed t _ whole frame inside = record {
-  single = grind arith;
-  nameless = search;
-  labelled = λ e. All-remove IsSome _ _ (whole.headings.labelled e);
-  different = λ e. all_pairs_remove (λ a b. a ≢ b) _ _ (omega (arith, whole.headed, inside)) (whole.headings.different e);
-}
-
-pub removal_set : (texts : List Text) (tables tables' : Tables) (holding holding' : Holding) (on v : Value) (id : ObjId) (c : Cell) (t : NumberedTable) (l : Label) (place : ℕ) → on ≡ Object id → v ≡ Scalar c → tables id.0 ≡ Some t → t.shape ≡ Frame
-    → label_datum texts l ≡ cell_label (datum texts c) → IsSettled shown texts tables → selected_column (table_value texts t) (label_datum texts l) ≡ Ok place → tables' ≡ with_object tables id.0 (Some (without_column (table_at tables id.0) place))
-    → holding'.cells ≤ holding.cells + 0 → LieStill (Some id.0) tables tables' holding.blocks holding'.blocks
-    → SetsFor free (Ok tt) on (removal_result (entry_of tables texts on) (entry_of tables texts v)) (in_world texts tables holding) (in_world texts tables' holding')
-removal_set texts _ _ _ _ _ v id c t l place on_is v_is there frame seen settled placed put held still =
-    rw (on_is, v_is) (set_made _ _ _ _ _ free id _ _ settled (removed_settled texts t place (search object_settled)) (grind arith) (grind (arith, removed_is)) record { cells = omega arith; blocks = still })
 
 -- the label that a settled scalar is
 

@@ -26,6 +26,7 @@ sets_picked selector.Iat t columns change sets = sets
 pub leaves_beside : (old mid new : Store) (on : ObjId) (change : Change) → LieStill None (tables mid) (tables new) (blocks_on mid) (blocks_on new) → IsSome (tables mid on.0) → IsSome (tables new on.0) → LeavesBlocks old mid on change → LeavesBlocks old new on change
 leaves_beside old mid new on (change.Cells rows columns values) still live left leaves = λ alone. still on.0 live left (λ none. cc) ∙ leaves alone
 leaves_beside old mid new on (change.Column place label block) still live left leaves = tt
+leaves_beside old mid new on (change.Columns places label block) still live left leaves = tt
 leaves_beside old mid new on (change.Table made) still live left leaves = tt
 
 -- a setting that adds no row and no column is one of cells
@@ -48,6 +49,7 @@ module _ (texts : List Text) (old new : Store) (id : ObjId) (t : NumberedTable) 
       let now = left_is ends (with_column (table_on old id) place (Some label) (block_column block)) put in
       let longer = column_longer t place (Some label) (block_column block) sets in
       absurd (grind (arith, now, was, longer, size.1))
+  change_kept ends by (change.Columns places label block) put fits sets leaves = absurd sets
   change_kept ends by (change.Table made) put fits sets leaves = λ size alone.
       let now = left_is ends made put in
       absurd (grind (arith, now, was, fits, size.0))

@@ -1,13 +1,5 @@
 -- What a setting reaches: keys whose label isn't there.
-use Rattle.{
-  frame_parts.proofs.Common.{◌≡◌, ◌∙◌, ℕ, ◌+◌, pos, false, List, [], ◌∷◌, ◌++◌, length, map, refl, arith, All, Option, Some, None, Result, Err, nat_tests, length-map, All-tail, All-map, ◌≢◌, unwrap_or, IfOk, list_any, Label, Frame, NoKey, Text, LabelValue, int, label_datum, Accessor, loc, FaultValue, HaveLevels, NumberedTable, Table, table_value, tuple_value, heading_value, GivenSub, one, cell, IsSettled, same_label, column_labels, same_tuple, labels_value, headings_value, OpFault, Refused, Subscript, subscript_of, Tables, MakesBy, value_decides},
-  column_core.{proofs.cells.Common.{option_map}, specs.cells.Symbol.{at}},
-  frame_store.specs.tables.Value.{key_given},
-  label_align.specs.pick.{Keys.{Pick, one_key}, Leading.{leads}, Rows.{rows_where, are_some}},
-  frame_select.specs.{select.{Keys.{rows_by, columns_by, found_labels}, Set.{added_label, row_to_add, or_added}}, Reaches.{pick_value}},
-  indexers.specs.declared.keys.Picked.{Picked as CodePicked},
-  frame_set.specs.{declared.targets.Reached.{Reached as CodeReached}, Values.{reached_value, target_value, IsFreshIn, TellsAbsence}},
-}
+use Rattle.{frame_parts.proofs.Common.{◌≡◌, ◌∙◌, ℕ, ◌+◌, pos, List, [], ◌∷◌, ◌++◌, length, refl, arith, All, Option, Some, None, Result, Ok, Err, nat_tests, length-map, All-tail, All-map, unwrap_or, list_any, Label, NoKey, Text, LabelValue, int, label_datum, Accessor, loc, FaultValue, cell_label, then_value, HaveLevels, NumberedTable, Table, table_value, tuple_value, heading_value, GivenSub, one, cell, IsSettled, same_label, column_labels, same_tuple, labels_value, OpFault, Refused, Subscript, subscript_of, Tables, MakesBy}, column_core.{proofs.cells.Common.{option_map}, specs.cells.Symbol.{at}}, frame_store.specs.tables.Value.{key_given}, label_align.specs.pick.{Keys.{Pick, one_key}, Leading.{leads}, Rows.{rows_where, are_some}}, frame_select.specs.{select.{Keys.{rows_by, columns_by, found_labels, once}, Set.{added_label, row_to_add, or_added}}, Reaches.{pick_value}}, indexers.specs.declared.keys.Picked.{Picked as CodePicked}, frame_set.specs.{declared.targets.Reached.{Reached as CodeReached}, Values.{is_no_key, reached_value, target_value, TellsAbsence}}}
 
 -- a row of one level is found where its label stands
 there : (l : LabelValue) (first : ℕ) (tuples : List (List LabelValue)) → All (λ tuple. length tuple ≡ 1) tuples → are_some (rows_where (leads same_label (l ∷ [])) first tuples) ≡ list_any (same_tuple (l ∷ [])) tuples
@@ -31,9 +23,14 @@ added_tells loc t (key_given (one (cell c))) levels single = search label_tells
 added_tells at t (key_given (one (cell c))) levels single = grind (arith, there)
 added_tells _ t k _ _ = tt
 
+once_tells : (key : List LabelValue) (pick : Result Pick FaultValue) → is_no_key (then_value pick (once key)) ≡ is_no_key pick
+once_tells key (Ok p) = grind arith
+once_tells key (Err fault) = refl
+
 pub columns_tell : (by : Accessor) (t : Table) (k : GivenSub) → TellsAbsence (added_label by k) (column_labels t) (columns_by by t k)
 columns_tell loc t (key_given (one (cell c))) = search (label_tells, single_labels)
-columns_tell at t (key_given (one (cell c))) = search (label_tells, single_labels)
+columns_tell at t (key_given (one (cell c))) =
+    once_tells (cell_label c ∷ []) (found_labels 1 (column_labels t) (one_key (cell_label c ∷ []))) ∙ label_tells 1 (cell_label c) (column_labels t) (single_labels t)
 columns_tell _ t k = tt
 
 -- rows, of which one is added on one level alone
@@ -44,17 +41,6 @@ rows_tell texts by t k = grind (arith, nat_tests, added_tells by (table_value te
 pub as_nothing : (texts : List Text) (label : Option Label) (rows : Result CodePicked OpFault) (key : List Label) (tuples : List (List LabelValue)) (pick : Result Pick FaultValue) → label ≡ None → rows ≡ Err (Refused (NoKey key))
     → MakesBy pick_value texts rows pick → MakesBy reached_value texts (Err (Refused (NoKey key))) (or_added (option_map (label_datum texts) label) tuples pick)
 as_nothing = grind arith
-
--- a label that is added stands in no column
-
-absent_headings : (texts : List Text) (headings : List (Option Label)) (label : Label) → list_any (same_tuple (label_datum texts label ∷ [])) (map (λ h. unwrap_or h (int (pos 0)) ∷ []) (headings_value texts headings)) ≡ false
-    → All (λ heading. heading ≢ Some label) headings
-absent_headings _ [] _ = grind arith
-absent_headings texts (h ∷ hs) label = grind (arith, value_decides, absent_headings texts hs label)
-
-pub fresh_reached : (texts : List Text) (t : NumberedTable) (o : Option LabelValue) (pick : Result Pick FaultValue) (r : Result CodeReached OpFault) → t.shape ≡ Frame → MakesBy reached_value texts r (or_added o (column_labels (table_value texts t)) pick)
-    → IfOk r (λ reached. IsFreshIn t reached.added)
-fresh_reached = grind (arith, absent_headings)
 
 -- texts of what is reached were given
 pub added_settled : (texts : List Text) (label : Option Label) (l : Label) (count : ℕ) (r : CodeReached) → label ≡ Some l → r ≡ record { places = count ∷ []; added = Some l } → IsSettled heading_value texts label → IsSettled reached_value texts r

@@ -1,5 +1,5 @@
 -- What settings are made of.
-use Rattle.std.specs.Prelude.{◌≢◌, ℕ, ◌+◌, List, map, length, nat_lt, replicate, unwrap_or, Option, Some, None, Result, Ok, Err, ⊤, if◌then◌else◌}
+use Rattle.std.specs.Prelude.{◌≢◌, ℕ, ◌+◌, nat_eq, List, map, fold, length, replicate, Option, Some, None, Result, Ok, Err, ⊤, if◌then◌else◌}
 use Rattle.cell_core.specs.declared.cell.Cell.{Cell}
 use Rattle.cell_core.specs.declared.cell.Cell.TheVariants.{Na}
 use Rattle.column_core.specs.cells.Text.{Text}
@@ -7,10 +7,12 @@ use Rattle.column_core.specs.cells.Cell.{LabelValue}
 use Rattle.column_core.specs.cells.Fault.{FaultValue, limit}
 use Rattle.multi_index.specs.Axes.{AxisValue}
 use Rattle.column_core.specs.Columns.{CellColumn}
-use Rattle.frame_store.specs.tables.Table.{ColumnOf, NumberedTable}
+use Rattle.frame_store.specs.tables.Table.{ColumnOf, NumberedTable, Table, TableOf}
+use Rattle.frame_store.specs.tables.Change.{with_column}
 use Rattle.frame_store.specs.tables.Value.{Given, one, table}
 use Rattle.frame_parts.specs.form.Finish.{within_limits}
-use Rattle.frame_parts.specs.form.Select.{place_of_label}
+use Rattle.frame_parts.specs.form.Select.{places_of_label}
+use Rattle.frame_select.specs.select.Set.{places_to_put}
 use Rattle.frame_store.specs.Objects.{Tables}
 use Rattle.frame_store.specs.Arguments.{object_value, argument_of, IsLiveObject, IsLiveArgument}
 use Rattle.frame_store.specs.Shown.{spent}
@@ -56,16 +58,18 @@ without r spare w = record w { tables = spent r spare w.tables }
 abbrev pub table_column : CellColumn → ColumnOf Cell
 table_column c = record { kind = c.kind; cells = c.cells }
 
--- how many columns there are after one was put at a place
+-- how many columns there are after one was put in place of so many of them, or last
 abbrev pub count_after : ℕ → ℕ → ℕ
-count_after columns place = if nat_lt place columns then columns else columns + 1
+count_after columns replaced = if nat_eq replaced 0 then columns + 1 else columns
 
--- the place at which a column of the label is put, of a table that isn't beyond the limits
-abbrev pub put_place : ℕ → List (Option LabelValue) → LabelValue → Result ℕ FaultValue
-put_place rows headings l =
-    if within_limits rows (count_after (length headings) (unwrap_or (place_of_label headings l) (length headings)))
-    then Ok (unwrap_or (place_of_label headings l) (length headings))
-    else Err limit
+-- the places in which a column of the label is put, of a table that isn't beyond the limits with so many rows
+abbrev pub put_places : ℕ → Table → LabelValue → Result (List ℕ) FaultValue
+put_places rows t l =
+    if within_limits rows (count_after (length t.headings) (length (places_of_label t.headings l))) then Ok (places_to_put t l) else Err limit
+
+-- the table with the column in each of these places, under the label
+abbrev pub with_places : {L C : Type 0} → TableOf L C → List ℕ → L → ColumnOf C → TableOf L C
+with_places t places label column = fold (λ u place. with_column u place (Some label) column) t places
 
 -- the columns of missing cells, and the table of them with the rows of an axis
 abbrev pub missing_cells : ℕ → ColumnOf Cell → ColumnOf Cell

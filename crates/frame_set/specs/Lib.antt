@@ -1,5 +1,6 @@
 pub mod Assigned
 pub mod Values
+pub mod Places
 pub mod Fits
 pub mod Changes
 pub mod Grown

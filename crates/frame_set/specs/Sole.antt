@@ -54,6 +54,7 @@ KeepsSoleBlocks old new texts (Scalar c) way second = Unit {0}
 abbrev pub SetsColumns : NumberedTable → List ℕ → Change → Type 0
 SetsColumns t picked (change.Cells rows columns values) = columns ≡ picked
 SetsColumns t picked (change.Column place label block) = place ≡ length t.columns
+SetsColumns t picked (change.Columns places label block) = ⊥
 SetsColumns t picked (change.Table made) = Unit {0}
 
 abbrev pub SetsPicked : Way → NumberedTable → List ℕ → Setting → Type 0
@@ -65,6 +66,7 @@ SetsPicked (through by) t picked (setting.Move place label series) = ⊥
 abbrev pub LeavesBlocks : Store → Store → ObjId → Change → Type 0
 LeavesBlocks old new on (change.Cells rows columns values) = AreSoleIn old on columns → blocks_on new on.0 ≡ blocks_on old on.0
 LeavesBlocks old new on (change.Column place label block) = Unit {0}
+LeavesBlocks old new on (change.Columns places label block) = Unit {0}
 LeavesBlocks old new on (change.Table made) = Unit {0}
 
 abbrev pub LeavesBlocksAfter : Store → Store → ObjId → Setting → Type 0

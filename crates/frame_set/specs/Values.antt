@@ -1,5 +1,5 @@
 -- Values of settings and what they reach, as they are meant.
-use Rattle.std.specs.Prelude.{◌≡◌, ◌≢◌, ℕ, ◌<◌, ◌+◌, ◌*◌, ◌∷◌, [], nat_lt, slice_get, slice_index, Bool, true, false, not, List, length, Option, Some, None, option_map, Result, Ok, Err, All, IfSome, IsOk, ⊤, if◌then◌else◌}
+use Rattle.std.specs.Prelude.{◌≡◌, ℕ, ◌<◌, ◌+◌, ◌*◌, ◌∷◌, [], nat_lt, slice_get, slice_index, Bool, true, false, not, List, length, Option, Some, None, option_map, Result, Ok, Err, All, IfSome, IsOk, ⊤, if◌then◌else◌}
 use Rattle.cell_core.specs.declared.cell.Kind.{Kind}
 use Rattle.cell_core.specs.declared.cell.Kind.TheVariants.{Int64}
 use Rattle.cell_core.specs.declared.code.Code.{Code}
@@ -68,10 +68,9 @@ ArePlacesOf count places (Some label) = places ≡ count ∷ []
 abbrev pub IsReachedOf : ℕ → Reached → Type 0
 IsReachedOf count reached = ArePlacesOf count reached.places reached.added
 
--- a label that is added is that of no column of a frame
-abbrev pub IsFreshIn : NumberedTable → Option Label → Type 0
-IsFreshIn t None = Unit {0}
-IsFreshIn t (Some label) = (t.shape ≡ Frame) × All (λ heading. heading ≢ Some label) t.headings
+-- a column is added to a frame
+abbrev pub AddsToFrame : NumberedTable → Option Label → Type 0
+AddsToFrame t added = IfSome added (λ label. t.shape ≡ Frame)
 
 -- a row is added on one level alone
 abbrev pub AddsOnOne : NumberedTable → Reached → Type 0
@@ -81,7 +80,7 @@ pub record IsTargetOf (t : NumberedTable) (target : Target) : Type 0 where
   pub rows : IsReachedOf (length t.labels) target.rows
   pub one : AddsOnOne t target.rows
   pub columns : IsReachedOf (length t.columns) target.columns
-  pub fresh : IsFreshIn t target.columns.added
+  pub frame : AddsToFrame t target.columns.added
 
 -- a test that passes where something is made, and else refuses with its fault, whatever the texts are
 abbrev pub Tests : {A : Type 0} → Result ⊤ OpFault → Result A FaultValue → Type 0

@@ -119,7 +119,7 @@ fn access_change(
     cells_change(alloc, store, dict, on, by, target, value)
 }
 
-// A whole column of a frame, whose label is the key. That of a Series that ends may move.
+// The whole columns of a frame whose label is the key, or a new one. That of a Series that ends may move.
 fn frame_setting(
     alloc: Global,
     store: &Store,
@@ -140,7 +140,7 @@ fn frame_setting(
     ensures fits { IfOk result
         (IsSettingOf (tables store.now) (moved_object value.entry) on.now) }
     ensures touched { IfOk result (λ setting. columns_after setting ≤ touched_item
-        (subscript_in (world store.now dict.now) key.now) None) }
+        (table_value dict.now on.now) (subscript_in (world store.now dict.now) key.now) None) }
 {
     let Some(label) = label_to_add(Selector::Loc, key) else {
         return Err(wrong_kind());
@@ -204,8 +204,8 @@ fn setting_for(
 /// [`Moved`](NewValue::Moved) ends with the setting. A setting by `loc`, `iloc`, `at` or `iat` that
 /// adds no row or column writes in place where the picked columns share no block.
 ///
-/// Brackets on a frame make or replace a whole column: a scalar in each row, a list by rows, a
-/// Series aligned to the rows. A frame without rows gets those of the Series, or the labels 0, 1
+/// Brackets on a frame replace all columns of a label, or make one: a scalar in each row, a list by
+/// rows, a Series aligned to the rows. A frame without rows gets those of the Series, or the labels 0, 1
 /// and so on for a list; its other columns are missing there. Else the cells that the keys pick are
 /// set, as a selection would pick them: a scalar in each, a list by rows in one column or by
 /// columns in one row, a Series by position in `iloc` and `iat` and aligned to the labels of the
@@ -271,6 +271,6 @@ pub fn assign(
         second,
         value,
     )?;
-    carry_out(store, id, setting, moved_object(value))?;
+    carry_out(alloc, store, id, setting, moved_object(value))?;
     Ok(())
 }

@@ -6,11 +6,13 @@ ghost use Rattle.frame_store.specs.Stores.{charged};
 ghost use Rattle.frame_set.specs.Changes.{changed, cells_changed, table_after, cells_after, ended, IsChangeOf, IsSettingOf, MayEnd};
 ghost use Rattle.frame_set.specs.Sole.{LeavesBlocks, LeavesBlocksAfter};
 
+use crate::sharing::put_in_places;
 use cell_core::{Cells, Label, NoMemory, Places};
 use column_core::Block;
 use frame_store::{ObjId, Store, Table};
+use std::alloc::Global;
 
-/// What a setting changes. Each was tested, and all memory for it but the store's own was taken.
+/// What a setting changes. Each was tested, and the memory for its cells was taken.
 #[derive(Drop)]
 pub(crate) enum Change {
     /// Cells: a value for each of these rows and columns, row by row.
@@ -22,6 +24,12 @@ pub(crate) enum Change {
     /// A whole column under a label, in place of another one or last.
     Column {
         place: usize,
+        label: Label,
+        block: Block,
+    },
+    /// A column in place of several that have its label. They share its cells then.
+    Columns {
+        places: Places,
         label: Label,
         block: Block,
     },
@@ -43,7 +51,7 @@ pub(crate) enum Setting {
 }
 
 // Carries a change out. `NoMemory` leaves all objects as they were.
-fn carry_change(store: &mut Store, on: ObjId, change: Change) -> Result<(), NoMemory>
+fn carry_change(alloc: Global, store: &mut Store, on: ObjId, change: Change) -> Result<(), NoMemory>
     requires live { IsSome (tables store.old on.0) }
     requires whole { IsWhole (table_at (tables store.old) on.0) }
     requires change { IsChangeOf (table_at (tables store.old) on.0) change }
@@ -65,6 +73,11 @@ fn carry_change(store: &mut Store, on: ObjId, change: Change) -> Result<(), NoMe
             label,
             block,
         } => store.put_column(on, place, Some(label), block),
+        Change::Columns {
+            places,
+            label,
+            block,
+        } => put_in_places(alloc, store, on, &places, label, block),
         Change::Table(table) => {
             let grown = store.insert(table)?;
             store.replace(on, grown);
@@ -88,6 +101,7 @@ fn end(store: &mut Store, ends: Option<ObjId>)
 /// Carries a setting out, with which an object ends, if there is one. `NoMemory` leaves all
 /// objects as they were.
 pub(crate) fn carry_out(
+    alloc: Global,
     store: &mut Store,
     on: ObjId,
     setting: Setting,
@@ -108,7 +122,7 @@ pub(crate) fn carry_out(
 {
     match setting {
         Setting::Change(change) => {
-            carry_change(store, on, change)?;
+            carry_change(alloc, store, on, change)?;
             end(store, ends);
             Ok(())
         }

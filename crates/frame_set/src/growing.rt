@@ -5,7 +5,7 @@ ghost use Rattle.frame_store.specs.Parts.{labelled, IsSingle, IsHeld, block_colu
 ghost use Rattle.frame_select.specs.Reaches.{CanSelect};
 ghost use Rattle.frame_select.specs.charge.Charge.{different_count};
 ghost use Rattle.frame_store.specs.tables.Valid.{IsWhole};
-ghost use Rattle.frame_set.specs.Values.{cells_reached, IsTargetOf, IsFreshIn};
+ghost use Rattle.frame_set.specs.Values.{cells_reached, AddsToFrame, IsTargetOf};
 ghost use Rattle.frame_set.specs.Changes.{changed, columns_changed, IsChangeOf};
 ghost use Rattle.frame_set.specs.Sole.{SetsColumns};
 ghost use Rattle.frame_set.specs.Grown.{axis_with, columns_with_gap, with_row, new_column, column_added, grown_table};
@@ -95,7 +95,6 @@ fn new_column(
 }
 
 // The table with one more column of NA, where a label is added for it.
-#[tactic(auto, using(crate::proofs::GrowLaws::fresh_headed))]
 fn with_gap_column(
     alloc: Global,
     table: Table,
@@ -107,7 +106,7 @@ fn with_gap_column(
     requires whole { IsWhole table }
     requires rows { rows ≡ length table.labels }
     requires columns { columns ≡ length table.columns }
-    requires fresh { IsFreshIn table label }
+    requires frame { AddsToFrame table label }
     ensures { IfOk result (λ made. made ≡ column_added table label kind) }
 {
     let mut grown = table;

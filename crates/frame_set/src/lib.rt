@@ -5,7 +5,8 @@
 //! [`NewValue::Moved`] ends with the setting. A setting is read into one change (`changes`),
 //! which is tested whole before the first cell: the form of the value (`values`), the places that
 //! the keys reach (`targets`), and the cells for them (`filling`) or a whole column (`putting`), of
-//! which those of a Series are aligned to the rows (`aligning`).
+//! which those of a Series are aligned to the rows (`aligning`). Several columns of one label share what they are set to
+//! (`sharing`).
 //! A table that grows is made anew and takes the old one's place at the end, so that a refusal
 //! leaves all as it was and ends no object. [`values_fit_columns`] says which values fit, and
 //! [`touched`] how many columns a setting touches.
@@ -28,6 +29,7 @@ mod growing;
 mod laws;
 mod putting;
 mod removing;
+mod sharing;
 mod targets;
 mod touching;
 mod values;

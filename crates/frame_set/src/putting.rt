@@ -1,5 +1,5 @@
 // Whole columns that are put into a frame.
-ghost use Rattle.std.specs.Prelude.{◌≡◌, ◌<◌, ◌≤◌, ◌∷◌, [], length, Some, IfOk};
+ghost use Rattle.std.specs.Prelude.{◌≡◌, ◌<◌, ◌≤◌, length, Some, IfOk};
 ghost use Rattle.cell_core.specs.declared.grid.Shape.TheVariants.{Frame, Series};
 ghost use Rattle.column_core.specs.cells.Cell.{AreGiven, label_datum};
 ghost use Rattle.frame_store.specs.tables.Settled.{IsSettled};
@@ -10,66 +10,76 @@ ghost use Rattle.frame_select.specs.select.Set as meant;
 ghost use Rattle.frame_parts.specs.Makes.{column_seen, MakesBy};
 ghost use Rattle.frame_store.specs.Objects.{tables};
 ghost use Rattle.frame_store.specs.Arguments.{object_value, shape_at, IsLiveObject};
-ghost use Rattle.frame_store.specs.Shown.{headings_value};
 ghost use Rattle.frame_store.specs.World.{world, IsKnownTable, IsSettledWorld};
-ghost use Rattle.frame_select.specs.Selected.{as_it_is};
-ghost use Rattle.frame_store.specs.tables.Change.{with_column};
 ghost use Rattle.frame_set.specs.Aligned.{aligned_set};
-ghost use Rattle.frame_set.specs.Assigned.{table_column, count_after, put_place as place_for, with_axis};
+ghost use Rattle.frame_set.specs.Assigned.{table_column, count_after, put_places, with_axis, with_places};
+ghost use Rattle.frame_set.specs.Places.{places_at, places_of, IsSpotIn};
 ghost use Rattle.frame_set.specs.Values.{value_in, IsLiveSetValue};
-ghost use Rattle.frame_set.specs.Changes.{changed, columns_changed, columns_after, ChangesBy, SetsBy, IsChangeOf, IsSettingOf, MayHead};
+ghost use Rattle.frame_set.specs.Changes.{changed, columns_changed, columns_after, ChangesBy, SetsBy, IsChangeOf, IsSettingOf};
 
 use crate::aligning::aligned_column;
 use crate::changes::{Change, Setting};
 use crate::columns::{missing_columns, scalar_column};
 use crate::filling::wrong_length;
 use crate::values::SetValue;
-use cell_core::{Code, Grid, Label, NoMemory, TextDict};
+use cell_core::{Code, Grid, Label, NoMemory, Places, TextDict};
 use column_core::Column;
 use frame_parts::{list_column, same_rows, within_limits};
-use frame_select::place_of_label;
+use frame_select::places_of_label;
 use frame_store::{ObjId, ObjRef, OpFault, Store, Table, headings_of};
 use multi_index::Axis;
 use std::alloc::Global;
 
-// Whether a table of so many rows and columns may have a column put at a place.
-fn has_room(rows: usize, columns: usize, place: usize) -> bool
-    ensures { result ≡ finish.within_limits rows (count_after columns place) }
+/// Where a column is put.
+#[derive(Drop)]
+enum Spot {
+    /// In place of one column, or behind the last.
+    One(usize),
+    /// In place of each of several columns.
+    Several(Places),
+}
+
+// Whether a table of so many rows and columns may have a column put in place of so many of them, or last.
+fn has_room(rows: usize, columns: usize, replaced: usize) -> bool
+    ensures { result ≡ finish.within_limits rows (count_after columns replaced) }
 {
-    if place < columns {
-        within_limits(rows, columns)
-    } else {
+    if replaced == 0 {
         columns < 1 << 16 && within_limits(rows, columns + 1)
+    } else {
+        within_limits(rows, columns)
     }
 }
 
-// The place of the first column with the label, or that after the last one; `Limit` where the
+// The places of the columns with the label, or that after the last one; `Limit` where the
 // table, of so many rows, would be beyond the limits with a column there.
-pub(crate) fn put_place(
+fn put_spot(
+    alloc: Global,
     dict: &TextDict,
     on: &ObjRef<'_>,
     label: Label,
     rows: usize,
-) -> Result<usize, OpFault>
-    requires whole { IsWhole on.now }
-    requires shape { on.now.shape ≡ Frame }
-    requires settled { IsSettled headings_value dict.now on.now.headings }
+) -> Result<Spot, OpFault>
+    requires known { IsKnownTable dict.now on.now }
     requires label { IsSettled label_datum dict.now label }
-    ensures answer { MakesBy as_it_is dict.now result
-        (place_for rows (headings_value dict.now on.now.headings) (label_datum dict.now label)) }
-    ensures inside { IfOk result (λ place. place ≤ length on.now.columns) }
-    ensures headings { IfOk result (MayHead on.now label) }
+    ensures answer { MakesBy places_at dict.now result
+        (put_places rows (table_value dict.now on.now) (label_datum dict.now label)) }
+    ensures inside { IfOk result (IsSpotIn on.now) }
 {
     let columns = on.columns();
-    let place = place_of_label(dict, on, label).unwrap_or(columns);
-    if !has_room(rows, columns, place) {
+    let places = places_of_label(alloc, dict, on, label)?;
+    if !has_room(rows, columns, places.len()) {
         return Err(OpFault::Refused(Code::Limit));
     }
-    Ok(place)
+    match places.len() {
+        0 => Ok(Spot::One(columns)),
+        1 => Ok(Spot::One(*places.at(0))),
+        _ => Ok(Spot::Several(places)),
+    }
 }
 
 // A column for the rows of a frame, under a label.
 pub(crate) fn put_change(
+    alloc: Global,
     dict: &TextDict,
     on: &ObjRef<'_>,
     label: Label,
@@ -86,22 +96,55 @@ pub(crate) fn put_change(
     ensures fits { IfOk result (IsChangeOf on.now) }
     ensures one { IfOk result (λ change. columns_changed change ≤ 1) }
 {
-    let place = put_place(dict, on, label, on.rows())?;
-    Ok(Change::Column {
-        place,
-        label,
-        block: column.into_block(),
-    })
+    let block = column.into_block();
+    match put_spot(alloc, dict, on, label, on.rows())? {
+        Spot::One(place) => Ok(Change::Column {
+            place,
+            label,
+            block,
+        }),
+        Spot::Several(places) => Ok(Change::Columns {
+            places,
+            label,
+            block,
+        }),
+    }
 }
 
-// The frame with the rows of an axis, in which its columns hold NA, and a column under a label at
-// a place.
-#[tactic(auto, using(crate::proofs::PutLaws::rows_whole))]
-pub(crate) fn rows_change(
+// The frame with a column in its places, each with cells of its own.
+fn with_spot(
+    alloc: Global,
+    table: Table,
+    spot: Spot,
+    label: Label,
+    column: Column,
+) -> Result<Table, NoMemory>
+    requires frame { table.shape ≡ Frame }
+    requires rows { length column.cells ≡ length table.labels }
+    requires spot { IsSpotIn table spot }
+    ensures { IfOk result (λ made. made
+        ≡ with_places table (places_of spot) label (table_column column)) }
+{
+    let mut made = table;
+    match spot {
+        Spot::One(place) => made.put_column(place, Some(label), column.into_block())?,
+        Spot::Several(places) => {
+            for place in places.as_slice() {
+                let copy = column.as_ref().to_column(alloc)?;
+                made.put_column(*place, Some(label), copy.into_block())?;
+            }
+        }
+    }
+    Ok(made)
+}
+
+// The frame with the rows of an axis, in which its columns hold NA, and a column under a label.
+#[tactic(auto, using(crate::proofs::PutLaws::rows_whole, crate::proofs::PutLaws::labels_kept))]
+fn rows_change(
     alloc: Global,
     on: &ObjRef<'_>,
     axis: Axis,
-    place: usize,
+    spot: Spot,
     label: Label,
     column: Column,
 ) -> Result<Change, NoMemory>
@@ -109,18 +152,16 @@ pub(crate) fn rows_change(
     requires shape { on.now.shape ≡ Frame }
     requires rows { length column.cells ≡ length axis.tuples }
     requires more { length on.now.labels < length axis.tuples }
-    requires place { place ≤ length on.now.columns }
-    requires headings { MayHead on.now label place }
+    requires spot { IsSpotIn on.now spot }
     ensures made { IfOk result (λ change. changed on.now change
-        ≡ with_column (with_axis on.now axis) place (Some label) (table_column column)) }
+        ≡ with_places (with_axis on.now axis) (places_of spot) label (table_column column)) }
     ensures fits { IfOk result (IsChangeOf on.now) }
     ensures one { IfOk result (λ change. columns_changed change ≤ 1) }
 {
     let blocks = missing_columns(alloc, on, axis.len())?;
     let headings = headings_of(alloc, on)?;
-    let mut table = Table::new(on.shape(), axis, headings, blocks);
-    table.put_column(place, Some(label), column.into_block())?;
-    Ok(Change::Table(table))
+    let table = Table::new(on.shape(), axis, headings, blocks);
+    Ok(Change::Table(with_spot(alloc, table, spot, label, column)?))
 }
 
 // The scalars of a list, which go by rows; a frame without rows gets the labels 0, 1 and so on.
@@ -144,14 +185,14 @@ fn list_change(
 {
     let count = column.as_ref().len();
     if on.rows() == 0 && count > 0 {
-        let place = put_place(dict, on, label, count)?;
+        let spot = put_spot(alloc, dict, on, label, count)?;
         let axis = Axis::range(alloc, count)?;
-        return Ok(rows_change(alloc, on, axis, place, label, column)?);
+        return Ok(rows_change(alloc, on, axis, spot, label, column)?);
     }
     if on.rows() != count {
         return Err(wrong_length(on.rows(), count));
     }
-    put_change(dict, on, label, column)
+    put_change(alloc, dict, on, label, column)
 }
 
 // The cells of a Series, aligned to the rows of the frame.
@@ -174,7 +215,7 @@ fn aligned_change(
     ensures one { IfOk result (λ change. columns_changed change ≤ 1) }
 {
     let column = aligned_column(alloc, dict, on.axis(), series)?;
-    put_change(dict, on, label, column)
+    put_change(alloc, dict, on, label, column)
 }
 
 // The cells of a Series, which gives its rows to a frame without rows.
@@ -197,10 +238,10 @@ fn series_change(
     ensures one { IfOk result (λ change. columns_changed change ≤ 1) }
 {
     if on.rows() == 0 && series.rows() > 0 {
-        let place = put_place(dict, on, label, series.rows())?;
+        let spot = put_spot(alloc, dict, on, label, series.rows())?;
         let column = series.column(0).to_column(alloc)?;
         let axis = series.axis().copy(alloc)?;
-        return Ok(rows_change(alloc, on, axis, place, label, column)?);
+        return Ok(rows_change(alloc, on, axis, spot, label, column)?);
     }
     aligned_change(alloc, dict, on, label, series)
 }
@@ -229,7 +270,7 @@ pub(crate) fn column_change(
     match value {
         SetValue::Same(cell) => {
             let column = scalar_column(alloc, cell, on.rows())?;
-            put_change(dict, on, label, column)
+            put_change(alloc, dict, on, label, column)
         }
         SetValue::Listed(cells) => {
             let column = list_column(alloc, &cells)?;
@@ -239,7 +280,7 @@ pub(crate) fn column_change(
     }
 }
 
-// The cells of a Series that ends. Its column moves where it has the frame's rows.
+// The cells of a Series that ends. Its column moves where it has the frame's rows, if it goes to one place.
 pub(crate) fn series_setting(
     alloc: Global,
     store: &Store,
@@ -261,14 +302,15 @@ pub(crate) fn series_setting(
     ensures one { IfOk result (λ setting. columns_after setting ≤ 1) }
 {
     let source = store.read(series);
-    if !same_rows(dict, on.axis(), source.axis()) {
-        let change = series_change(alloc, dict, on, label, &source)?;
-        return Ok(Setting::Change(change));
+    if same_rows(dict, on.axis(), source.axis()) {
+        if let Spot::One(place) = put_spot(alloc, dict, on, label, on.rows())? {
+            return Ok(Setting::Move {
+                place,
+                label,
+                series,
+            });
+        }
     }
-    let place = put_place(dict, on, label, on.rows())?;
-    Ok(Setting::Move {
-        place,
-        label,
-        series,
-    })
+    let change = series_change(alloc, dict, on, label, &source)?;
+    Ok(Setting::Change(change))
 }

@@ -1,15 +1,45 @@
 // Columns that are removed.
+ghost use Rattle.std.specs.Prelude.{◌≡◌, ◌<◌, length, All, IfOk};
+ghost use Rattle.column_core.specs.cells.Cell.{label_datum};
+ghost use Rattle.frame_parts.specs.form.Select.{places_besides, places_of_label};
 ghost use Rattle.frame_select.specs.select.Set as meant;
 ghost use Rattle.frame_store.specs.tables.Cost.{free};
-ghost use Rattle.frame_store.specs.World.{world, entry_in, IsKnownValue, IsSettledWorld, SetsFor};
+ghost use Rattle.frame_store.specs.tables.Settled.{IsSettled};
+ghost use Rattle.frame_store.specs.tables.Table.{table_value};
+ghost use Rattle.frame_store.specs.Shown.{headings_value};
+ghost use Rattle.frame_store.specs.World.{world, entry_in, IsKnownValue, IsKnownTable, IsSettledWorld, SetsFor};
 
-use cell_core::{Grid, Label, Shape, TextDict};
-use frame_parts::wrong_kind;
-use frame_select::selected_column;
-use frame_store::{OpFault, Store, Value};
+use crate::sharing::replace_by_columns;
+use cell_core::{Grid, Label, NoMemory, Places, Shape, TextDict};
+use frame_parts::{same_heading, wrong_kind};
+use frame_select::label_columns;
+use frame_store::{ObjRef, OpFault, Store, Value};
 use std::alloc::Global;
 
-/// `del v[label]`: removes a frame's column, as in the pandas user guide, "Intro to data
+// The columns of a frame that have another label, in order.
+fn other_columns(
+    alloc: Global,
+    dict: &TextDict,
+    on: &ObjRef<'_>,
+    label: Label,
+) -> Result<Places, NoMemory>
+    requires known { IsKnownTable dict.now on.now }
+    requires label { IsSettled label_datum dict.now label }
+    ensures others { IfOk result (λ others. others ≡ places_besides (table_value dict.now on.now)
+        (places_of_label (headings_value dict.now on.now.headings) (label_datum dict.now label))) }
+    ensures inside { IfOk result (All (λ place. place < length on.now.columns)) }
+{
+    let mut others = Places::new(alloc);
+    for place in 0..on.columns() {
+        if same_heading(dict, Some(label), on.heading(place)) {
+            continue;
+        }
+        others.push(place)?;
+    }
+    Ok(others)
+}
+
+/// `del v[label]`: removes a frame's columns of a label, as in the pandas user guide, "Intro to data
 /// structures", "Column selection, addition, deletion". Only the table of `on` changes.
 ///
 /// # Errors
@@ -17,7 +47,6 @@ use std::alloc::Global;
 /// `WrongKind` where `on` is a scalar or a Series, and of a label that is no scalar; `NoKey`
 /// where no column has the label. `NoMemory` may come in place of any answer. After a refusal all
 /// objects are as they were.
-#[tactic(auto, using(crate::proofs::SetLaws::removed_headed))]
 pub fn remove(
     alloc: Global,
     store: &mut Store,
@@ -39,7 +68,13 @@ pub fn remove(
     if source.shape() == Shape::Series {
         return Err(wrong_kind());
     }
-    let place = selected_column(alloc, dict, &source, Label::from(cell))?;
-    store.remove_column(id, place)?;
+    let label = Label::from(cell);
+    let columns = label_columns(alloc, dict, &source, label)?;
+    if columns.single {
+        store.remove_column(id, *columns.places.at(0))?;
+        return Ok(());
+    }
+    let others = other_columns(alloc, dict, &source, label)?;
+    replace_by_columns(alloc, store, id, id, &others)?;
     Ok(())
 }

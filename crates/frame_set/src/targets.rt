@@ -14,7 +14,7 @@ ghost use Rattle.frame_store.specs.Objects.{Tables};
 ghost use Rattle.frame_store.specs.Arguments.{subscript_of};
 ghost use Rattle.frame_store.specs.World.{world, subscript_in, IsKnownSubscript, IsSettledWorld};
 ghost use Rattle.frame_select.specs.Reaches.{accessor_of, pick_value, CanSelect, PicksBelow};
-ghost use Rattle.frame_set.specs.Values.{reached_value, target_value, rows_of_pair, IsReachedOf, IsTargetOf, AddsOnOne, IsFreshIn, TellsAbsence};
+ghost use Rattle.frame_set.specs.Values.{reached_value, target_value, rows_of_pair, IsReachedOf, IsTargetOf, AddsOnOne, TellsAbsence};
 ghost use Rattle.frame_select.specs.Selected.{IsKnownSecond, second_in};
 
 use cell_core::{Code, Grid, Label, NoMemory, Places, Shape, TextDict};
@@ -179,8 +179,6 @@ pub(crate) fn columns_reached(
         → MakesBy reached_value dict.now result (meant.columns_set (accessor_of by)
         (table_value dict.now on.now) (subscript_of live dict.now key.now)) }
     ensures within { IfOk result (IsReachedOf (length on.now.columns)) }
-    ensures fresh { (live : Tables) → IsSettled (subscript_of live) dict.now key.now
-        → IfOk result (λ reached. IsFreshIn on.now reached.added) }
     ensures given { (live : Tables) → IsSettled (subscript_of live) dict.now key.now
         → IfOk result (IsSettled reached_value dict.now) }
 {

@@ -1,20 +1,21 @@
 // The columns that a setting touches.
-ghost use Rattle.std.specs.Prelude.{◌≡◌, ◌<◌, List, None, length, IfOk, All};
+ghost use Rattle.std.specs.Prelude.{◌≡◌, ◌<◌, length, IfOk, All};
 ghost use Rattle.cell_core.specs.declared.grid.Shape.TheVariants.{Frame};
-ghost use Rattle.column_core.specs.cells.Text.{Text as OneText};
-ghost use Rattle.frame_select.specs.charge.Charge.{different_count, reached_count, touched_columns, touched_in, touched_item};
+ghost use Rattle.frame_select.specs.charge.Charge.{different_count, reached_count, touched_columns, touched_in};
+ghost use Rattle.column_core.specs.cells.Cell.{label_datum};
 ghost use Rattle.frame_store.specs.tables.Settled.{IsSettled};
 ghost use Rattle.frame_store.specs.tables.Table.{table_value};
 ghost use Rattle.frame_select.specs.select.Set as meant;
 ghost use Rattle.frame_store.specs.Arguments.{subscript_of};
 ghost use Rattle.frame_store.specs.Objects.{Tables};
-ghost use Rattle.frame_store.specs.World.{world, entry_in, subscript_in, IsKnownValue, IsSettledWorld};
+ghost use Rattle.frame_store.specs.World.{world, entry_in, subscript_in, IsKnownValue, IsKnownSubscript, IsSettledWorld};
 ghost use Rattle.frame_select.specs.Reaches.{accessor_of, CanSelect};
 ghost use Rattle.frame_select.specs.Selected.{IsKnownSecond, second_in, way_of};
 ghost use Rattle.frame_set.specs.Values.{IsReachedOf};
 
 use crate::targets::{Reached, columns_reached, label_to_add};
-use cell_core::{Grid, NoMemory, Places, Shape, TextDict};
+use cell_core::{Grid, Label, NoMemory, Places, Shape, TextDict};
+use frame_select::places_of_label;
 use frame_store::{ObjRef, OpFault, Selector, Store, Subscript, Value};
 use std::alloc::Global;
 
@@ -67,14 +68,22 @@ fn columns_touched(
     }
 }
 
-// The one column of a frame that brackets with this key name, if the key is a label.
-fn named_column(key: &Subscript) -> usize
-    ensures { (live : Tables) (texts : List OneText) →
-        result ≡ touched_item (subscript_of live texts key.now) None }
+// How many columns have the label, or 1 where it is to be added.
+fn columns_put(
+    alloc: Global,
+    dict: &TextDict,
+    on: &ObjRef<'_>,
+    label: Label,
+) -> Result<usize, NoMemory>
+    requires table { CanSelect dict.now on.now }
+    requires label { IsSettled label_datum dict.now label }
+    ensures { IfOk result (λ count. count ≡ length
+        (meant.places_to_put (table_value dict.now on.now) (label_datum dict.now label))) }
 {
-    match label_to_add(Selector::Loc, key) {
-        Some(_) => 1,
-        None => 0,
+    let places = places_of_label(alloc, dict, on, label)?;
+    match places.len() {
+        0 => Ok(1),
+        several => Ok(several),
     }
 }
 
@@ -89,6 +98,7 @@ fn touched_in(
     second: Option<&Subscript>,
 ) -> Result<usize, NoMemory>
     requires table { CanSelect dict.now on.now }
+    requires first { IsKnownSubscript (world store.now dict.now) first.now }
     requires second { IsKnownSecond (world store.now dict.now) second }
     ensures { IfOk result (λ touched. touched ≡ touched_in on.now.shape (way_of by)
         (table_value dict.now on.now) (subscript_in (world store.now dict.now) first.now)
@@ -98,7 +108,10 @@ fn touched_in(
         return Ok(1);
     }
     match (by, second) {
-        (Selector::Plain, None) => Ok(named_column(first)),
+        (Selector::Plain, None) => match label_to_add(Selector::Loc, first) {
+            Some(label) => columns_put(alloc, dict, on, label),
+            None => Ok(0),
+        },
         (Selector::Plain, Some(_)) => Ok(0),
         (_, None) => Ok(on.columns()),
         (_, Some(key)) => columns_touched(alloc, dict, on, by, key),
@@ -107,9 +120,9 @@ fn touched_in(
 
 /// How many different columns a setting by these keys touches: 1 on a Series; of a frame the
 /// columns that the column key picks, each counted once, all where no column key is given, and 1
-/// for a label that a setting would add. A column key that is refused touches none, and so do
-/// brackets of a frame whose key isn't one label or that have a second key, and a setting on a
-/// scalar.
+/// for a label that a setting would add. Brackets of a frame touch all columns of the label. A
+/// column key that is refused touches none, and so do brackets of a frame whose key isn't one
+/// label or that have a second key, and a setting on a scalar.
 ///
 /// # Errors
 ///
@@ -125,6 +138,7 @@ pub fn touched(
 ) -> Result<u64, NoMemory>
     requires on { IsKnownValue (world store.now dict.now) on }
     requires settled { IsSettledWorld (world store.now dict.now) }
+    requires first { IsKnownSubscript (world store.now dict.now) first.now }
     requires second { IsKnownSecond (world store.now dict.now) second }
     ensures { IfOk result (λ touched. touched
         ≡ touched_columns (entry_in (world store.now dict.now) on) (way_of by)

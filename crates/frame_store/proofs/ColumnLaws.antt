@@ -1,10 +1,10 @@
 -- Columns that are put and removed, and whole tables.
 use Rattle.{
-  meaning_tables.{proofs.cells.Common.{cond_both, map-set, map-append, length-map, length-set, take-map, drop-map, All-set, All-push, All-map, All-append, All-take, All-drop, length-remove, rules, ◌≡◌, ◌∙◌, ℕ, suc, ◌<◌, ◌+◌, ◌*◌, List, length, take, drop, map, sym, subst, arith, nat_lt, AreRowsBelow, Option, All, remove, Rows, Shape, Series, Cell, Na, Label, pos, refl, ap, [], ◌∷◌, slice_index_or}, specs.{cells.Block.{strided}, Table.{ColumnOf, NumberedTable, column_at, no_column}, Change.{put_at, strided_column, cut_columns, with_column, without_column}, Valid.{AreHeadings, IsWhole}}},
+  meaning_tables.{proofs.cells.Common.{cond_both, map-set, map-append, length-map, length-set, take-map, drop-map, All-set, All-push, All-map, All-append, All-take, All-drop, length-remove, rules, ◌≡◌, ◌∙◌, ℕ, suc, ◌<◌, ◌+◌, ◌*◌, List, length, take, drop, map, sym, subst, arith, nat_lt, AreRowsBelow, Option, All, remove, Rows, Shape, Series, Frame, IsSome, Cell, Na, Label, pos, refl, ap, [], ◌∷◌, slice_index_or}, specs.{cells.Block.{strided}, Table.{ColumnOf, NumberedTable, column_at, no_column}, Change.{put_at, strided_column, cut_columns, with_column, without_column}, Valid.{AreHeadings, IsWhole}}},
   std.proofs.lemmas.List.{length-append, FromFn.{fill_by_all}},
   multi_index.specs.Axes.{AxisValue},
   column_core.{specs.Blocks.{CellBlock}, proofs.ColumnLaws.{length-tabulate}},
-  frame_store.specs.{Parts.{HeadingList, table_with, cut_table, block_column, AreColumnsOf}, Derivations.{derived_table, CanDerive}, declared.derivations.Derivation.{Derivation}},
+  frame_store.specs.{Parts.{HeadingList, table_with, cut_table, block_column, AreColumnsOf, TakesHeading}, Derivations.{derived_table, CanDerive}, declared.derivations.Derivation.{Derivation}},
 }
 
 -- an item is replaced or appended
@@ -73,13 +73,29 @@ pub cut_is_derived : (t : NumberedTable) (d : Derivation) (count : ℕ) → IsWh
 cut_is_derived t d count whole fits rows = cc (all_cut t count whole rows d.columns fits.columns)
 
 -- a table with another column is whole
-pub put_is_whole : (t : NumberedTable) (place : ℕ) (heading : Option Label) (c : ColumnOf Cell) → IsWhole t → length c.cells ≡ length t.labels → AreHeadings t.shape t.columns_name (put_at t.headings place heading)
-    → IsWhole (with_column t place heading c)
-put_is_whole t _ _ c whole rows fits = search (length-put_at, All-put_at)
+one_put : {X : Type 0} (xs : List X) (place : ℕ) (x : X) → length xs ≡ 1 → place ≡ 0 → length (put_at xs place x) ≡ 1
+one_put = grind (arith, length-set)
 
--- and one without a column
-pub remove_is_whole : (t : NumberedTable) (place : ℕ) → IsWhole t → place < length t.columns → AreHeadings t.shape t.columns_name (remove t.headings place) → IsWhole (without_column t place)
-remove_is_whole t _ whole lt fits = search (rules, length-remove, All-remove)
+headings_put : (t : NumberedTable) (place : ℕ) (heading : Option Label) → IsWhole t → TakesHeading t place heading → AreHeadings t.shape t.columns_name (put_at t.headings place heading)
+headings_put t place heading whole takes = record {
+  single = λ series. one_put t.headings place heading (whole.headings.single series) (takes.single series);
+  nameless = whole.headings.nameless;
+  labelled = λ frame. All-put_at IsSome t.headings place heading (whole.headings.labelled frame) (takes.labelled frame);
+}
+
+pub put_is_whole : (t : NumberedTable) (place : ℕ) (heading : Option Label) (c : ColumnOf Cell) → IsWhole t → length c.cells ≡ length t.labels → TakesHeading t place heading → IsWhole (with_column t place heading c)
+put_is_whole t _ _ c whole rows takes = search (length-put_at, All-put_at, headings_put)
+
+-- and a frame without one
+headings_left : (t : NumberedTable) (place : ℕ) → IsWhole t → t.shape ≡ Frame → AreHeadings t.shape t.columns_name (remove t.headings place)
+headings_left t place whole frame = record {
+  single = λ series. cc;
+  nameless = whole.headings.nameless;
+  labelled = λ is. All-remove IsSome t.headings place (whole.headings.labelled is);
+}
+
+pub remove_is_whole : (t : NumberedTable) (place : ℕ) → IsWhole t → place < length t.columns → t.shape ≡ Frame → IsWhole (without_column t place)
+remove_is_whole t _ whole lt frame = search (rules, length-remove, All-remove, headings_left)
 
 -- a heading and a block are put or removed
 pub put_is_column : (t u : NumberedTable) (blocks blocks' : List CellBlock) (headings' : List (Option Label)) (place : ℕ) (heading : Option Label) (block : CellBlock)

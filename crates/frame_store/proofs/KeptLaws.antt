@@ -1,5 +1,5 @@
 -- The parts of an object that changes, and what columns of another one share.
-use Rattle.{meaning_tables.{proofs.cells.Common.{◌≡◌, ◌∙◌, refl, sym, ap, subst, arith, ℕ, ◌*◌, ◌<◌, List, [], ◌∷◌, length, map, sum, All, All-map, All-tail, length-map, sum_by-cons, map-map, slice_index_or, remove, Option, Result, Ok, Err, IfOk, OnOk, on_ok_weaker, Label, Rows, Shape, Series, Cell, Na, AreRowsBelow}, specs.{Table.{NumberedTable, ColumnOf, column_at, no_column, cell_count}, Change.{put_at, with_values, with_values_from, strided_column, cut_columns}, Valid.{AreHeadings, IsWhole}}}, std.{proofs.lemmas.Result.{on_err_weaker}, specs.{Prelude.{OnErr}, FinMap.{FinMap, get}, Ordering.{nat_cmp}}}, std.proofs.Common.{ap₂}, multi_index.specs.Axes.{AxisValue}, column_core.specs.Blocks.{CellBlock}, block_pool.specs.Pools.{PoolValue, ViewValue, cells_of, live_count, total_of}, block_manager.{proofs.OtherLaws.{other_columns, other_stands}, specs.Managed.{ManagerValue, StandsOn, AreSole, Exchanges, Keeps, Stays, StayOnBlocks, block_under, rows_of, columns_on, placed_column, times}}, frame_store.{specs.{Parts.{HeadingList, table_with, block_column, table_of, AreBelow, AreRowsOf, AreColumnsOf, AreRowsIn, HaveRows, IsSingle}, Stores.{ObjectValue, IsKeptOn, Trades, manager_views, table_over}}, proofs.{SettingLaws.{count_from, kinds_from, lengths_from}, ValueLaws.{AreAlike, rows_kept}, StoreLaws.{counts_once, same_items}, ColumnLaws.{put_is_whole, remove_is_whole}}}}
+use Rattle.{meaning_tables.{proofs.cells.Common.{◌≡◌, ◌∙◌, refl, sym, ap, subst, arith, ℕ, ◌*◌, ◌<◌, List, [], ◌∷◌, length, map, sum, All, All-map, All-tail, length-map, sum_by-cons, map-map, slice_index_or, remove, Option, Result, Ok, Err, IfOk, OnOk, on_ok_weaker, Label, Rows, Shape, Series, Frame, Cell, Na, AreRowsBelow}, specs.{Table.{NumberedTable, ColumnOf, column_at, no_column, cell_count}, Change.{put_at, with_values, with_values_from, strided_column, cut_columns}, Valid.{IsWhole}}}, std.{proofs.lemmas.Result.{on_err_weaker}, specs.{Prelude.{OnErr}, FinMap.{FinMap, get}, Ordering.{nat_cmp}}}, std.proofs.Common.{ap₂}, multi_index.specs.Axes.{AxisValue}, column_core.specs.Blocks.{CellBlock}, block_pool.specs.Pools.{PoolValue, ViewValue, cells_of, live_count, total_of}, block_manager.{proofs.OtherLaws.{other_columns, other_stands}, specs.Managed.{ManagerValue, StandsOn, AreSole, Exchanges, Keeps, Stays, StayOnBlocks, block_under, rows_of, columns_on, placed_column, times}}, frame_store.{specs.{Parts.{HeadingList, table_with, block_column, table_of, AreBelow, AreRowsOf, AreColumnsOf, AreRowsIn, HaveRows, IsSingle, TakesHeading}, Stores.{ObjectValue, IsKeptOn, Trades, manager_views, table_over}}, proofs.{SettingLaws.{count_from, kinds_from, lengths_from}, ValueLaws.{AreAlike, rows_kept}, StoreLaws.{counts_once, same_items}, ColumnLaws.{put_is_whole, remove_is_whole}}}}
 
 -- a table with other values is whole
 pub values_whole : (t : NumberedTable) (rows places : List ℕ) (values : List Cell) → IsWhole t → IsWhole (with_values t rows places values)
@@ -154,21 +154,21 @@ module _ (old new : PoolValue) (shape : Shape) (axis : AxisValue) (name : Option
     table_named f g named columns = ap₂ (λ (l : List (Option Label)) (cs : List (ColumnOf Cell)). table_with shape axis record { columns_name = name; labels = l } cs) named columns
 
     pub put_kept : (column : ℕ) (heading : Option Label) (k : ColumnOf Cell) → StandsOn new m' → labels' ≡ put_at labels column heading → columns_on new m' ≡ put_at (columns_on old m) column k → length k.cells ≡ length now.axis.tuples
-        → AreHeadings now.shape now.headings.columns_name (put_at now.headings.labels column heading) → IsKeptOn new (object_with shape axis name labels' m')
+        → TakesHeading (table_over old now) column heading → IsKeptOn new (object_with shape axis name labels' m')
     put_kept column heading k stands named columns rows fits = record {
       stands = stands;
       whole = subst IsWhole (sym (table_named (λ l. put_at l column heading) (λ cs. put_at cs column k) named columns))
           (put_is_whole (table_over old was) column heading k before.whole (rows ∙ sym (ap (λ (o : ObjectValue). length o.axis.tuples) is))
-          (subst (λ (o : ObjectValue). AreHeadings o.shape o.headings.columns_name (put_at o.headings.labels column heading)) (sym is) fits));
+          (subst (λ (o : ObjectValue). TakesHeading (table_over old o) column heading) (sym is) fits));
     }
 
     pub removed_kept : (column : ℕ) → StandsOn new m' → labels' ≡ remove labels column → columns_on new m' ≡ remove (columns_on old m) column → column < length (columns_on old now.manager)
-        → AreHeadings now.shape now.headings.columns_name (remove now.headings.labels column) → IsKeptOn new (object_with shape axis name labels' m')
-    removed_kept column stands named columns lt fits = record {
+        → now.shape ≡ Frame → IsKeptOn new (object_with shape axis name labels' m')
+    removed_kept column stands named columns lt frame = record {
       stands = stands;
       whole = subst IsWhole (sym (table_named (λ l. remove l column) (λ cs. remove cs column) named columns))
           (remove_is_whole (table_over old was) column before.whole (subst (λ (o : ObjectValue). column < length (columns_on old o.manager)) (sym is) lt)
-          (subst (λ (o : ObjectValue). AreHeadings o.shape o.headings.columns_name (remove o.headings.labels column)) (sym is) fits));
+          (subst (λ (o : ObjectValue). o.shape ≡ Frame) (sym is) frame));
     }
 
     pub refused_kept : StandsOn new m' → labels' ≡ labels → m' ≡ m → Stays old new → IsKeptOn new (object_with shape axis name labels' m')

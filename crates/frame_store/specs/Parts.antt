@@ -1,15 +1,15 @@
 -- The parts of which tables are made.
-use Rattle.std.specs.Prelude.{◌≡◌, ℕ, List, [], ◌∷◌, ◌++◌, map, length, Option}
+use Rattle.std.specs.Prelude.{◌≡◌, ℕ, List, [], ◌∷◌, ◌++◌, map, length, Option, IsSome}
 use Rattle.cell_core.specs.declared.cell.Cell.{Cell}
 use Rattle.cell_core.specs.declared.cell.Cell.TheVariants.{Na}
 use Rattle.cell_core.specs.declared.cell.Label.{Label}
 use Rattle.cell_core.specs.declared.grid.Rows.{Rows}
 use Rattle.cell_core.specs.declared.grid.Shape.{Shape}
+use Rattle.cell_core.specs.declared.grid.Shape.TheVariants.{Series, Frame}
 use Rattle.column_core.specs.Blocks.{CellBlock}
 use Rattle.multi_index.specs.Axes.{AxisValue}
-use Rattle.meaning_tables.specs.Change.{put_at, cut_columns, without_column}
+use Rattle.meaning_tables.specs.Change.{cut_columns}
 use Rattle.meaning_tables.specs.Table.{ColumnOf, NumberedTable}
-use Rattle.meaning_tables.specs.Valid.{AreHeadings}
 -- words of the pool and of the manager, passed on to the crates above
 pub use Rattle.block_pool.specs.Pools.{cells_of}
 pub use Rattle.block_manager.specs.Parts.{AreBelow, AreHeld, AreRowsIn, HaveRows, IsHeld, IsSingle, block_column, single_block, table_column}
@@ -60,12 +60,10 @@ table_behind shape axis headings first t = table_with shape axis headings (colum
 abbrev pub cut_table : Shape → AxisValue → HeadingList → NumberedTable → Rows → List ℕ → NumberedTable
 cut_table shape axis headings t rows places = table_with shape axis headings (cut_columns Na t.columns rows places)
 
--- the headings are right still with one put at a place, and without the one there
-abbrev pub TakesHeading : NumberedTable → ℕ → Option Label → Type 0
-TakesHeading t place heading = AreHeadings t.shape t.columns_name (put_at t.headings place heading)
-
-abbrev pub SparesHeading : NumberedTable → ℕ → Type 0
-SparesHeading t place = AreHeadings t.shape t.columns_name (without_column t place).headings
+-- a column that is put into a frame has a label, and one that is put into a Series takes the place of its own
+pub record TakesHeading (t : NumberedTable) (place : ℕ) (heading : Option Label) : Type 0 where
+  pub labelled : t.shape ≡ Frame → IsSome heading
+  pub single : t.shape ≡ Series → place ≡ 0
 
 -- what a table keeps of an axis: its tuples and its names
 abbrev pub labelled : AxisValue → AxisValue

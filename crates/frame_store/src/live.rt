@@ -1,7 +1,7 @@
 // What a store keeps of a live object.
 ghost use Rattle.std.specs.Prelude.{◌≡◌, ◌*◌, ◌<◌, ◌≤◌, ◌++◌, [], length, map, sum, All, IfOk, IfErr, OnOk, OnErr};
 ghost use Rattle.cell_core.specs.declared.cell.Cell.TheVariants.{Na};
-ghost use Rattle.cell_core.specs.declared.grid.Shape.TheVariants.{Series};
+ghost use Rattle.cell_core.specs.declared.grid.Shape.TheVariants.{Series, Frame};
 ghost use Rattle.cell_core.specs.Grids.{AreRowsBelow};
 ghost use Rattle.meaning_tables.specs.Table.{column_at};
 ghost use Rattle.meaning_tables.specs.Change.{cut_columns, put_at, with_column, without_column, with_values};
@@ -9,7 +9,7 @@ ghost use Rattle.multi_index.specs.Axes.{HaveLevels};
 ghost use Rattle.meaning_tables.specs.Valid.{IsWhole};
 ghost use Rattle.block_pool.specs.Pools.{cells_of};
 ghost use Rattle.block_manager.specs.Managed.{AreLive, AreSole, Exchanges, Keeps, RaisesBy, StandsOn, Stays, StayOnBlocks, cells_named, columns_on};
-ghost use Rattle.frame_store.specs.Parts.{block_column, columns_of, table_column, AreBelow, AreRowsOf, AreColumnsOf, FitsRows, HaveRows, IsSingle, AreHeld, TakesHeading, SparesHeading};
+ghost use Rattle.frame_store.specs.Parts.{block_column, columns_of, table_column, AreBelow, AreRowsOf, AreColumnsOf, FitsRows, HaveRows, IsSingle, AreHeld, TakesHeading};
 ghost use Rattle.frame_store.specs.Stores.{IsKeptOn, Trades, charged, manager_views, table_over};
 
 use crate::blocks::Blocks;
@@ -192,7 +192,7 @@ impl Object {
     pub(crate) fn remove_column(&mut self, pool: &mut Pool, column: usize) -> Result<(), NoMemory>
         requires kept { IsKeptOn pool.old self.old }
         requires column { column < length (table_over pool.old self.old).columns }
-        requires headings { SparesHeading (table_over pool.old self.old) column }
+        requires frame { self.old.shape ≡ Frame }
         ensures table { OnOk result (table_over pool.new self.new
             ≡ without_column (table_over pool.old self.old) column) }
         ensures kept { IsKeptOn pool.new self.new }

@@ -1,6 +1,6 @@
 // The live objects and their tables.
 ghost use Rattle.std.specs.Prelude.{◌≡◌, ◌≢◌, ◌↔◌, ◌*◌, ◌<◌, ◌≤◌, ℕ, length, sum, map, All, Some, None, IsTrue, IfOk, IfSome, OnOk, OnErr};
-ghost use Rattle.cell_core.specs.declared.grid.Shape.TheVariants.{Series};
+ghost use Rattle.cell_core.specs.declared.grid.Shape.TheVariants.{Series, Frame};
 ghost use Rattle.cell_core.specs.Grids.{AreRowsBelow};
 ghost use Rattle.meaning_tables.specs.Table.{cell_count, column_at};
 ghost use Rattle.meaning_tables.specs.Change.{with_column, without_column, with_labels, with_values};
@@ -9,7 +9,7 @@ ghost use Rattle.multi_index.specs.Axes.{HaveLevels};
 ghost use Rattle.block_pool.specs.Pools.{cells_of};
 ghost use Rattle.block_manager.specs.Managed.{cells_named};
 ghost use Rattle.frame_store.specs.Setting.{AreSet};
-ghost use Rattle.frame_store.specs.Parts.{block_column, table_column, table_of, cut_table, labelled, axis_of, AreRowsOf, AreColumnsOf, FitsRows, IsSingle, HaveRows, AreHeld, TakesHeading, SparesHeading, table_behind};
+ghost use Rattle.frame_store.specs.Parts.{block_column, table_column, table_of, cut_table, labelled, axis_of, AreRowsOf, AreColumnsOf, FitsRows, IsSingle, HaveRows, AreHeld, TakesHeading, table_behind};
 ghost use Rattle.frame_store.specs.Stores.{IsStore, charged};
 
 use crate::blocks::Blocks;
@@ -246,7 +246,7 @@ impl Store {
     pub fn remove_column(&mut self, on: ObjId, column: usize) -> Result<(), NoMemory>
         requires live { IsLiveIn self.old on }
         requires column { column < length (table_on self.old on).columns }
-        requires headings { SparesHeading (table_on self.old on) column }
+        requires frame { (table_on self.old on).shape ≡ Frame }
         ensures ok { OnOk result (Alters self.old self.new on (λ t. without_column t column)) }
         ensures err { OnErr result (Stays self.old self.new) }
         ensures held { Raises 0 self.old self.new }

@@ -4,4 +4,11 @@ pub mod LabelLaws
 pub mod TextLaws
 pub mod SplitLaws
 pub mod RecordsLaws
+pub mod ValueLaws
+pub mod KindLaws
+pub mod RowLaws
+pub mod ThereLaws
+pub mod ColumnsLaws
+pub mod KeyLaws
+pub mod ReadingLaws
 pub mod Hints

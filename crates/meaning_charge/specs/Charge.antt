@@ -3,12 +3,13 @@ use Rattle.std.specs.Prelude.{ℕ, suc, ◌*◌, nat_eq, nat_lt, Bool, true, fal
 use Rattle.std.specs.List.{list_any}
 use Rattle.meaning_form.specs.cell_core.declared.grid.Shape.{Shape}
 use Rattle.meaning_form.specs.cell_core.declared.grid.Shape.TheVariants.{Series, Frame}
+use Rattle.meaning_form.specs.cells.Operator.{cell_label}
 use Rattle.meaning_form.specs.cells.Symbol.{Accessor, loc, iloc}
 use Rattle.meaning_form.specs.cells.Fault.{FaultValue}
 use Rattle.meaning_form.specs.tables.Table.{Table, cell_count}
 use Rattle.meaning_form.specs.tables.Value.{Entry, cell, table, GivenSub, one, many, key_given, span_given}
 use Rattle.meaning_select.specs.Select.{Way, plain, through}
-use Rattle.meaning_select.specs.Set.{Reached, columns_set}
+use Rattle.meaning_select.specs.Set.{Reached, columns_set, places_to_put}
 pub use Rattle.meaning_form.specs.tables.Cost.{answer_charge}
 
 -- a slice, `:` among them
@@ -53,9 +54,9 @@ reached_count (Err fault) = 0
 
 -- How many different columns a setting touches: those that its column key picks, a new one, or all where none is given. In
 -- brackets of a frame the key is one label.
-abbrev pub touched_item : GivenSub → Option GivenSub → ℕ
-touched_item (key_given (one (cell c))) None = 1
-touched_item first second = 0
+abbrev pub touched_item : Table → GivenSub → Option GivenSub → ℕ
+touched_item t (key_given (one (cell c))) None = length (places_to_put t (cell_label c))
+touched_item t first second = 0
 
 abbrev pub touched_access : Accessor → Table → Option GivenSub → ℕ
 touched_access by t None = length t.columns
@@ -63,7 +64,7 @@ touched_access by t (Some second) = reached_count (columns_set by t second)
 
 abbrev pub touched_in : Shape → Way → Table → GivenSub → Option GivenSub → ℕ
 touched_in Series way t first second = 1
-touched_in Frame plain t first second = touched_item first second
+touched_in Frame plain t first second = touched_item t first second
 touched_in Frame (through by) t first second = touched_access by t second
 
 abbrev pub touched_columns : Entry → Way → GivenSub → Option GivenSub → ℕ

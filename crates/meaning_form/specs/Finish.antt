@@ -1,5 +1,5 @@
--- What all answers have in common: equal labels of columns, and the limits.
-use Rattle.std.specs.Prelude.{ℕ, pos, Bool, true, false, List, [], ◌∷◌, map, length, replicate, unwrap_or, Option, Some, None, Result, Ok, Err, if◌then◌else◌}
+-- What answers have in common: labels that stand again, and the limits.
+use Rattle.std.specs.Prelude.{ℕ, pos, Bool, true, false, List, [], ◌∷◌, ◌++◌, map, length, replicate, unwrap_or, Option, Some, None, Result, Ok, Err, if◌then◌else◌}
 use Rattle.std.specs.List.{list_any, range_with_len}
 use Rattle.meaning_align.specs.cell_core.declared.grid.Shape.TheVariants.{Series}
 use Rattle.meaning_tables.specs.cells.Cell.{Kind, CellValue, na_cell, LabelValue, int}
@@ -23,18 +23,18 @@ same_heading None None = true
 same_heading (Some a) (Some b) = same_label a b
 same_heading a b = false
 
+-- the first of these labels that stands again, at a later place or among others
+abbrev pub first_shared : List (Option LabelValue) → List (Option LabelValue) → Option LabelValue
+first_shared [] others = None
+first_shared (h ∷ hs) others = if list_any (same_heading h) (hs ++ others) then h else first_shared hs others
+
 -- the first label that stands again at a later place
 abbrev pub first_repeated : List (Option LabelValue) → Option LabelValue
-first_repeated [] = None
-first_repeated (h ∷ hs) = if list_any (same_heading h) hs then h else first_repeated hs
+first_repeated hs = first_shared hs []
 
 abbrev pub unless_repeated : {A : Type 0} → Option LabelValue → Result A FaultValue → Result A FaultValue
 unless_repeated None rest = rest
 unless_repeated (Some l) rest = Err (bad_value (repeated (l ∷ [])))
-
--- a new frame, unless a label stands twice or it is beyond the limits
-abbrev pub finished : Table → Result Entry FaultValue
-finished t = unless_repeated (first_repeated t.headings) (limited t)
 
 -- a column of a table as the kernels see it, and back
 abbrev pub value_of_column : ColumnOf CellValue → ColumnValue

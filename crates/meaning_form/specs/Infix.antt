@@ -189,26 +189,12 @@ on_columns own other keys places opposites =
 abbrev pub common_infix : Binary → Table → Table → Result Entry FaultValue
 common_infix op a b = rows_infix op a b record a { columns_name = common_name a.columns_name b.columns_name }
 
--- frames under joined labels of columns, which aren't compared
-abbrev pub unequal_columns : Binary → Table → Table → Result Entry FaultValue
-unequal_columns op a b =
-    on_levels (list_all (meets op) (beside a.columns b.columns)) (same_count a.level_names b.level_names)
-    (if compares op then Err (bad_value not_aligned) else common_infix op a b)
-
+-- two frames by the labels of columns that either has, which stand once in each
 abbrev pub wide_infix : Binary → Table → Table → Joined → Result Entry FaultValue
-wide_infix op a b columns = unequal_columns op (on_columns a b columns.keys columns.left columns.right) (on_columns b a columns.keys columns.right columns.left)
+wide_infix op a b columns = common_infix op (on_columns a b columns.keys columns.left columns.right) (on_columns b a columns.keys columns.right columns.left)
 
--- two frames by the labels of columns that either has
 abbrev pub joined_frames : Binary → Table → Table → Result Entry FaultValue
 joined_frames op a b = then_value (joined_rows (column_labels a) (column_labels b)) (wide_infix op a b)
-
--- Two frames. Columns meet in order where the labels of both are equal, and else by the labels that either has.
-abbrev pub frame_infix : Binary → Table → Table → Result Entry FaultValue
-frame_infix op a b = if same_headings a.headings b.headings then common_infix op a b else joined_frames op a b
-
--- a frame's columns with a Series' cells, which lie across them
-abbrev pub across_series : Bool → Table → Table → List Meeting
-across_series left f s = turned left (across (length f.labels) (column_at s.columns 0).kind f.columns (column_at s.columns 0).cells)
 
 -- the operator takes columns of this one's kind on both sides
 abbrev pub takes_twice : {C : Type 0} → Binary → ColumnOf C → Bool
@@ -227,6 +213,30 @@ abbrev pub labels_fit : {K C : Type 0} → (K → K → Bool) → Kind → List 
 labels_fit same kind labels (key ∷ keys) (c ∷ cs) = (if list_any (same key) labels then same_kind c.kind kind else true) && labels_fit same kind labels keys cs
 labels_fit same kind labels keys cs = true
 
+-- columns of one label are of one kind
+abbrev pub pairs_fit : {K C : Type 0} → (K → K → Bool) → List K → List (ColumnOf C) → List K → List (ColumnOf C) → Bool
+pairs_fit same (key ∷ keys) (c ∷ cs) others columns = labels_fit same c.kind (key ∷ []) others columns && pairs_fit same keys cs others columns
+pairs_fit same keys cs others columns = true
+
+-- the operator takes each column of both frames, and those of one label
+abbrev pub frames_fit : Binary → Table → Table → Bool
+frames_fit op a b = list_all (takes_twice op) a.columns && list_all (takes_twice op) b.columns && pairs_fit same_tuple (column_labels a) a.columns (column_labels b) b.columns
+
+-- frames of other columns, which aren't compared, and neither of which repeats a label
+abbrev pub unequal_frames : Binary → Table → Table → Result Entry FaultValue
+unequal_frames op a b =
+    on_levels (frames_fit op a b) (same_count a.level_names b.level_names)
+    (if compares op then Err (bad_value not_aligned)
+    else unless_repeated (first_repeated a.headings) (unless_repeated (first_repeated b.headings) (joined_frames op a b)))
+
+-- Two frames. Columns meet in order where the labels of both are equal, and else by the labels that either has.
+abbrev pub frame_infix : Binary → Table → Table → Result Entry FaultValue
+frame_infix op a b = if same_headings a.headings b.headings then common_infix op a b else unequal_frames op a b
+
+-- a frame's columns with a Series' cells, which lie across them
+abbrev pub across_series : Bool → Table → Table → List Meeting
+across_series left f s = turned left (across (length f.labels) (column_at s.columns 0).kind f.columns (column_at s.columns 0).cells)
+
 -- a Series in each row of a frame, as a frame whose columns it labels
 abbrev pub spread_series : Table → Table → Table
 spread_series f s =
@@ -235,9 +245,10 @@ spread_series f s =
       columns = map (λ c. column_of_value (spread (column_at s.columns 0).kind (length f.labels) c)) (column_at s.columns 0).cells;
     }
 
--- such a frame, unless a label stands twice or it is beyond the limits
+-- such a frame, unless it or the other one repeats a label, or it is beyond the limits
 abbrev pub spread_frame : Table → Table → Result Table FaultValue
-spread_frame f s = unless_repeated (first_repeated (spread_series f s).headings) (limited_table (spread_series f s))
+spread_frame f s =
+    unless_repeated (first_repeated (spread_series f s).headings) (unless_repeated (first_repeated f.headings) (limited_table (spread_series f s)))
 
 abbrev pub joined_turned : Binary → Bool → Table → Table → Result Entry FaultValue
 joined_turned op false f g = joined_frames op f g
@@ -245,7 +256,7 @@ joined_turned op true f g = joined_frames op g f
 
 -- A frame with a Series of other labels than its columns: each row meets the Series by the labels of columns that
 -- either has. Kinds are tested first: each column's and the Series', and where a column and a label meet. They aren't
--- compared, and no label of the Series stands twice.
+-- compared, and neither the Series nor the frame repeats a label.
 abbrev pub across_unequal : Binary → Bool → Table → Table → Result Entry FaultValue
 across_unequal op left f s =
     on_levels (takes_each op f s) (has_one s.level_names)

@@ -1,7 +1,7 @@
 -- No call of a method or a function has the fault that a file isn't there.
 use Rattle.{
-  meaning_script.{proofs.cells.Common.{arith, List, [], ◌∷◌, Bool, Option, ℕ, false, Some, None, Result, ◌≡◌, true, LabelValue, CellValue, Text, FaultValue, Cumulation, Shape, Series, Frame}, specs.{shapes.Reshape.{UnstackRefusal}, group.Reductions.{GroupReduction}, tables.{Table.{ColumnOf, Table}, Value.{Given, object_in, NamedGiven, GivenList, Entry, cell, table}}, call.{declared.{Function.{Function}, Method.{Method}, ReshapeMethod.{ReshapeMethod}}, Binding.{text_in, bound_of, Bound}, Signature.{function_parameters, function_named}}, method.{Merge.{keys_named, keys_under, keys_on, keys_of_merge, merge_result}, Concat.{Concatenation, frames_below, below, along, concat_result, concat_call}, Groups.{Grouping, Values, GroupCall, group_answer, of_bound, grouping_in, values_named, values_in, transform_in, without_arguments, group_call_of, grouped_of, grouped_result}, Calls.{ChainValue, table_call, plain_result, call_result}, Windows.{Windows, rolling_in, expanding_in, window_call, windowed, windows_of, rolling_result, expanding_result}, Reshape.{met_labels, unstacked_at, Pivoted, pivoted_in, pivoted, group_series, melted_in, value_labels, melt_result, reshaped}, Functions.{made_named, function_result}, Readers.{reads_file, read_result}}, select.Select.{shown_as}}},
-  meaning_laws.{specs.FormFault.{HasFormFault}, proofs.{FormFaults.{if_fault, then_value_fault, finished_fault, argument_columns_fault, on_fault, limited_fault, try_all_fault, of_length_fault, on_bound_fault, made_column_fault, argument_column_fault, series_call_fault, frame_call_fault, read_result_fault}, MethodFaults.{each_column_fault, level_of_fault, called_fault}, StrLaws.{str_result_fault}}},
+  meaning_script.{proofs.cells.Common.{arith, List, [], ◌∷◌, Bool, Option, ℕ, false, Some, None, Result, ◌≡◌, true, LabelValue, CellValue, Text, FaultValue, Cumulation, Shape, Series, Frame}, specs.{shapes.Reshape.{UnstackRefusal}, group.Reductions.{GroupReduction}, tables.{Table.{ColumnOf, Table}, Value.{Given, object_in, NamedGiven, GivenList, Entry, cell, table}}, call.{declared.{Function.{Function}, Method.{Method}, ReshapeMethod.{ReshapeMethod}}, Binding.{text_in, bound_of, Bound}, Signature.{function_parameters, function_named}}, method.{Merge.{keys_named, keys_under, keys_on, keys_of_merge, merge_result}, Concat.{Concatenation, frames_in_order, frames_by_label, unless_label_twice, frames_below, below, along, concat_result, concat_call}, Groups.{Grouping, Values, GroupCall, group_answer, of_bound, grouping_in, values_named, values_in, transform_in, without_arguments, group_call_of, grouped_of, grouped_result}, Calls.{ChainValue, table_call, plain_result, call_result}, Windows.{Windows, rolling_in, expanding_in, window_call, windowed, windows_of, rolling_result, expanding_result}, Reshape.{met_labels, unstacked_at, Pivoted, pivoted_in, pivoted, group_series, melted_in, value_labels, melt_result, reshaped}, Functions.{made_named, function_result}, Readers.{reads_file, read_result}}, select.Select.{shown_as}}},
+  meaning_laws.{specs.FormFault.{HasFormFault}, proofs.{FormFaults.{if_fault, then_value_fault, unless_repeated_fault, first_columns_fault, argument_columns_fault, on_fault, limited_fault, try_all_fault, of_length_fault, on_bound_fault, made_column_fault, argument_column_fault, series_call_fault, frame_call_fault, read_result_fault}, MethodFaults.{each_column_fault, level_of_fault, called_fault}, StrLaws.{str_result_fault}}},
 }
 use Rattle.meaning_script.specs.call.declared.Function.TheVariants as function
 use Rattle.meaning_script.specs.call.declared.Method.TheVariants as method
@@ -13,7 +13,7 @@ use Rattle.meaning_script.specs.method.Calls as call
 -- ---- merging
 
 keys_named_fault : (l r : Table) (ls : List LabelValue) → HasFormFault (keys_named l r ls)
-keys_named_fault = search (then_value_fault, argument_columns_fault)
+keys_named_fault = search (then_value_fault, first_columns_fault, unless_repeated_fault)
 
 under_fault : (l r : Table) (ls : List LabelValue) → HasFormFault (keys_under l r ls)
 under_fault l r [] = tt
@@ -25,19 +25,28 @@ keys_on_fault = grind (arith, under_fault, keys_named_fault)
 merge_result_fault : (l : Table) (gs : List Given) → HasFormFault (merge_result l gs)
 merge_result_fault l (right ∷ h ∷ labels ∷ once ∷ []) =
     on_fault (object_in right) _
-    (λ r. on_fault (text_in h) _ (λ t. then_value_fault (keys_of_merge l r labels) _ (then_value_fault _ _ (keys_on_fault l r labels) (search if_fault)) (grind (arith, finished_fault))))
+    (λ r. on_fault (text_in h) _ (λ t. then_value_fault (keys_of_merge l r labels) _ (then_value_fault _ _ (keys_on_fault l r labels) (search if_fault)) (grind (arith, limited_fault))))
 merge_result_fault _ _ = tt
 
 -- ---- joining tables end to end
 
-frames_below_fault : (ts : List Table) (c : Concatenation) (hs : List (Option LabelValue)) → HasFormFault (frames_below ts c hs)
-frames_below_fault = search (then_value_fault, try_all_fault, on_fault, if_fault, limited_fault)
+label_twice_fault : {A : Type 0} (again : Option (List LabelValue)) (rest : Result A FaultValue) → HasFormFault rest → HasFormFault (unless_label_twice again rest)
+label_twice_fault = grind arith
+
+in_order_fault : (ts : List Table) (c : Concatenation) (hs : List (Option LabelValue)) → HasFormFault (frames_in_order ts c hs)
+in_order_fault = search (then_value_fault, try_all_fault, on_fault, if_fault, limited_fault)
+
+by_label_fault : (ts : List Table) (c : Concatenation) (hs : List (Option LabelValue)) → HasFormFault (frames_by_label ts c hs)
+by_label_fault = search (then_value_fault, try_all_fault, on_fault, if_fault, limited_fault)
+
+frames_below_fault : (ts : List Table) (c : Concatenation) → HasFormFault (frames_below ts c)
+frames_below_fault = search (if_fault, label_twice_fault, in_order_fault, by_label_fault)
 
 below_fault : (ts : List Table) (c : Concatenation) → HasFormFault (below ts c)
 below_fault = search (if_fault, then_value_fault, on_fault, limited_fault, frames_below_fault)
 
 along_fault : (across : Bool) (ts : List Table) (c : Concatenation) → HasFormFault (along across ts c)
-along_fault = grind (arith, if_fault, finished_fault, below_fault)
+along_fault = grind (arith, if_fault, limited_fault, below_fault)
 
 concat_result_fault : (gs : List Given) → HasFormFault (concat_result gs)
 concat_result_fault = grind (arith, on_fault, of_length_fault, along_fault)
@@ -48,11 +57,11 @@ concat_call_fault gs = on_bound_fault (bound_of (function_parameters function.Co
 -- ---- groups
 
 shown_fault : (single : Bool) (t : Table) → HasFormFault (shown_as false single t)
-shown_fault = grind (arith, limited_fault, finished_fault)
+shown_fault = grind (arith, limited_fault)
 
 answer_fault : (t : Table) (g : Grouping) (v : Values) (call : GroupCall) → HasFormFault (group_answer t g v call)
-answer_fault t g v (groups.reduced op) = search (then_value_fault, try_all_fault, made_column_fault, if_fault, shown_fault, finished_fault)
-answer_fault t g v groups.size = search (if_fault, shown_fault, finished_fault)
+answer_fault t g v (groups.reduced op) = search (then_value_fault, try_all_fault, made_column_fault, if_fault, shown_fault, unless_repeated_fault, limited_fault)
+answer_fault t g v groups.size = search (if_fault, shown_fault, unless_repeated_fault, limited_fault)
 answer_fault t g v (groups.transformed op) = search (then_value_fault, try_all_fault, made_column_fault, shown_fault)
 answer_fault t g v groups.cumsum = search (then_value_fault, try_all_fault, made_column_fault, shown_fault)
 answer_fault t g v groups.cumcount = search shown_fault
@@ -117,7 +126,7 @@ met_labels_fault : {A : Type 0} (r : Result A (UnstackRefusal (List LabelValue))
 met_labels_fault = grind arith
 
 unstacked_fault : (t : Table) (level : ℕ) → HasFormFault (unstacked_at t level)
-unstacked_fault = search (then_value_fault, met_labels_fault, finished_fault)
+unstacked_fault = search (then_value_fault, met_labels_fault, limited_fault)
 
 pivoted_in_fault : (t : Table) (index columns values : Given) → HasFormFault (pivoted_in t index columns values)
 pivoted_in_fault = search (then_value_fault, argument_columns_fault, if_fault, on_fault, argument_column_fault)
@@ -135,7 +144,7 @@ labels_fault : (t : Table) (values : List ℕ) → HasFormFault (value_labels t 
 labels_fault = grind (arith, if_fault)
 
 melt_fault : (t : Table) (ids values : Given) → HasFormFault (melt_result t ids values)
-melt_fault = search (then_value_fault, melted_in_fault, labels_fault, on_fault, finished_fault)
+melt_fault = search (then_value_fault, melted_in_fault, labels_fault, on_fault, limited_fault)
 
 reshaped_fault : (m : ReshapeMethod) (gs : List Given) (t : Table) → HasFormFault (reshaped m gs t)
 reshaped_fault reshape.Stack gs t = search (on_fault, if_fault, limited_fault)

@@ -1,6 +1,6 @@
 -- Calls behind values and calls of functions of `pd` make valid tables of valid values and arguments.
 use Rattle.{
-  meaning_script.{proofs.{cells.Common.{◌≡◌, refl, ℕ, List, ◌<◌, [], ◌∷◌, length, map, length-append, arith, eqb-true, length-map, All-append, true, Option, Some, None, IfOk, nat_eq, slice_get, codes, IsSome, IfSome, All, position_or_len, Text}, tables.KindLaws.{kind_is}, call.ShapeLaws.{named_fits, of_frame}}, specs.{tables.{Table.{Table, column_at}, Value.{Entry, cell, table, NamedGiven, Given, object_in}, Valid.{IsValid}}, call.{declared.{Function.{Function}, Method.{Method, TheVariants.{Other}}, OtherMethod.TheVariants.{Merge}}, Signature.{method_names, fits_shape, parameters_of}, Binding.{argument_at, text_in}}, form.{Finish.{finished}, Select.{heading_at}}, method.{Calls.{ChainValue, plain, on_texts, grouped, rolling, expanding, table_call, plain_result, call_result, merge_call}, Functions.{made_by, made_named, function_result}, Rows.{all_places}, Merge.{MergeKeys, kinds_at, are_same_kinds, keys_of_merge, suffixed_heading, right_places, left_heading, right_heading, column_of_side, key_cell, joined_key_column, right_key, joined_or_left, left_column, merged, merged_rows, merge_result}}, join.{declared.{How.{How}, Validate.{Validate}}, Pairs.{Pair}}}},
+  meaning_script.{proofs.{cells.Common.{◌≡◌, refl, ℕ, List, ◌<◌, [], ◌∷◌, length, map, length-append, arith, eqb-true, length-map, All-append, true, Option, Some, None, IfOk, nat_eq, slice_get, codes, IsSome, IfSome, All, position_or_len, Text}, tables.KindLaws.{kind_is}, call.ShapeLaws.{named_fits, of_frame}}, specs.{tables.{Table.{Table, column_at}, Value.{Entry, cell, table, NamedGiven, Given, object_in}, Valid.{IsValid}}, call.{declared.{Function.{Function}, Method.{Method, TheVariants.{Other}}, OtherMethod.TheVariants.{Merge}}, Signature.{method_names, fits_shape, parameters_of}, Binding.{argument_at, text_in}}, form.{Finish.{limited}, Select.{heading_at}}, method.{Calls.{ChainValue, plain, on_texts, grouped, rolling, expanding, table_call, plain_result, call_result, merge_call}, Functions.{made_by, made_named, function_result}, Rows.{all_places}, Merge.{MergeKeys, kinds_at, are_same_kinds, keys_of_merge, suffixed_heading, right_places, left_heading, right_heading, column_of_side, key_cell, joined_key_column, right_key, joined_or_left, left_column, merged, merged_rows, how_named, validate_in, merge_result}}, join.{declared.{How.{How}, Validate.{Validate}}, Pairs.{Pair}}}},
   meaning_laws.{specs.Validity.{IsValidObject, IsValidEntry, AreValidArguments}, proofs.{ListLaws.{all_made, all_mapped, then_keeps, on_keeps, on_some_keeps}, Words.{Keeps, IsFrame, Name, Below}, TableLaws.{shaped, IsShaped, cells_held}, MethodLaws.{on_bound_keeps, called_keeps}, WindowLaws.{rolling_result_keeps, expanding_result_keeps}, StrLaws.{str_result_keeps}, ReshapeLaws.{reshaped_keeps}, CsvLaws.{read_result_keeps}, MakeLaws.{series_call_keeps, frame_call_keeps}, ConcatLaws.{concat_call_keeps}, ColumnLaws.{IsColumn, Held}, ReachLaws.{below_all, some_below}, InfixLaws.{gap_held}, GroupLaws.{AreLabels, frame_keeps, grouped_result_keeps}, SetLaws.{length_default, default_levels}, ArgumentLaws.{argument_valid, object_valid, frame_at, bound_taken}}},
 }
 use Rattle.meaning_script.specs.call.declared.Function.TheVariants as function
@@ -62,7 +62,7 @@ module _ (l r : Table) (s : IsShaped l) (w : IsShaped r) (is : IsFrame l) (is' :
       (search (all_mapped, left_held))
       (search (all_mapped, length-map, gap_held, cells_held))
 
-  merged_keeps : Keeps (finished (merged l r keys pairs))
+  merged_keeps : Keeps (limited (merged l r keys pairs))
   merged_keeps = grind (arith, frame_keeps, default_levels, length-map, length-append, length_default, merged_columns, merged_labels)
 
 rows_keep : (l r : Table) → IsShaped l → IsShaped r → IsFrame l → IsFrame r → (h : How) (once : Validate) (keys : MergeKeys) → AreKeys l r keys → Keeps (merged_rows l r h once keys)
@@ -77,8 +77,8 @@ pub merge_result_keeps : (l : Table) (right how labels once : Given) → IsShape
 merge_result_keeps l right how labels once s h =
     on_some_keeps IsShapedFrame IsValidEntry (object_in right) _ h
     (λ r w. on_keeps IsValidEntry (text_in how) _
-    (λ t. then_keeps _ _ _ _ (keys_are l r labels)
-    (λ keys are. rows_keep l r s.fits w.fits s.frame w.frame _ _ keys are)))
+    (λ t. then_keeps (AreKeys l r) IsValidEntry (keys_of_merge l r labels) _ (keys_are l r labels)
+    (λ keys are. rows_keep l r s.fits w.fits s.frame w.frame (how_named t) (validate_in (text_in once)) keys are)))
 
 both_fit : (o : Option Table) → IfSome o IsValid → IfSome o (λ t. IsFrame t) → IfSome o IsShapedFrame
 both_fit = grind arith

@@ -1,7 +1,7 @@
 -- `pd.concat` makes a valid table of valid ones.
 use Rattle.{
-  meaning_script.{proofs.{cells.Common.{◌≡◌, ◌≢◌, ◌∙◌, refl, sym, ap, ℕ, suc, ◌+◌, ◌<◌, List, [], ◌∷◌, length, map, filter, length-append, arith, eqb-true, false≢true, nat_tests, length-map, length-map-range_with_len, All-nil, All-cons, All-head, All-tail, All-filter, All-append, filter_passes, AllPairs-cons, AllPairs-filter, Bool, true, false, not, nat_lt, fold, slice_index_or, unwrap_or, Option, Some, None, IsSome, IfSome, Result, IfOk, All, Decides, list_all, flat_map, as_long, Kind, Shape, Series, Frame, ColumnValue, FaultValue, distinct}, align.OrderLaws.{all_flat, all_distinct}, tables.KindLaws.{kind_is}}, specs.{join.Concat.{same_kind, united, labels_under}, tables.{Table.{Table, column_at}, Valid.{IsValid, AreHeadings}, Value.{Entry, Given, NamedGiven, list_in}}, form.{Finish.{finished, same_heading, value_of_column}, Infix.{same_tuple, common_name}}, method.Concat.{Concatenation, tables_of, kept_names, level_names_of_all, columns_name_of_all, have_same_levels, labels_of_tables, RowAxis, rows_below, columns_below, column_under, column_or_missing, frame_column_below, is_series, table_below, finished_below, series_below, frames_below, are_series, are_frames, numbered_from, headings_beside, rows_met, columns_beside, table_beside, beside, with_keys, along, concatenated, concat_result, concat_call}}},
-  meaning_laws.{specs.Validity.{IsValidArgument, AreValidArguments}, proofs.{Words.{Has, AllOf, Keeps, Column, Name, Tuple, Cells, Apart, Levelled, IsFrame}, ListLaws.{both_true, all_pass, all_made, all_mapped, then_keeps, try_keeps, on_keeps, on_some_keeps, of_length_keeps}, ColumnLaws.{IsColumn, spread_column, Held, na_held}, TableLaws.{IsShaped, shaped, column_of_table, series_heading, frame_headings, one_column, label_decides}, InfixLaws.{columns_on}, GroupLaws.{AreLabels, frame_keeps}, SetLaws.{length_default, default_levels}, ArgumentLaws.{argument_valid}}},
+  meaning_script.{proofs.{cells.Common.{◌≡◌, ◌∙◌, refl, sym, ap, ℕ, suc, ◌+◌, ◌<◌, List, [], ◌∷◌, length, map, length-append, arith, eqb-true, nat_tests, length-map, length-map-range_with_len, length-range_with_len, All-nil, All-cons, All-head, All-tail, All-filter, All-append, Bool, true, false, not, nat_lt, fold, slice_index_or, unwrap_or, Option, Some, None, IsSome, IfSome, Result, IfOk, All, list_all, flat_map, pointwise, as_long, Kind, Shape, Series, Frame, ColumnValue, FaultValue}, align.OrderLaws.{all_flat, all_distinct}, tables.KindLaws.{kind_is}}, specs.{join.Concat.{same_kind, united, are_equal, labels_under}, tables.{Table.{Table, column_at}, Valid.{IsValid, AreHeadings}, Value.{Entry, Given, NamedGiven, list_in}}, form.{Finish.{limited, same_heading, value_of_column}, Infix.{same_tuple, common_name}}, method.Concat.{Concatenation, tables_of, kept_names, level_names_of_all, columns_name_of_all, have_same_levels, labels_of_tables, RowAxis, rows_below, columns_below, column_under, column_or_missing, frame_column_below, is_series, table_below, finished_below, series_below, frame_of_columns, headings_of_tables, placed_column_below, unless_label_twice, frames_below, are_series, are_frames, numbered_from, headings_beside, rows_met, columns_beside, table_beside, beside, with_keys, along, concatenated, concat_result, concat_call}}},
+  meaning_laws.{specs.Validity.{IsValidEntry, IsValidArgument, AreValidArguments}, proofs.{Words.{Has, AllOf, Keeps, Column, Name, Tuple, Cells, Levelled, IsFrame}, ListLaws.{both_true, all_pass, all_made, all_mapped, then_keeps, if_keeps, where_keeps, try_keeps, on_keeps, on_some_keeps, of_length_keeps}, ColumnLaws.{IsColumn, spread_column, Held, na_held}, TableLaws.{IsShaped, shaped, column_of_table, series_heading, frame_headings, one_column}, InfixLaws.{columns_on}, ReachLaws.{below_all}, GroupLaws.{AreLabels, frame_keeps}, SetLaws.{length_default, default_levels}, ArgumentLaws.{argument_valid}}},
 }
 
 abbrev AreShaped : List Table → Type 0
@@ -78,6 +78,9 @@ no_common (name ∷ names) = grind (arith, no_common names)
 abbrev HaveLevels : ℕ → List Table → Type 0
 HaveLevels n ts = All (λ t. Levelled n t.labels) ts
 
+same_have : (t : Table) (ts : List Table) → AreShaped (t ∷ ts) → have_same_levels (t ∷ ts) ≡ true → HaveLevels (length t.level_names) (t ∷ ts)
+same_have = grind (arith, all_pass, eqb-true)
+
 module _ (n : ℕ) (ts : List Table) (h : HaveLevels n ts) where
   labels_have : All (All (Has n)) (labels_of_tables ts)
   labels_have = all_made (λ t. Levelled n t.labels) (All (Has n)) (λ t. t.labels) (λ t k. k) ts h
@@ -127,27 +130,21 @@ all_series = grind (arith, all_pass)
 all_frames : (ts : List Table) → are_frames ts ≡ true → AreOf Frame ts
 all_frames = grind (arith, all_pass)
 
--- labels of columns that differ
-
-heading_decides : (a b : Name) → Decides (same_heading a b) (a ≡ b)
-heading_decides = grind (arith, label_decides)
+-- labels of columns
 
 module _ {K : Type 0} (same : K → K → Bool) where
-  distinct_apart : ((a b : K) → Decides (same a b) (a ≡ b)) → (xs : List K) → Apart (distinct same xs)
-  distinct_apart decides [] = grind arith
-  distinct_apart decides (x ∷ xs) =
-      let others = filter (λ q. not (same q x)) (distinct same xs) in
-      AllPairs-cons (λ a b. a ≢ b) x _
-      (grind (arith, false≢true, filter_passes))
-      (AllPairs-filter (λ a b. a ≢ b) (λ q. not (same q x)) _ (distinct_apart decides xs))
-
   united_all : (P : K → Type 0) (inner : Bool) (first : List K) (others : List (List K)) → All (All P) (first ∷ others) → All P (united same inner (first ∷ others))
   united_all P true first others h = All-filter _ P _ (All-head (All P) first others h)
   united_all P false first others h = search (all_distinct, all_flat)
 
-  united_apart : ((a b : K) → Decides (same a b) (a ≡ b)) → (inner : Bool) (first : List K) (others : List (List K)) → Apart first → Apart (united same inner (first ∷ others))
-  united_apart decides true first others h = AllPairs-filter (λ a b. a ≢ b) _ _ h
-  united_apart decides false first others h = search distinct_apart
+long_parts : (hs : List Name) (ts : List Table) → list_all (pointwise same_heading hs) (headings_of_tables ts) ≡ true → All (λ u. length u.headings ≡ length hs) ts
+long_parts hs [] e = All-nil (λ u. length u.headings ≡ length hs)
+long_parts hs (u ∷ ts) e =
+    let both = both_true _ _ e in
+    All-cons (λ (u : Table). length u.headings ≡ length hs) u ts (sym (as_long same_heading hs u.headings both.0)) (long_parts hs ts both.1)
+
+label_keeps : (again : Option Tuple) (rest : Result Entry FaultValue) → Keeps rest → Keeps (unless_label_twice again rest)
+label_keeps = grind arith
 
 module _ (t : Table) (ts : List Table) (s : AreShaped (t ∷ ts)) (c : Concatenation) where
   abbrev all : List Table
@@ -171,15 +168,29 @@ module _ (t : Table) (ts : List Table) (s : AreShaped (t ∷ ts)) (c : Concatena
         (below_held (λ u. column_at u.columns 0) all (λ k d lt. let u = slice_index_or all k d in column_of_table u (s k d lt) 0 (omega (arith, one_column u (s k d lt) (are k d lt)))))
         (λ column held. below_keeps _ _ (column ∷ []) (series_heading _ _ _ refl nameless) refl (All-cons (IsColumn rows) column [] held (All-nil (IsColumn rows))))
 
-    frames_keep : AreOf Frame all → Keeps (frames_below all c (united same_heading c.inner (map (λ u. u.headings) all)))
+    -- a column for each heading
+    module _ {X : Type 0} (hs : List Name) (some : All IsSome hs) (f : X → Result Column FaultValue) (xs : List X) (size : length xs ≡ length hs) where
+      columns_keep : (P : X → Type 0) → ((x : X) → P x → IfOk (f x) (IsColumn rows)) → All P xs → Keeps (frame_of_columns all c hs f xs)
+      columns_keep P held inside =
+          then_keeps (AllOf (IsColumn rows) (length xs)) _ _ _
+          (try_keeps P _ f held xs inside)
+          (λ columns made. below_keeps _ hs columns (frame_headings _ _ hs refl some) (sym size ∙ sym made.0) made.1)
+
+    -- columns at a place that all parts have
+    placed_held : (place : ℕ) → place < length t.headings → All (λ u. length u.headings ≡ length t.headings) ts → IfOk (placed_column_below all place) (IsColumn rows)
+    placed_held place lt long =
+        let same = All-cons (λ (u : Table). length u.headings ≡ length t.headings) t ts refl long in
+        below_held (λ u. column_at u.columns place) all
+        (λ k d within. let u = slice_index_or all k d in column_of_table u (s k d within) place (omega (arith, lt, same k d within, (s k d within).headed)))
+
+    frames_keep : AreOf Frame all → Keeps (frames_below all c)
     frames_keep are =
-        let hs = united same_heading c.inner (map (λ u. u.headings) all) in
         let labelled = all_made (λ u. IsShaped u × (IsFrame u)) _ (λ u. u.headings) (λ u both. both.0.headings.labelled both.1) all (λ k d lt. (s k d lt, are k d lt)) in
-        let some : All IsSome hs = search united_all in
-        let apart = united_apart _ heading_decides c.inner _ _ (grind arith) in
-        then_keeps (AllOf (IsColumn rows) (length hs)) _ _ _
-        (try_keeps (λ h. Unit {0}) _ _ (λ h _. frame_column_held all h s) hs _)
-        (λ columns made. below_keeps _ hs _ (frame_headings _ _ hs refl some apart) (sym made.0) made.1)
+        let some = All-head (All IsSome) _ _ labelled in
+        let hs = united same_heading c.inner (headings_of_tables all) in
+        if_keeps IsValidEntry _ _ _
+        (λ e. columns_keep t.headings some (placed_column_below all) _ (length-range_with_len 0 _) (λ place. place < length t.headings) (λ place lt. placed_held place lt (long_parts t.headings ts e)) (below_all (length t.headings)))
+        (λ e. label_keeps _ _ (columns_keep hs (united_all same_heading IsSome c.inner _ _ labelled) (frame_column_below all) hs refl (λ h. Unit {0}) (λ h _. frame_column_held all h s) (λ k d lt. tt)))
 
 -- side by side
 
@@ -211,7 +222,7 @@ module _ (labels : List Tuple) where
 
 module _ (t : Table) (ts : List Table) where
   module _ (s : AreShaped (t ∷ ts)) (renumbered : Bool) where
-    beside_keeps : (labels : List Tuple) → Levelled (length t.level_names) labels → Keeps (finished (table_beside (t ∷ ts) renumbered labels))
+    beside_keeps : (labels : List Tuple) → Levelled (length t.level_names) labels → Keeps (limited (table_beside (t ∷ ts) renumbered labels))
     beside_keeps labels has =
         let own : IsShaped t = grind arith in
         search (names_count, frame_keeps, headings_count, beside_count, all_flat, beside_held, headings_some)
@@ -219,16 +230,21 @@ module _ (t : Table) (ts : List Table) where
   beside_all_keeps : (c : Concatenation) → AreShaped (t ∷ ts) → Keeps (beside (t ∷ ts) c)
   beside_all_keeps c s =
       let n = length t.level_names in
-      let has : have_same_levels (t ∷ ts) ≡ true → All (Levelled n) (labels_of_tables (t ∷ ts)) = λ e. labels_have n (t ∷ ts) (grind (arith, all_pass, eqb-true)) in
-      let all : have_same_levels (t ∷ ts) ≡ true → Levelled n (united same_tuple c.inner (labels_of_tables (t ∷ ts))) = λ e. united_all same_tuple (Has n) c.inner _ _ (has e) in
-      let own = (All-head IsShaped t ts s).levels in
-      grind (arith, beside_keeps)
+      if_keeps IsValidEntry (are_equal same_tuple (labels_of_tables (t ∷ ts))) _ _
+      (λ equal. beside_keeps s c.renumbered t.labels (All-head IsShaped t ts s).levels)
+      (λ other. where_keeps IsValidEntry (have_same_levels (t ∷ ts)) _ _
+      (λ same. label_keeps _ _ (beside_keeps s c.renumbered _ (united_all same_tuple (Has n) c.inner _ _ (labels_have n (t ∷ ts) (same_have t ts s same))))))
 
 -- along either axis
 
 along_keeps : (across : Bool) (t : Table) (ts : List Table) (c : Concatenation) → AreShaped (t ∷ ts) → AreKeys (length (t ∷ ts)) c.renumbered c.keys → Keeps (along across (t ∷ ts) c)
 along_keeps true t ts c s keys = beside_all_keeps t ts c s
-along_keeps false t ts c s keys = grind (arith, series_keep, all_pass, eqb-true, all_series, frames_keep, all_frames)
+along_keeps false t ts c s keys =
+    let all = t ∷ ts in
+    if_keeps IsValidEntry (are_series all) _ _
+    (λ series. where_keeps IsValidEntry (have_same_levels all) _ _ (λ same. series_keep t ts s c (same_have t ts s same) keys (all_series all series)))
+    (λ other. where_keeps IsValidEntry (are_frames all) _ _
+    (λ frames. where_keeps IsValidEntry (have_same_levels all) _ _ (λ same. frames_keep t ts s c (same_have t ts s same) keys (all_frames all frames))))
 
 with_keys_keep : (count : ℕ) (across renumbered : Bool) (keys : Option Tuple) (rest : Result Entry FaultValue) → (AreKeys count renumbered keys → Keeps rest) → Keeps (with_keys count across renumbered keys rest)
 with_keys_keep = grind (arith, of_length_keeps)

@@ -1,8 +1,7 @@
 -- A file of comma-separated values reads as a valid frame.
 use Rattle.{
-  meaning_script.{proofs.{cells.Common.{◌≡◌, ◌≢◌, refl, ap, ℕ, suc, List, [], ◌∷◌, length, map, arith, nat_tests, length-map, All-nil, AllPairs-cons, bytes_eq-Decides, Bool, true, false, if◌then◌else◌, slice_get, unwrap_or, Option, Some, IsSome, IfSome, Result, IfOk, All, AllPairs, IsDistinct, AllByRecursion, with_text, Text, same_text, CellValue, na_cell, text_cell, LabelValue, text, Kind, cast_cell}, csv.DifferentLaws.{labels_differ}}, specs.{tables.Value.{NamedGiven}, csv.CsvRead.{CsvValue, CsvRefusal, is_missing, cell_of_field, column_of_fields, columns_from, labels_after, labels_of, labelled_columns, columns_of_rows, columns_of_records, columns_of_file}, method.Readers.{frame_of_columns, frame_or_fault, read_result}}},
-  std.proofs.lemmas.Map.Keys.{IsDistinct-head, IsDistinct-tail},
-  meaning_laws.{specs.Validity.{IsValidEntry}, proofs.{ListLaws.{both_true, both_ways, all_mapped}, ColumnLaws.{IsColumn, Held, cast_held}, TableLaws.{IsShaped, valid, frame_headings}, SetLaws.{length_default, default_levels}}},
+  meaning_script.{proofs.cells.Common.{◌≡◌, refl, ap, ℕ, suc, List, [], ◌∷◌, length, map, arith, nat_tests, length-map, All-nil, Bool, true, false, if◌then◌else◌, slice_get, unwrap_or, Option, Some, IsSome, IfSome, Result, IfOk, All, with_text, Text, CellValue, na_cell, text_cell, LabelValue, text, Kind, cast_cell}, specs.{tables.Value.{NamedGiven}, csv.CsvRead.{CsvValue, CsvRefusal, is_missing, cell_of_field, column_of_fields, columns_from, labels_after, labels_of, labelled_columns, columns_of_rows, columns_of_records, columns_of_file}, method.Readers.{frame_of_columns, frame_or_fault, read_result}}},
+  meaning_laws.{specs.Validity.{IsValidEntry}, proofs.{ListLaws.{both_true, all_mapped}, ColumnLaws.{IsColumn, Held, cast_held}, TableLaws.{IsShaped, valid, frame_headings}, SetLaws.{length_default, default_levels}}},
 }
 
 -- fields
@@ -43,33 +42,19 @@ label_of l = text l ∷ []
 abbrev headings_of : List Text → List (Option LabelValue)
 headings_of labels = map heading_of (map label_of labels)
 
-text_in : Option LabelValue → Text
-text_in (Some (text t)) = t
-text_in o = []
-
-others_differ : (l : Text) (ls : List Text) → AllByRecursion (λ m. same_text l m ≡ false) ls → All (λ h. Some (text l) ≢ h) (headings_of ls)
-unfolding text_in
-others_differ l [] h = grind arith
-others_differ l (m ∷ ms) h = grind (arith, both_ways, bytes_eq-Decides, text_in, others_differ l ms h.1)
-
-headings_differ : (labels : List Text) → IsDistinct same_text labels → AllPairs (λ a b. a ≢ b) (headings_of labels)
-headings_differ [] h = grind arith
-headings_differ (l ∷ ls) h =
-    AllPairs-cons (λ a b. a ≢ b) (Some (text l)) _ (others_differ l ls (IsDistinct-head _ l ls h)) (headings_differ ls (IsDistinct-tail _ l ls h))
-
 headings_some : (labels : List Text) → All IsSome (headings_of labels)
 headings_some [] = All-nil IsSome
 headings_some (l ∷ ls) = grind (arith, headings_some ls)
 
-frame_shaped : (labels : List Text) (kinds : List (Option Kind)) (rows : List (List Text)) → length kinds ≡ length labels → IsDistinct same_text labels → IsShaped (frame_of_columns (labelled_columns labels kinds rows))
-frame_shaped = grind (arith, default_levels, length-map, length_columns, length_default, columns_are, frame_headings, headings_some, headings_differ)
+frame_shaped : (labels : List Text) (kinds : List (Option Kind)) (rows : List (List Text)) → length kinds ≡ length labels → IsShaped (frame_of_columns (labelled_columns labels kinds rows))
+frame_shaped = grind (arith, default_levels, length-map, length_columns, length_default, columns_are, frame_headings, headings_some)
 
 -- the tables that are read
 abbrev IsRead : Result CsvValue CsvRefusal → Type 0
 IsRead r = IfOk (frame_or_fault r) IsValidEntry
 
 rows_read : (header : List Text) (kinds : List (Option Kind)) (rows : List (List Text)) → length kinds ≡ length (labels_of header) → IsRead (columns_of_rows (labels_of header) kinds rows)
-rows_read = grind (arith, length_after, both_true, nat_tests, labels_differ, valid, frame_shaped, length_default, length_columns)
+rows_read = grind (arith, length_after, both_true, nat_tests, valid, frame_shaped, length_default, length_columns)
 
 records_read : (kinds : List (Text × Kind)) (records : List (List Text)) → IsRead (columns_of_records kinds records)
 records_read = grind (arith, rows_read, length-map)

@@ -1,6 +1,6 @@
 -- No form on values has the fault that a file isn't there.
 use Rattle.{
-  meaning_script.{proofs.cells.Common.{arith, ℕ, Bool, true, false, List, [], ◌∷◌, Option, Result, Err, if◌then◌else◌, Shape, Series, Frame, CellValue, LabelValue, ColumnValue, ColumnFault, FaultValue, wrong_kind, bad_value, not_aligned, then_value, Binary}, specs.{align.Faults.{AlignRefusal, met_rows}, tables.{Table.{ColumnOf, Table, column_at}, Value.{Entry, cell, table, Given, NamedGiven}}, call.{Binding.{Bound, on_bound}, Functions.{series_call, frame_call}}, form.{Finish.{column_labels, limited_table, limited, unless_repeated, finished, made_column, try_all}, Select.{found, argument_column, argument_columns, selected_column, selected_columns, length_result}, Infix.{Meeting, has_one, same_tuple, compares, infix_table, on_levels, rows_infix, joined_frames, frame_infix, takes_each, labels_fit, spread_frame, joined_turned, across_unequal, across_infix, table_infix, infix_result, sign_result}, Set.{of_length}, Make.{on, all_of_length}}, method.Readers.{csv_result, read_result}}},
+  meaning_script.{proofs.cells.Common.{arith, ℕ, Bool, true, false, List, [], ◌∷◌, Option, Result, Ok, Err, if◌then◌else◌, Shape, Series, Frame, CellValue, LabelValue, ColumnValue, ColumnFault, FaultValue, wrong_kind, bad_value, not_aligned, then_value, Binary}, specs.{align.Faults.{AlignRefusal, met_rows}, tables.{Table.{ColumnOf, Table, column_at}, Value.{Entry, cell, table, Given, NamedGiven}}, call.{Binding.{Bound, on_bound}, Functions.{series_call, frame_call}}, form.{Finish.{column_labels, limited_table, limited, unless_repeated, made_column, try_all}, Select.{found, place_of_label, first_column, first_columns, label_of_several, unless_several, argument_column, argument_columns, length_result}, Infix.{Meeting, has_one, same_tuple, compares, infix_table, on_levels, rows_infix, joined_frames, unequal_frames, frame_infix, takes_each, labels_fit, spread_frame, joined_turned, across_unequal, across_infix, table_infix, infix_result, sign_result}, Set.{of_length}, Make.{on, all_of_length}}, method.Readers.{csv_result, read_result}}},
   meaning_laws.specs.FormFault.{HasFormFault},
 }
 
@@ -23,9 +23,6 @@ limited_fault t = then_value_fault _ _ (limited_table_fault t) (λ made. tt)
 pub unless_repeated_fault : {A : Type 0} (again : Option LabelValue) (rest : Result A FaultValue) → HasFormFault rest → HasFormFault (unless_repeated again rest)
 unless_repeated_fault = grind arith
 
-pub finished_fault : (t : Table) → HasFormFault (finished t)
-finished_fault t = unless_repeated_fault _ _ (limited_fault t)
-
 pub made_column_fault : (r : Result ColumnValue ColumnFault) → HasFormFault (made_column r)
 made_column_fault = grind arith
 
@@ -37,17 +34,16 @@ try_all_fault f (x ∷ xs) each = search (then_value_fault, try_all_fault f xs e
 pub found_fault : (l : LabelValue) (place : Option ℕ) → HasFormFault (found l place)
 found_fault = grind arith
 
-pub argument_column_fault : (t : Table) (l : LabelValue) → HasFormFault (argument_column t l)
-argument_column_fault t l = found_fault l _
+pub first_columns_fault : (t : Table) (ls : List LabelValue) → HasFormFault (first_columns t ls)
+first_columns_fault t ls = try_all_fault (first_column t) ls (λ l. found_fault l (place_of_label t.headings l))
 
-pub selected_column_fault : (t : Table) (l : LabelValue) → HasFormFault (selected_column t l)
-selected_column_fault t l = found_fault l _
+pub argument_column_fault : (t : Table) (l : LabelValue) → HasFormFault (argument_column t l)
+argument_column_fault t l =
+    then_value_fault (first_column t l) (λ place. unless_several t (l ∷ []) (Ok place)) (found_fault l (place_of_label t.headings l)) (λ place. unless_repeated_fault (label_of_several t (l ∷ [])) (Ok place) tt)
 
 pub argument_columns_fault : (t : Table) (ls : List LabelValue) → HasFormFault (argument_columns t ls)
-argument_columns_fault t _ = try_all_fault _ _ (argument_column_fault t)
-
-pub selected_columns_fault : (t : Table) (ls : List LabelValue) → HasFormFault (selected_columns t ls)
-selected_columns_fault t _ = try_all_fault _ _ (selected_column_fault t)
+argument_columns_fault t ls =
+    then_value_fault (first_columns t ls) (λ places. unless_several t ls (Ok places)) (first_columns_fault t ls) (λ places. unless_repeated_fault (label_of_several t ls) (Ok places) tt)
 
 pub length_result_fault : (v : Entry) → HasFormFault (length_result v)
 length_result_fault = grind arith
@@ -66,10 +62,13 @@ rows_infix_fault : (op : Binary) (a b t : Table) → HasFormFault (rows_infix op
 rows_infix_fault = search (on_levels_fault, if_fault, infix_table_fault, then_value_fault, met_rows_fault)
 
 joined_frames_fault : (op : Binary) (a b : Table) → HasFormFault (joined_frames op a b)
-joined_frames_fault = search (then_value_fault, met_rows_fault, on_levels_fault, if_fault, rows_infix_fault)
+joined_frames_fault = search (then_value_fault, met_rows_fault, rows_infix_fault)
+
+unequal_frames_fault : (op : Binary) (a b : Table) → HasFormFault (unequal_frames op a b)
+unequal_frames_fault = search (on_levels_fault, if_fault, unless_repeated_fault, joined_frames_fault)
 
 frame_infix_fault : (op : Binary) (a b : Table) → HasFormFault (frame_infix op a b)
-frame_infix_fault = search (if_fault, rows_infix_fault, joined_frames_fault)
+frame_infix_fault = search (if_fault, rows_infix_fault, unequal_frames_fault)
 
 joined_turned_fault : (op : Binary) (left : Bool) (f g : Table) → HasFormFault (joined_turned op left f g)
 joined_turned_fault = grind (arith, joined_frames_fault)

@@ -1,8 +1,8 @@
 -- Calls behind `groupby` make valid tables of valid ones.
 use Rattle.{
-  meaning_script.{proofs.{cells.Common.{rules, ◌≡◌, refl, ℕ, ◌<◌, ◌≤◌, List, [], ◌∷◌, length, map, arith, nat_tests, length-map, All-filter, All-append, Bool, true, false, slice_index_or, codes, Option, Some, None, IsSome, Result, IfOk, All, Shape, Series, Frame, Text, CellValue, na_cell, Kind, Int64, ColumnValue, ColumnFault, cell_label, cumulation_takes, FaultValue}, align.OrderLaws.{all_in_order, all_distinct}}, specs.{tables.{Table.{Table, column_at}, Value.{Entry, Given, GivenList, NamedGiven}}, call.Binding.{Bound}, form.{Finish.{finished, default_labels, value_of_column, column_of_value, made_column}, Select.{argument_columns, labels_of}}, select.Select.{shown_as}, group.{Keys.{KeyRules, is_kept, ordered_if, group_keys}, Rows.{GroupsValue, cells_of_group, rows_of_group}, Reductions.{GroupReduction, earlier, later, group_cell, group_kind, reduced_cells, column_if_taken, reduce_groups, transform_groups, of_group, running_cell, cumsum_groups, group_sizes, group_places}}, method.{Rows.{labels_in}, Groups.{Grouping, Values, GroupCall, reduced, size, transformed, cumsum, cumcount, row_keys, keys_of, groups_of, each_of, under_keys, key_column, beside_keys, grouped_rows, same_rows, headings_of, group_answer, of_bound, grouping_in, grouping_of, values_named, values_in, group_call_of, grouped_frame, grouped_of, grouped_result}}}},
+  meaning_script.{proofs.{cells.Common.{rules, ◌≡◌, refl, ℕ, ◌<◌, ◌≤◌, List, [], ◌∷◌, length, map, arith, nat_tests, length-map, All-filter, All-append, Bool, true, false, slice_index_or, codes, Option, Some, None, IsSome, Result, IfOk, All, Shape, Series, Frame, Text, CellValue, na_cell, Kind, Int64, ColumnValue, ColumnFault, cell_label, cumulation_takes, FaultValue}, align.OrderLaws.{all_in_order, all_distinct}}, specs.{tables.{Table.{Table, column_at}, Value.{Entry, Given, GivenList, NamedGiven}}, call.Binding.{Bound}, form.{Finish.{limited, default_labels, value_of_column, column_of_value, made_column}, Select.{argument_columns, labels_of}}, select.Select.{shown_as}, group.{Keys.{KeyRules, is_kept, ordered_if, group_keys}, Rows.{GroupsValue, cells_of_group, rows_of_group}, Reductions.{GroupReduction, earlier, later, group_cell, group_kind, reduced_cells, column_if_taken, reduce_groups, transform_groups, of_group, running_cell, cumsum_groups, group_sizes, group_places}}, method.{Rows.{labels_in}, Groups.{Grouping, Values, GroupCall, reduced, size, transformed, cumsum, cumcount, row_keys, keys_of, groups_of, each_of, under_keys, key_column, beside_keys, grouped_rows, same_rows, headings_of, group_answer, of_bound, grouping_in, grouping_of, values_named, values_in, group_call_of, grouped_frame, grouped_of, grouped_result}}}},
   std.proofs.lemmas.List.{length-append},
-  meaning_laws.{specs.Validity.{IsValidObject, IsValidEntry}, proofs.{Words.{AllOf, Keeps, Column, Name, Tuple, Cells, Below, Levelled, IsFrame}, ListLaws.{all_made, all_mapped, all_tabulated, length_tabulate, at_or, then_keeps, any_then, try_keeps, if_keeps}, ColumnLaws.{IsColumn, if_made, Held, wrap_fits, fold_keeps, unless_held, reduction_held, cumulation_held}, TableLaws.{IsShaped, some_labelled, column_of_table, different, argument_column_found}, ReachLaws.{some_below}, RowLaws.{cells_have}, SetLaws.{length_default, default_levels}, InfixLaws.{gap_held}}},
+  meaning_laws.{specs.Validity.{IsValidObject, IsValidEntry}, proofs.{Words.{AllOf, Keeps, Column, Name, Tuple, Cells, Below, Levelled, IsFrame}, ListLaws.{all_made, all_mapped, all_tabulated, length_tabulate, at_or, then_keeps, any_then, try_keeps, if_keeps}, ColumnLaws.{IsColumn, if_made, Held, wrap_fits, fold_keeps, unless_held, reduction_held, cumulation_held}, TableLaws.{IsShaped, some_labelled, column_of_table, unless_keeps, argument_column_found, argument_columns_found}, ReachLaws.{some_below}, RowLaws.{cells_have}, SetLaws.{length_default, default_levels}, InfixLaws.{gap_held}}},
 }
 use Rattle.meaning_script.specs.cells.Reduce as reduction
 use Rattle.meaning_script.specs.cells.Cumulate as cumulation
@@ -92,8 +92,8 @@ one_heading (h ∷ []) e = (h, refl)
 one_heading _ e = grind arith
 
 module _ (t : Table) (b : IsBody t) where
-  pub frame_keeps : AreLabels t.headings → Keeps (finished t)
-  frame_keeps = grind (arith, different)
+  pub frame_keeps : AreLabels t.headings → Keeps (limited t)
+  frame_keeps = grind arith
 
   series_keeps : length t.headings ≡ 1 → Keeps (shown_as false true t)
   series_keeps = grind (arith, one_heading)
@@ -136,7 +136,7 @@ module _ (t : Table) (g : Grouping) where
   rows_keep single hs columns s is k headed held one labels others =
       if_keeps _ _ _ _
       (λ e. shown_keeps _ _ (under_body hs _ k.some (k.few e) headed held) one (labels e))
-      (λ e. frame_keeps _ (beside_body hs _ s k.keys headed held) (All-append IsSome (headings_of t g.keys) hs (some_labelled t s is g.keys k.keys) (others e)))
+      (λ e. unless_keeps IsValidEntry _ _ (frame_keeps _ (beside_body hs _ s k.keys headed held) (All-append IsSome (headings_of t g.keys) hs (some_labelled t s is g.keys k.keys) (others e))))
 
 pub one_column : (rows : ℕ) (c : Column) → IsColumn rows c → All (IsColumn rows) (c ∷ [])
 one_column = grind arith
@@ -182,7 +182,7 @@ of_bound_keeps P = grind arith
 
 pub places_found : (t : Table) → IsShaped t → (ls : Tuple) → IfOk (argument_columns t ls) (AreBelow t)
 places_found t s ls =
-    let found : IfOk (argument_columns t ls) (λ places. (length places ≡ length ls) × Below (length t.headings) places) = try_keeps (λ _. Unit {0}) _ _ (λ l _. argument_column_found t l) ls (λ k d lt. tt) in
+    let found = argument_columns_found t ls in
     let headed = s.headed in
     grind arith
 

@@ -1,7 +1,7 @@
 -- Operators make valid tables of valid values.
 use Rattle.{
-  meaning_script.{proofs.{cells.Common.{◌≡◌, ◌∙◌, refl, ap, sym, subst, ℕ, suc, List, [], ◌∷◌, length, arith, ◌≢◌, pos, map, length-map, get_or-map, All-head, All-tail, replicate, Bool, true, false, if◌then◌else◌, Option, Some, None, Result, Ok, Err, IfOk, All, unwrap_or, IsSome, Decides, pointwise_decides, as_long, Shape, Series, Frame, CellValue, na_cell, Kind, int, gap_cell, taken, Binary, FaultValue, bad_value, not_aligned, then_value}, align.{DifferLaws.{joined_apart}, InsideLaws.{IsRowOf, AreInside, joined_inside}}}, specs.{align.Faults.{AlignRefusal, met_rows}, tables.{Table.{Table, column_at}, Valid.{IsValid, within_limits}, Value.{Entry, cell, table}}, form.{Finish.{same_heading, with_columns, column_labels, first_repeated, column_of_value}, Infix.{Meeting, met, infix_table, with_scalar, beside, across, turned, scalar_infix, on_levels, same_tuple, are_headings, same_count, common_name, common_names, first_heading, Joined, joined_rows, on_rows, with_joined, joined_infix, unequal_infix, rows_infix, series_infix, common_infix, unequal_columns, wide_infix, joined_frames, frame_infix, spread_frame, joined_turned, across_unequal, across_infix, table_infix, infix_result, inverted_column, inverted, sign_result, tuple_heading, column_or_missing, columns_or_missing, on_columns, spread, spread_series}}}},
-  meaning_laws.{specs.Validity.{IsValidObject, IsValidEntry}, proofs.{Words.{Has, AllOf, Keeps, Column, Name, Tuple, Cells, IsFrame, IsSeries, Apart, Levelled}, ListLaws.{both_true, all_made, all_mapped, at_or, try_keeps}, ColumnLaws.{columns_meet, side, IsColumn, IsMeeting, met_keeps, scalar_meets, inverted_keeps, spread_column, Held, na_held}, TableLaws.{IsShaped, shaped, column_of_table, series_heading, frame_headings, one_column, label_decides, different}}},
+  meaning_script.{proofs.{cells.Common.{◌≡◌, ◌∙◌, refl, ap, sym, subst, ℕ, suc, List, [], ◌∷◌, length, arith, map, length-map, All-head, All-tail, replicate, Bool, true, false, if◌then◌else◌, Option, Some, None, Result, Ok, Err, IfOk, All, IsSome, Decides, pointwise_decides, as_long, Shape, Series, Frame, CellValue, na_cell, Kind, gap_cell, taken, Binary, FaultValue, wrong_kind, bad_value, not_aligned, then_value}, align.InsideLaws.{IsRowOf, AreInside, joined_inside}}, specs.{align.Faults.{AlignRefusal, met_rows}, tables.{Table.{Table, column_at}, Valid.{IsValid, within_limits}, Value.{Entry, cell, table}}, form.{Finish.{same_heading, with_columns, column_labels, column_of_value}, Infix.{Meeting, met, infix_table, with_scalar, beside, across, turned, scalar_infix, on_levels, same_tuple, are_headings, same_count, has_one, compares, takes_each, labels_fit, common_name, common_names, first_heading, Joined, joined_rows, on_rows, with_joined, joined_infix, unequal_infix, rows_infix, series_infix, common_infix, wide_infix, joined_frames, unequal_frames, frame_infix, spread_frame, joined_turned, across_unequal, across_infix, table_infix, infix_result, inverted_column, inverted, sign_result, tuple_heading, column_or_missing, columns_or_missing, on_columns, spread, spread_series}}}},
+  meaning_laws.{specs.Validity.{IsValidObject, IsValidEntry}, proofs.{Words.{Has, AllOf, Keeps, Column, Name, Tuple, Cells, IsFrame, IsSeries, Levelled}, ListLaws.{both_true, all_made, all_mapped, at_or, try_keeps}, ColumnLaws.{columns_meet, side, IsColumn, IsMeeting, met_keeps, scalar_meets, inverted_keeps, spread_column, Held, na_held}, TableLaws.{IsShaped, shaped, column_of_table, series_heading, frame_headings, one_column, label_decides}}},
 }
 
 -- tuples of equal labels are the same
@@ -9,35 +9,15 @@ pub tuple_decides : (a b : Tuple) → Decides (same_tuple a b) (a ≡ b)
 tuple_decides a b = pointwise_decides label_decides a b
 
 -- the labels of a frame's columns as tuples
-abbrev label_tuple : Name → Tuple
-label_tuple h = unwrap_or h (int (pos 0)) ∷ []
-
 pub labels_single : (t : Table) → Levelled 1 (column_labels t)
 labels_single = search all_mapped
 
 pub labels_many : (t : Table) → IsShaped t → length (column_labels t) ≡ length t.columns
 labels_many t s = search length-map
 
-tuple_apart : (g h : Name) → IsSome g → IsSome h → g ≢ h → label_tuple g ≢ label_tuple h
-tuple_apart = grind arith
-
-pub labels_apart : (t : Table) → IsShaped t → IsFrame t → Apart (column_labels t)
-labels_apart t s is =
-    let at = λ (k : ℕ) (d : Tuple). get_or-map label_tuple t.headings k None d in
-    grind (arith, length-map, tuple_apart)
-
 -- and the headings that tuples are
 heading_some : (tuple : Tuple) → length tuple ≡ 1 → IsSome (tuple_heading tuple)
 heading_some = grind arith
-
-heading_apart : (s t : Tuple) → length s ≡ 1 → length t ≡ 1 → s ≢ t → tuple_heading s ≢ tuple_heading t
-heading_apart (l ∷ []) (k ∷ []) = grind arith
-heading_apart _ _ = grind arith
-
-keys_apart : (keys : List Tuple) → Levelled 1 keys → Apart keys → Apart (map tuple_heading keys)
-keys_apart keys single apart =
-    let at = λ (k : ℕ) (d : Name). get_or-map tuple_heading keys k [] d in
-    grind (arith, length-map, heading_apart)
 
 -- a frame under joined labels
 module _ (own other : Table) (keys : List Tuple) (places opposites : List (Option ℕ)) where
@@ -49,9 +29,9 @@ module _ (own other : Table) (keys : List Tuple) (places opposites : List (Optio
       go (p ∷ ps) [] same = search
       go (p ∷ ps) (o ∷ os) same = ap suc (go ps os (omega (arith, same)))
 
-  pub wide_shaped : IsShaped own → own.shape ≡ Frame → Levelled 1 keys → Apart keys → length places ≡ length keys → length opposites ≡ length keys → All (IsRowOf (length own.columns)) places
+  pub wide_shaped : IsShaped own → own.shape ≡ Frame → Levelled 1 keys → length places ≡ length keys → length opposites ≡ length keys → All (IsRowOf (length own.columns)) places
       → IsShaped (on_columns own other keys places opposites)
-  wide_shaped s is single apart many many' inside = search (length-map, length_wide, frame_headings, all_made, heading_some, keys_apart, go)
+  wide_shaped s is single many many' inside = search (length-map, length_wide, frame_headings, all_made, heading_some, go)
     where
       column : (p o : Option ℕ) → IsRowOf (length own.columns) p → IsColumn (length own.labels) (column_or_missing na_cell (length own.labels) own.columns other.columns p o)
       column (Some p) o within = column_of_table own s p within
@@ -67,12 +47,12 @@ module _ (own other : Table) (keys : List Tuple) (places opposites : List (Optio
           grind arith
 
 -- a Series in each row of a frame
-pub spread_shaped : (f s : Table) → IsShaped f → IsShaped s → IsFrame f → IsSeries s → length s.level_names ≡ 1 → first_repeated (spread_series f s).headings ≡ None → IsShaped (spread_series f s)
-spread_shaped f s h k is is' one none =
+pub spread_shaped : (f s : Table) → IsShaped f → IsShaped s → IsFrame f → IsSeries s → length s.level_names ≡ 1 → IsShaped (spread_series f s)
+spread_shaped f s h k is is' one =
     let held : All (Held (column_at s.columns 0).kind) (column_at s.columns 0).cells = grind (arith, column_of_table) in
     let columns = all_made _ (IsColumn (length f.labels)) (λ x. column_of_value (spread (column_at s.columns 0).kind (length f.labels) x)) (λ x held. spread_column _ _ x held) (column_at s.columns 0).cells held in
     let some : All IsSome (map tuple_heading s.labels) = all_made (Has 1) IsSome tuple_heading heading_some s.labels (grind arith) in
-    grind (arith, length-map, frame_headings, different)
+    grind (arith, length-map, frame_headings)
 
 -- operators
 -- as many meetings as columns, all of the table's rows
@@ -118,6 +98,9 @@ length_across count kind _ _ e = grind arith
 across_meet : (rows : ℕ) (kind : Kind) (as' : List Column) (cells : Cells) → All (IsColumn rows) as' → All (Held kind) cells → All (IsMeeting rows) (across rows kind as' cells)
 across_meet rows kind (a ∷ as') (c ∷ cs) h k = grind (arith, side rows a.kind a.cells, side rows kind (replicate rows c), spread_column kind rows c, across_meet rows kind as' cs (All-tail (IsColumn rows) a as' h) (All-tail (Held kind) c cs k), h 0 a, k 0 c)
 across_meet rows kind _ _ h k = grind arith
+
+one_level : (names : List Name) → has_one names ≡ true → length names ≡ 1
+one_level = grind arith
 
 levels_keep : (kinds equal : Bool) (rest : Result Entry FaultValue) → Keeps rest → Keeps (on_levels kinds equal rest)
 levels_keep = grind arith
@@ -221,9 +204,6 @@ module _ (op : Binary) (a b : Table) where
 common_keep : (op : Binary) (a b : Table) → IsShaped a → IsShaped b → IsFrame a → length a.columns ≡ length b.columns → Keeps (common_infix op a b)
 common_keep op a b s r is columns = rows_keep op a b _ s r (grind (arith, frame_headings)) refl refl columns
 
-unequal_columns_keep : (op : Binary) (a b : Table) → IsShaped a → IsShaped b → IsFrame a → length a.columns ≡ length b.columns → Keeps (unequal_columns op a b)
-unequal_columns_keep = grind (arith, common_keep)
-
 wide_keep : (op : Binary) (a b : Table) → IsShaped a → IsShaped b → IsFrame a → IsFrame b → Keeps (joined_frames op a b)
 wide_keep op a b s r is is' = by _ refl
   where
@@ -232,14 +212,16 @@ wide_keep op a b s r is is' = by _ refl
     by (Ok j) e =
         let joined = met_is _ j e in
         let inside = joined_inside (Has 1) _ _ _ _ (labels_single a) (labels_single b) j joined in
-        let apart = joined_apart _ _ tuple_decides _ _ (labels_apart a s is) (labels_apart b r is') j joined in
         let lefts = subst (λ n. All (IsRowOf n) j.left) (labels_many a s) inside.left in
         let rights = subst (λ n. All (IsRowOf n) j.right) (labels_many b r) inside.right in
-        search (unequal_columns_keep, wide_shaped, length_wide)
+        search (common_keep, wide_shaped, length_wide)
+
+unequal_frames_keep : (op : Binary) (a b : Table) → IsShaped a → IsShaped b → IsFrame a → IsFrame b → Keeps (unequal_frames op a b)
+unequal_frames_keep = grind (arith, wide_keep)
 
 module _ (op : Binary) where
   frames_keep : (a b : Table) → IsShaped a → IsShaped b → IsFrame a → IsFrame b → Keeps (frame_infix op a b)
-  frames_keep = grind (arith, common_keep, as_long, wide_keep)
+  frames_keep = grind (arith, common_keep, as_long, unequal_frames_keep)
 
   module _ (left : Bool) where
     turned_keep : (f g : Table) → IsShaped f → IsShaped g → IsFrame f → IsFrame g → Keeps (joined_turned op left f g)
@@ -250,7 +232,15 @@ module _ (op : Binary) where
       spread_keep = grind (arith, turned_keep, spread_shaped)
 
       across_unequal_keep : IsFrame f → IsSeries s → Keeps (across_unequal op left f s)
-      across_unequal_keep is is' = grind (arith, spread_keep)
+      across_unequal_keep is is' = by (takes_each op f s) (has_one s.level_names) refl (labels_fit same_tuple (column_at s.columns 0).kind s.labels (column_labels f) f.columns) (compares op)
+        where
+          by : (kinds one : Bool) → has_one s.level_names ≡ one → (fit compared : Bool)
+              → Keeps (on_levels kinds one (if fit then (if compared then Err (bad_value not_aligned) else then_value (spread_frame f s) (joined_turned op left f)) else Err wrong_kind))
+          by false one e fit compared = tt
+          by true false e fit compared = tt
+          by true true e false compared = tt
+          by true true e true true = tt
+          by true true e true false = spread_keep is is' (one_level s.level_names e)
 
       across_keep : IsFrame f → IsSeries s → Keeps (across_infix op left f s)
       across_keep is' is =

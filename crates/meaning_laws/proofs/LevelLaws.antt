@@ -1,7 +1,7 @@
 -- Methods that give the rows other levels make valid tables of valid ones.
 use Rattle.{
-  meaning_script.{proofs.{cells.Common.{◌≡◌, ◌∙◌, refl, sym, ℕ, ◌<◌, ◌≤◌, ◌+◌, List, length, map, length-append, arith, eqb-true, nat_tests, length-map, length-range_with_len, length-remove, length-swap, All-append, All-nil, remove, Option, Some, None, IsSome, Result, IfOk, All, true, IfSome, range_with_len, CellValue, LabelValue, na_cell, cell_label, FaultValue}, pick.{PositionLaws.{at_inside}, InsideLaws.{rows_inside}}, align.FoundLaws.{reindexed_count, reindexed_below}}, specs.{pick.{Labels.{unless_none}, Rows.{rows_where}}, tables.{Table.{Table}, Value.{Entry, Given, GivenList, cell, one, no_given, more_given}}, form.{Finish.{first_repeated, limited, column_labels}, Select.{labels_of}, Set.{list_column}, Infix.{same_tuple}}, call.Binding.{each, is_scalar, count_of}, method.{Rows.{cells_by_row}, Levels.{rename_axis_result, on_levels, indexed_by, index_set, set_index_result, renumbered, level_cells, level_labels, with_levels, levels_reset, level_of, of_several, level_dropped, droplevel_result, levels_swapped, swaplevel_result}, Section.{has_label, rows_with_label, section, xs_result}, Reindex.{rows_at, rows_reindexed, column_or_missing, columns_at, columns_reindexed, reindex_result}}, select.{Keys.{found_pick, whole_items}, Select.{rows_taken, row_name}}, align.{Faults.{AlignRefusal}, Targets.{reindexed}}}},
-  meaning_laws.{proofs.{Words.{Has, Keeps, Column, Tuple, IsFrame, Below, Levelled}, ListLaws.{both_true, all_made, all_mapped, then_keeps, any_then, try_keeps}, ColumnLaws.{IsColumn, list_keeps, spread_column, na_held}, TableLaws.{IsShaped, limited_keeps, frame_headings, column_of_table, different, finished_keeps, found_within}, ReachLaws.{some_below, found_is, rows_shaped}, RowLaws.{kept_shaped, rows_counted, cells_have}, SetLaws.{length_default, default_levels, met_keeps}, InfixLaws.{columns_on}}, specs.Validity.{IsValidEntry}},
+  meaning_script.{proofs.{cells.Common.{◌≡◌, ◌∙◌, refl, sym, ℕ, ◌<◌, ◌≤◌, ◌+◌, List, length, map, length-append, arith, eqb-true, nat_tests, length-map, length-range_with_len, length-remove, length-swap, All-append, All-nil, remove, Option, Some, None, IsSome, Result, IfOk, All, true, IfSome, range_with_len, CellValue, LabelValue, na_cell, cell_label, FaultValue}, pick.{PositionLaws.{at_inside}, InsideLaws.{rows_inside}}, align.FoundLaws.{reindexed_count, reindexed_below}}, specs.{pick.{Labels.{unless_none}, Rows.{rows_where}}, tables.{Table.{Table}, Value.{Entry, Given, GivenList, cell, one, no_given, more_given}}, form.{Finish.{limited, column_labels}, Select.{labels_of}, Set.{list_column}, Infix.{same_tuple}}, call.Binding.{each, is_scalar, count_of}, method.{Rows.{cells_by_row, places_besides}, Levels.{rename_axis_result, on_levels, indexed_by, index_set, set_index_result, renumbered, level_cells, level_labels, level_headings, with_levels, levels_reset, level_of, of_several, level_dropped, droplevel_result, levels_swapped, swaplevel_result}, Section.{has_label, rows_with_label, section, xs_result}, Reindex.{rows_at, rows_reindexed, column_or_missing, columns_at, columns_reindexed, reindex_result}}, select.{Keys.{found_pick, whole_items}, Select.{rows_taken, row_name}}, align.{Faults.{AlignRefusal}, Targets.{reindexed}}}},
+  meaning_laws.{proofs.{Words.{Has, Keeps, Column, Tuple, IsFrame, Below, Levelled}, ListLaws.{both_true, all_made, all_mapped, then_keeps, any_then, try_keeps}, ColumnLaws.{IsColumn, list_keeps, spread_column, na_held}, TableLaws.{IsShaped, limited_keeps, frame_headings, column_of_table, unless_keeps, found_within}, ReachLaws.{some_below, found_is, rows_shaped}, RowLaws.{kept_shaped, rows_counted, cells_have}, SetLaws.{length_default, default_levels, met_keeps}, InfixLaws.{columns_on}}, specs.Validity.{IsValidEntry}},
 }
 
 -- names of levels
@@ -19,9 +19,9 @@ module _ (t : Table) where
         let cells = cells_have t places in
         search (all_made, length-map)
 
-    indexed_shaped : IsShaped t → IsFrame t → 1 ≤ length places → length places ≤ 4 → first_repeated (indexed_by t places).headings ≡ None → IsShaped (indexed_by t places)
-    indexed_shaped s is some few none =
-        let k = kept_shaped t _ s is (some_below _ _) none in
+    indexed_shaped : IsShaped t → IsFrame t → 1 ≤ length places → length places ≤ 4 → IsShaped (indexed_by t places)
+    indexed_shaped s is some few =
+        let k = kept_shaped t (places_besides t places) s is (some_below _ _) in
         let names : length places ≡ length (indexed_by t places).level_names = search length-map in
         let rows = sym (length-map (cells_by_row t places) (map cell_label) ∙ rows_counted t _) in
         let levels = tuples_have in
@@ -44,19 +44,19 @@ module _ (t : Table) where
   level_keeps : (level : ℕ) → IfOk (list_column (level_cells t level)) (IsColumn (length t.labels))
   level_keeps = grind (arith, length-map, list_keeps)
 
-  with_levels_shaped : (columns : List Column) → IsShaped t → IsFrame t → length columns ≡ length t.level_names → All (IsColumn (length t.labels)) columns → first_repeated (with_levels t columns).headings ≡ None → IsShaped (with_levels t columns)
-  with_levels_shaped columns s is size h none =
+  with_levels_shaped : (columns : List Column) → IsShaped t → IsFrame t → length columns ≡ length t.level_names → All (IsColumn (length t.labels)) columns → IsShaped (with_levels t columns)
+  with_levels_shaped columns s is size h =
       let r = renumbered_shaped s in
-      let own = map (λ l. Some l) (level_labels t) in
+      let own = level_headings t in
       let count : length own ≡ length columns = grind (arith, length-map, length-range_with_len) in
       let some = All-append IsSome own t.headings (all_mapped IsSome (λ l. Some l) (λ l. refl) (level_labels t)) (s.headings.labelled is) in
       let all = All-append (IsColumn (length (renumbered t).labels)) columns t.columns (search length_default) r.columns in
-      grind (arith, length-append, frame_headings, different)
+      grind (arith, length-append, frame_headings)
 
   pub levels_reset_keeps : IsShaped t → IsFrame t → Keeps (levels_reset t)
   levels_reset_keeps s is =
       let made = try_keeps (λ level. Unit {0}) (IsColumn (length t.labels)) (λ level. list_column (level_cells t level)) (λ level h. level_keeps _) (range_with_len 0 (length t.level_names)) (λ k d lt. tt) in
-      grind (arith, finished_keeps, with_levels_shaped, length-range_with_len)
+      grind (arith, unless_keeps, limited_keeps, with_levels_shaped, length-range_with_len)
 
 -- a level that is named stands there
 abbrev pub IsLevel : Table → ℕ → Type 0
@@ -151,9 +151,9 @@ name_there = grind arith
 abbrev ArePlaces : Table → List Tuple → List (Option ℕ) → Type 0
 ArePlaces t labels places = (length places ≡ length labels) × All (λ place. IfSome place (λ k. k < length t.columns)) places
 
-columns_at_shaped : (t : Table) (labels : List Tuple) (places : List (Option ℕ)) → IsShaped t → IsFrame t → Levelled 1 labels → ArePlaces t labels places → first_repeated (map row_name labels) ≡ None
+columns_at_shaped : (t : Table) (labels : List Tuple) (places : List (Option ℕ)) → IsShaped t → IsFrame t → Levelled 1 labels → ArePlaces t labels places
     → IsShaped (columns_at na_cell t (map row_name labels) places)
-columns_at_shaped t labels places s is has found none =
+columns_at_shaped t labels places s is has found =
     let some : All IsSome (map row_name labels) = search (all_made, name_there) in
     record {
       some = s.some;
@@ -161,7 +161,7 @@ columns_at_shaped t labels places s is has found none =
       levels = s.levels;
       headed = grind (arith, length-map);
       columns = search (all_made, column_or_missing_keeps);
-      headings = search (frame_headings, different);
+      headings = search frame_headings;
     }
 
 both_hold : {A : Type 0} (P Q : A → Type 0) (r : Result A (AlignRefusal Tuple)) → IfOk r P → IfOk r Q → IfOk r (λ a. P a × Q a)
@@ -180,7 +180,7 @@ module _ (t : Table) where
     columns_reindexed_keeps is has =
         then_keeps (ArePlaces t labels) IsValidEntry _ _
         (search (met_keeps, places_found))
-        (λ places found. finished_keeps _ (columns_at_shaped t labels places s is has found))
+        (λ places found. limited_keeps _ (columns_at_shaped t labels places s is has found))
 
   -- of a list of labels
   pub reindex_keeps : (rows columns : Option GivenList) → IsShaped t → (IsSome columns → IsFrame t) → Keeps (reindex_result t rows columns)

@@ -1,6 +1,6 @@
 -- Laws of lists, and of what is made of them one by one.
 use Rattle.{
-  meaning_script.{proofs.cells.Common.{◌≡◌, refl, ℕ, zero, suc, List, [], ◌∷◌, length, map, arith, take, drop, eqb-true, cases_lt, length-set, get_or_past, length-map-range_with_len, All-map, All-nil, All-head, All-tail, All-set, All-push, All-append, All-take, All-drop, Bool, true, false, ◌&&◌, if◌then◌else◌, remove, slice_index_or, Option, Result, Err, IfOk, IfSome, All, list_all, FaultValue, then_value, tabulate, then_rows, try_each, try_pairs}, specs.{tables.Change.{put_at}, form.{Finish.{try_all}, Set.{of_length}, Make.{on}}}},
+  meaning_script.{proofs.cells.Common.{◌≡◌, ◌≤◌, refl, ℕ, zero, suc, List, [], ◌∷◌, length, map, filter, arith, take, drop, eqb-true, cases_lt, length-set, get_or_past, length-map-range_with_len, All-map, All-nil, All-head, All-tail, All-set, All-push, All-append, All-take, All-drop, Bool, true, false, ◌&&◌, if◌then◌else◌, remove, slice_index_or, Option, Result, Err, IfOk, IfSome, All, list_all, FaultValue, then_value, tabulate, then_rows, try_each, try_pairs}, specs.{tables.Change.{put_at}, form.{Finish.{try_all}, Set.{of_length}, Make.{on}}}},
   std.proofs.lemmas.List.{length-append},
   meaning_laws.proofs.Words.{AllOf},
 }
@@ -98,3 +98,8 @@ All-remove P xs i all = All-append P (take i xs) (drop (suc i) xs) (All-take P i
 -- as many as are expected
 pub of_length_keeps : {A : Type 0} (P : A → Type 0) (expected got : ℕ) (rest : Result A FaultValue) → (expected ≡ got → IfOk rest P) → IfOk (of_length expected got rest) P
 of_length_keeps P = grind (arith, eqb-true)
+
+-- some of a list
+pub length_filter : {X : Type 0} (p : X → Bool) (xs : List X) → length (filter p xs) ≤ length xs
+length_filter p [] = omega arith
+length_filter p (x ∷ xs) = grind (arith, length_filter p xs)

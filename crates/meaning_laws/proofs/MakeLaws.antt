@@ -1,7 +1,7 @@
 -- The constructors make valid tables.
 use Rattle.{
-  meaning_script.{proofs.{cells.Common.{◌≡◌, ◌≢◌, refl, sym, subst, ℕ, ◌≤◌, List, [], ◌∷◌, length, map, arith, nat_tests, length-map, length-replicate, All-nil, All-tail, AllPairs-cons, Option, Some, None, Result, IfOk, All, LabelValue, Kind, FaultValue}, call.{BoundLaws.{bound_list}, IndexLaws.{GivesAlike, index_taken}}}, specs.{tables.Value.{Entry, Given, GivenList, GivenPairs, NamedGiven, no_entries, more_entries, list_in}, call.{Signature.{function_parameters}, Binding.{Bound, bound, argument_at, on_bound}, Functions.{series_call, frame_call}}, form.{Finish.{limited}, Select.{cells_of}, Set.{list_column}, Make.{index_labels, level_count, nameless, AreAlike, few_levels, with_index, series_table, frame_table, series_of, series_result, with_pair, pairs_onto, cells_given, all_of_length, labels_given, frame_with, frame_of, frame_result}}}},
-  meaning_laws.{specs.Validity.{IsValidEntry}, proofs.{Words.{Keeps, Column, Name, Tuple, Apart, Levelled}, ListLaws.{all_made, all_mapped, then_keeps, try_keeps, of_length_keeps, on_keeps}, ColumnLaws.{IsColumn, list_keeps, cast_to_keeps}, TableLaws.{IsShaped, limited_keeps, frame_headings, label_decides}, SetLaws.{length_default, default_levels}}},
+  meaning_script.{proofs.{cells.Common.{◌≡◌, refl, sym, subst, ℕ, ◌≤◌, List, [], ◌∷◌, length, arith, nat_tests, length-map, length-replicate, All-nil, Option, Some, None, Result, IfOk, All, LabelValue, Kind, FaultValue}, call.{BoundLaws.{bound_list}, IndexLaws.{GivesAlike, index_taken}}}, specs.{tables.Value.{Entry, Given, GivenList, NamedGiven, list_in}, call.{Signature.{function_parameters}, Binding.{Bound, bound, argument_at, on_bound}, Functions.{series_call, frame_call}}, form.{Finish.{limited}, Select.{cells_of}, Set.{list_column}, Make.{index_labels, level_count, nameless, AreAlike, few_levels, with_index, series_table, frame_table, series_of, series_result, cells_given, all_of_length, labels_given, frame_with, frame_of, frame_result}}}},
+  meaning_laws.{specs.Validity.{IsValidEntry}, proofs.{Words.{Keeps, Column, Name, Tuple, Levelled}, ListLaws.{all_mapped, then_keeps, try_keeps, of_length_keeps, on_keeps}, ColumnLaws.{IsColumn, list_keeps, cast_to_keeps}, TableLaws.{IsShaped, limited_keeps, frame_headings}, SetLaws.{length_default, default_levels}}},
 }
 use Rattle.meaning_script.specs.call.declared.Function.TheVariants as function
 
@@ -54,34 +54,6 @@ series_of_keeps values index name kind alike =
 series_result_keeps : (values index name dtype : Given) → GivesAlike (list_in index) → Keeps (series_result (values ∷ index ∷ name ∷ dtype ∷ []))
 series_result_keeps = search (on_keeps, series_of_keeps)
 
--- labels that differ
-abbrev Differ : Tuple → Type 0
-Differ [] = Unit {0}
-Differ (l ∷ ls) = All (λ m. l ≢ m) ls × Differ ls
-
-abbrev keys : List (LabelValue × Given) → Tuple
-keys ps = map (λ p. p.0) ps
-
-pub headings_differ : (ls : Tuple) → Differ ls → Apart (map (λ l. Some l) ls)
-headings_differ [] h = grind arith
-headings_differ (l ∷ ls) h =
-    AllPairs-cons (λ a b. a ≢ b) (Some l) _ (all_made (λ m. l ≢ m) (λ g. Some l ≢ g) (λ l. Some l) (λ m other e. other (search)) ls h.0) (headings_differ ls h.1)
-
--- a key more, unless it stands
-all_pair : (P : LabelValue → Type 0) (ps : List (LabelValue × Given)) (k : LabelValue) (v : Given) → All P (keys ps) → P k → All P (keys (with_pair ps k v))
-all_pair P [] k v h here = grind arith
-all_pair P (p ∷ ps) k v h here = grind (arith, h 0 p.0, all_pair P ps k v (All-tail P p.0 (keys ps) h) here)
-
-pair_differs : (ps : List (LabelValue × Given)) (k : LabelValue) (v : Given) → Differ (keys ps) → Differ (keys (with_pair ps k v))
-pair_differs [] k v h = grind arith
-pair_differs (p ∷ ps) k v h =
-    let others = all_pair (λ m. p.0 ≢ m) ps k v h.0 in
-    grind (arith, label_decides, pair_differs ps k v h.1)
-
-pairs_differ : (ps : List (LabelValue × Given)) (pairs : GivenPairs) → Differ (keys ps) → Differ (keys (pairs_onto ps pairs))
-pairs_differ ps no_entries h = h
-pairs_differ ps (more_entries k v rest) h = pairs_differ (with_pair ps k v) rest (pair_differs ps k v h)
-
 -- columns of one length
 lengths_keep : (expected : ℕ) (cs : List Column) (rest : Result Entry FaultValue) → (All (λ (c : Column). expected ≡ length c.cells) cs → Keeps rest)
     → Keeps (all_of_length expected cs rest)
@@ -90,30 +62,30 @@ lengths_keep expected (c ∷ cs) rest h =
     of_length_keeps IsValidEntry expected _ _
     (λ e. lengths_keep expected cs rest (λ more. h (grind arith)))
 
-frame_shaped : (rows : ℕ) (labels : List Tuple) (headings : Tuple) (columns : List Column) → AreRowLabels rows labels → Differ headings → length headings ≡ length columns → All (IsColumn (length labels)) columns
+frame_shaped : (rows : ℕ) (labels : List Tuple) (headings : Tuple) (columns : List Column) → AreRowLabels rows labels → length headings ≡ length columns → All (IsColumn (length labels)) columns
     → IsShaped (frame_table labels headings columns)
-frame_shaped rows labels headings columns are differ size h = search (names_count, named_levels, length-map, frame_headings, all_mapped, headings_differ)
+frame_shaped rows labels headings columns are size h = search (names_count, named_levels, length-map, frame_headings, all_mapped)
 
-frame_with_keeps : (headings : Tuple) (columns : List Column) (index : Option GivenList) → GivesAlike index → Differ headings → length headings ≡ length columns → All IsOwnColumn columns
+frame_with_keeps : (headings : Tuple) (columns : List Column) (index : Option GivenList) → GivesAlike index → length headings ≡ length columns → All IsOwnColumn columns
     → Keeps (frame_with headings columns index)
-frame_with_keeps headings [] index alike differ size h =
+frame_with_keeps headings [] index alike size h =
     let labels = labels_given index in
     few_keeps _ _
     (λ few. limited_keeps (frame_table labels headings [])
-    (frame_shaped (length labels) labels headings [] record { count = refl; alike = grind arith; few = few } differ size (All-nil (IsColumn (length labels)))))
-frame_with_keeps headings (c ∷ cs) index alike differ size h =
+    (frame_shaped (length labels) labels headings [] record { count = refl; alike = grind arith; few = few } size (All-nil (IsColumn (length labels)))))
+frame_with_keeps headings (c ∷ cs) index alike size h =
     lengths_keep _ cs _
     (λ same. index_keeps (length c.cells) index (λ labels. limited (frame_table labels headings (c ∷ cs))) alike
-    (λ labels rows. limited_keeps (frame_table labels headings (c ∷ cs)) (frame_shaped _ _ _ _ rows differ size
+    (λ labels rows. limited_keeps (frame_table labels headings (c ∷ cs)) (frame_shaped _ _ _ _ rows size
     (grind arith))))
 
-frame_of_keeps : (pairs : List (LabelValue × Given)) (index : Option GivenList) → GivesAlike index → Differ (keys pairs) → Keeps (frame_of pairs index)
-frame_of_keeps pairs index alike differ =
+frame_of_keeps : (pairs : List (LabelValue × Given)) (index : Option GivenList) → GivesAlike index → Keeps (frame_of pairs index)
+frame_of_keeps pairs index alike =
     let made = try_keeps (λ p. Unit {0}) IsOwnColumn (λ p. list_column (cells_given p.1)) (λ p _. own _ (list_column (cells_given p.1)) (list_keeps (cells_given p.1))) pairs (λ k d lt. tt) in
     grind (arith, then_keeps, frame_with_keeps, length-map)
 
 frame_result_keeps : (columns index : Given) → GivesAlike (list_in index) → Keeps (frame_result (columns ∷ index ∷ []))
-frame_result_keeps = search (on_keeps, frame_of_keeps, pairs_differ)
+frame_result_keeps = search (on_keeps, frame_of_keeps)
 
 -- arguments that are bound
 bound_keeps : (b : Bound) (go : List Given → Result Entry FaultValue) → ((l : List Given) → b ≡ bound l → Keeps (go l)) → Keeps (on_bound b go)

@@ -1,7 +1,7 @@
 -- No method has the fault that a file isn't there.
 use Rattle.{
   meaning_script.{proofs.cells.Common.{arith, ℤ, Bool, true, false, List, [], ◌∷◌, Option, Result, Shape, Series, Frame, Text, CellValue, LabelValue, FaultValue}, specs.{tables.{Table.{ColumnOf, Table}, Value.{Given, GivenList, NamedGiven}}, call.declared.Method.{Method}, method.{Rows.{head_result, tail_result, subset_places, duplicated_result, sort_by_result, drop_result}, Methods.{each_column, filled_column, Summary, summary_cell, summary_of, renamed_frame, reset_index_result, csv_answer, answer_for}, Levels.{rename_axis_result, set_index_result, renumbered, level_of, droplevel_result, swaplevel_result}, Reindex.{reindex_result}, Section.{xs_result}, Calls.{called}}}},
-  meaning_laws.{proofs.{FormFaults.{if_fault, then_value_fault, of_length_fault, unless_repeated_fault, met_rows_fault, on_bound_fault, limited_fault, finished_fault, made_column_fault, try_all_fault, found_fault, argument_columns_fault, selected_columns_fault, on_fault}, SelectFaults.{found_pick_fault, whole_items_fault}}, specs.FormFault.{HasFormFault}},
+  meaning_laws.{proofs.{FormFaults.{if_fault, then_value_fault, of_length_fault, unless_repeated_fault, met_rows_fault, on_bound_fault, limited_fault, made_column_fault, try_all_fault, found_fault, argument_columns_fault, on_fault}, SelectFaults.{found_pick_fault, label_columns_fault, whole_items_fault}}, specs.FormFault.{HasFormFault}},
 }
 use Rattle.meaning_script.specs.call.declared.Method.TheVariants as method
 use Rattle.meaning_script.specs.call.declared.ColumnMethod.TheVariants as column_method
@@ -25,7 +25,7 @@ summary_of_fault Series op t = then_value_fault _ _ (summary_cell_fault op _) (�
 summary_of_fault Frame _ t = search (then_value_fault, try_all_fault, if_fault, summary_cell_fault, limited_fault)
 
 renamed_frame_fault : (t : Table) (pairs : List (LabelValue × Given)) → HasFormFault (renamed_frame t pairs)
-renamed_frame_fault = search (if_fault, finished_fault)
+renamed_frame_fault = search (if_fault, limited_fault)
 
 csv_answer_fault : (index : Bool) (t : Table) → HasFormFault (csv_answer index t)
 csv_answer_fault = search (if_fault)
@@ -47,18 +47,18 @@ sort_by_fault : (t : Table) (ascending : Bool) (by : Given) → HasFormFault (so
 sort_by_fault = search (then_value_fault, argument_columns_fault, limited_fault)
 
 drop_fault : (t : Table) (columns : Given) → HasFormFault (drop_result t columns)
-drop_fault = search (then_value_fault, selected_columns_fault, finished_fault)
+drop_fault = search (then_value_fault, label_columns_fault, limited_fault)
 
 -- levels
 rename_axis_fault : (t : Table) (names : Given) → HasFormFault (rename_axis_result t names)
 rename_axis_fault = search (of_length_fault, limited_fault)
 
 set_index_fault : (t : Table) (keys : Given) → HasFormFault (set_index_result t keys)
-set_index_fault = search (then_value_fault, argument_columns_fault, unless_repeated_fault, if_fault, limited_fault)
+set_index_fault = search (then_value_fault, argument_columns_fault, if_fault, limited_fault)
 
 reset_index_fault : (t : Table) (drop : Bool) → HasFormFault (reset_index_result t drop)
 reset_index_fault t true = limited_fault (renumbered t)
-reset_index_fault t false = search (then_value_fault, try_all_fault, if_fault, finished_fault)
+reset_index_fault t false = search (then_value_fault, try_all_fault, if_fault, unless_repeated_fault, limited_fault)
 
 pub level_of_fault : (t : Table) (level : Option CellValue) → HasFormFault (level_of t level)
 level_of_fault = grind (arith, found_pick_fault, found_fault)
@@ -70,7 +70,7 @@ swaplevel_fault : (t : Table) (i j : Option CellValue) → HasFormFault (swaplev
 swaplevel_fault = grind (then_value_fault, arith, found_pick_fault, found_fault, limited_fault)
 
 reindex_fault : (t : Table) (rows columns : Option GivenList) → HasFormFault (reindex_result t rows columns)
-reindex_fault = grind (arith, then_value_fault, whole_items_fault, met_rows_fault, limited_fault, finished_fault)
+reindex_fault = grind (arith, then_value_fault, whole_items_fault, met_rows_fault, limited_fault)
 
 xs_fault : (t : Table) (key : CellValue) (level : Option CellValue) → HasFormFault (xs_result t key level)
 xs_fault = grind (if_fault, then_value_fault, arith, found_fault, found_pick_fault, limited_fault)

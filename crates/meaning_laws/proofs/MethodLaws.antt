@@ -1,7 +1,7 @@
 -- Methods make valid tables of valid ones.
 use Rattle.{
   meaning_script.{proofs.{cells.Common.{◌≡◌, ◌∙◌, refl, sym, ℕ, pos, List, [], ◌∷◌, length, map, arith, length-map, All-head, All-tail, Bool, true, false, unwrap_or, Option, Some, None, IsSome, Result, IfOk, All, Shape, Series, Frame, Text, LabelValue, int, Kind, FaultValue}, tables.KindLaws.{kind_is}, call.ShapeLaws.{of_series, of_frame}}, specs.{tables.{Table.{Table, column_at}, Value.{Entry, Given, NamedGiven}}, call.{declared.Method.{Method}, Signature.{method_names, fits_shape}, Binding.{Bound, on_bound}}, form.Finish.{limited, across_columns}, method.{Methods.{each_column, Summary, summary_cell, summary_kind, kind_for, summary_as, summary_of, summary, renamed_series, renamed_heading, renamed_frame, as_frame, reset_index_result, csv_answer, answer_for}, Calls.{called}}}},
-  meaning_laws.{specs.Validity.{IsValidEntry}, proofs.{Words.{AllOf, Keeps, Column, Name, Cells, IsFrame, IsSeries}, ListLaws.{all_made, all_mapped, then_keeps, try_keeps, on_keeps}, ColumnLaws.{IsColumn, column_answers, Held, held_cell, wrap_fits, reduction_held}, TableLaws.{IsShaped, limited_keeps, with_columns_shaped, column_of_table, series_heading, frame_headings, one_column, different, finished_keeps}, RowLaws.{head_keeps, tail_keeps, dropna_keeps, duplicated_keeps, sort_values_keeps, sort_by_keeps, sorted_keeps, drop_keeps}, LevelLaws.{rename_axis_keeps, set_index_keeps, renumbered_keeps, levels_reset_keeps, droplevel_keeps, swaplevel_keeps, xs_keeps, reindex_keeps}}},
+  meaning_laws.{specs.Validity.{IsValidEntry}, proofs.{Words.{AllOf, Keeps, Column, Name, Cells, IsFrame, IsSeries}, ListLaws.{all_made, all_mapped, then_keeps, try_keeps, on_keeps}, ColumnLaws.{IsColumn, column_answers, Held, held_cell, wrap_fits, reduction_held}, TableLaws.{IsShaped, limited_keeps, with_columns_shaped, column_of_table, series_heading, frame_headings, one_column}, RowLaws.{head_keeps, tail_keeps, dropna_keeps, duplicated_keeps, sort_values_keeps, sort_by_keeps, sorted_keeps, drop_keeps}, LevelLaws.{rename_axis_keeps, set_index_keeps, renumbered_keeps, levels_reset_keeps, droplevel_keeps, swaplevel_keeps, xs_keeps, reindex_keeps}}},
 }
 use Rattle.meaning_script.specs.call.declared.Method.TheVariants as method
 use Rattle.meaning_script.specs.call.declared.ColumnMethod.TheVariants as column_method
@@ -50,7 +50,7 @@ renamed_series_keeps = grind arith
 renamed_frame_keeps : (t : Table) (pairs : List (LabelValue × Given)) → IsShaped t → IsFrame t → Keeps (renamed_frame t pairs)
 renamed_frame_keeps t pairs s is =
     let some = all_made IsSome IsSome (renamed_heading pairs) (grind arith) t.headings (s.headings.labelled is) in
-    grind (arith, finished_keeps, length-map, frame_headings, different)
+    grind (arith, limited_keeps, length-map, frame_headings)
 
 heading_kept : (h : Name) → IsSome h → Some (unwrap_or h (int (pos 0))) ≡ h
 heading_kept = grind arith
@@ -61,14 +61,13 @@ headings_kept (h ∷ hs) some = cc (heading_kept h (All-head IsSome h hs some), 
 
 as_frame_shaped : (p : Shape) (t : Table) → IsShaped t → t.shape ≡ p → IsShaped (as_frame t)
 as_frame_shaped Series t s is =
-    let size : length (as_frame t).headings ≡ 1 = grind (arith, length-map) in
     record {
       some = s.some;
       few = s.few;
       levels = s.levels;
       headed = search length-map;
       columns = s.columns;
-      headings = frame_headings _ _ _ refl (search all_mapped) (λ i j d lt within. absurd (omega (arith, lt, within, size)));
+      headings = frame_headings _ _ _ refl (search all_mapped);
     }
 as_frame_shaped Frame t s is = grind (arith, length-map, headings_kept)
 

@@ -1,8 +1,8 @@
 -- What a call leaves has no more rows than were there or are charged.
 use Rattle.{
-  meaning_script.{proofs.cells.Common.{◌≡◌, ◌∙◌, ℕ, ◌+◌, ◌*◌, ◌≤◌, ℤ, List, [], ◌∷◌, length, map, remove, swap, arith, length-map, Bool, true, false, ◌&&◌, nat_le, if◌then◌else◌, slice_index_or, unwrap_or, option_map, Option, Some, None, Result, Ok, Err, IfOk, CellValue, LabelValue, cell_label, Text, FaultValue, limit, then_value}, specs.{tables.{Table.{Table, column_at}, Value.{Entry, cell, table, Given, NamedGiven, scalar_in, dict_in}}, call.{declared.Method.{Method}, Binding.{Bound, not_taken, not_listed, bound, on_bound, bound_of, whole_in, truth_in}, Signature.{parameters_of, method_named}}, form.{Finish.{limited, finished, first_repeated, unless_repeated, default_labels}, Select.{columns_frame, argument_columns}, Make.{on, pairs_in}}, pick.Keys.{place_slice}, select.Select.{column_rows, rows_taken}, method.{Charges.{is_free_method, drops_labels, method_charge, named_charge, call_charge}, Calls.{ChainValue, table_call, call_result}, Methods.{renamed_series, renamed_heading, renamed_frame, as_frame, reset_index_result, answer_for}, Rows.{labels_in, head_result, tail_result, placed_rows, cells_by_row, places_besides, drop_result}, Levels.{names_in, rename_axis_result, on_levels, indexed_by, index_set, set_index_result, renumbered, level_columns, with_levels, levels_reset, level_of, level_dropped, level_gone, droplevel_result, levels_swapped, swaplevel_result}}, State.{rows_under, held_rows, entry_rows}}},
+  meaning_script.{proofs.cells.Common.{◌≡◌, ◌∙◌, ℕ, ◌+◌, ◌*◌, ◌≤◌, ℤ, List, [], ◌∷◌, length, map, remove, swap, arith, length-map, Bool, true, false, ◌&&◌, nat_le, if◌then◌else◌, slice_index_or, unwrap_or, option_map, Option, Some, None, Result, Ok, Err, IfOk, CellValue, LabelValue, cell_label, Text, FaultValue, limit, then_value}, specs.{tables.{Table.{Table, column_at}, Value.{Entry, cell, table, Given, NamedGiven, scalar_in, dict_in}}, call.{declared.Method.{Method}, Binding.{Bound, not_taken, not_listed, bound, on_bound, bound_of, whole_in, truth_in}, Signature.{parameters_of, method_named}}, form.{Finish.{limited, default_labels}, Select.{columns_frame, argument_columns}, Make.{on, pairs_in}}, pick.Keys.{place_slice}, select.Select.{column_rows, rows_taken}, method.{Charges.{is_free_method, drops_labels, method_charge, named_charge, call_charge}, Calls.{ChainValue, table_call, call_result}, Methods.{renamed_series, renamed_heading, renamed_frame, as_frame, reset_index_result, answer_for}, Rows.{labels_in, head_result, tail_result, placed_rows, cells_by_row, places_besides, drop_result}, Levels.{names_in, rename_axis_result, on_levels, indexed_by, index_set, set_index_result, renumbered, level_columns, with_levels, levels_reset, level_of, level_dropped, level_gone, droplevel_result, levels_swapped, swaplevel_result}}, State.{rows_under, held_rows, entry_rows}}},
   std.{proofs.Math.Nat.{mul-le-mul_left}, specs.Prelude.{neg_ℤ}},
-  meaning_laws.{specs.Validity.{IsValidObject}, proofs.{Words.{Below, Tuple}, ListLaws.{then_keeps, any_then, if_keeps, where_keeps, on_keeps, of_length_keeps}, TableLaws.{IsShaped, shaped}, ReachLaws.{found_is, some_below}, RowLaws.{rows_counted}, LevelLaws.{of_several_keeps}, SetLaws.{length_default}, PartLaws.{IsPart, places_part}, PaidForms.{Within, under_within, under_rows, costs_cells, costs_nothing, costs_where, limited_within, finished_within, none_chosen}}},
+  meaning_laws.{specs.Validity.{IsValidObject}, proofs.{Words.{Tuple}, ListLaws.{then_keeps, any_then, if_keeps, where_keeps, on_keeps, of_length_keeps}, TableLaws.{IsShaped, shaped, unless_keeps}, ReachLaws.{found_is, some_below}, RowLaws.{rows_counted}, LevelLaws.{of_several_keeps}, SetLaws.{length_default}, PartLaws.{IsPart, places_part}, PaidForms.{Within, under_within, under_rows, costs_cells, costs_nothing, costs_where, limited_within, none_chosen, chosen_within}}},
 }
 use Rattle.meaning_script.specs.call.declared.Method.TheVariants as method
 use Rattle.meaning_script.specs.call.declared.TableMethod.TheVariants as table_method
@@ -10,10 +10,6 @@ use Rattle.meaning_script.specs.call.declared.LevelMethod.TheVariants as level_m
 use Rattle.meaning_script.specs.method.Calls as calls
 
 -- ---- methods that cost nothing
-
-unless_keeps : (P : Entry → Type 0) (o : Option LabelValue) (rest : Result Entry FaultValue) → IfOk rest P → IfOk (unless_repeated o rest) P
-unless_keeps P None rest h = h
-unless_keeps P (Some l) rest h = tt
 
 levels_keep : (P : Entry → Type 0) (count : ℕ) (rest : Result Entry FaultValue) → IfOk rest P → IfOk (on_levels count rest) P
 levels_keep P count rest h = where_keeps P (nat_le 1 count && nat_le count 4) rest limit (λ within. h)
@@ -41,19 +37,14 @@ module _ (t : Table) where
       (λ some. placed_within (Some (neg_ℤ n)) None None)
 
   -- some of its columns
-  chosen_within : (places : List ℕ) → Below (length t.columns) places → held_rows (columns_frame t places) ≤ held_rows t
-  chosen_within places below =
-      under_within (columns_frame t places).columns t.columns (length t.labels) (length t.labels) (omega arith)
-      (λ none. length-map places (column_at t.columns) ∙ none_chosen _ places below none)
-
   drop_within : (columns : Given) → IfOk (drop_result t columns) (Within (held_rows t))
   drop_within columns =
       any_then (Within (held_rows t)) _ _
-      (λ places. finished_within (columns_frame t (places_besides t places)) (held_rows t) (chosen_within (places_besides t places) (some_below _ _)))
+      (λ places. limited_within (columns_frame t (places_besides t places)) (held_rows t) (chosen_within t (places_besides t places) (some_below _ _)))
 
   -- other names
   renamed_within : (pairs : List (LabelValue × Given)) → IfOk (renamed_frame t pairs) (Within (held_rows t))
-  renamed_within pairs = where_keeps (Within (held_rows t)) _ _ _ (λ scalars. finished_within (record t { headings = map (renamed_heading pairs) t.headings }) (held_rows t) (omega arith))
+  renamed_within pairs = where_keeps (Within (held_rows t)) _ _ _ (λ scalars. limited_within (record t { headings = map (renamed_heading pairs) t.headings }) (held_rows t) (omega arith))
 
   axis_within : (names : Given) → IfOk (rename_axis_result t names) (Within (held_rows t))
   axis_within names = of_length_keeps (Within (held_rows t)) _ _ _ (λ same. limited_within (record t { level_names = names_in names }) (held_rows t) (omega arith))
@@ -86,8 +77,7 @@ module _ (t : Table) where
 
   index_set_within : (places : List ℕ) → IfOk (index_set t places) (Within (held_rows t))
   index_set_within places =
-      unless_keeps (Within (held_rows t)) (first_repeated (indexed_by t places).headings) (on_levels (length places) (limited (indexed_by t places)))
-      (levels_keep (Within (held_rows t)) (length places) (limited (indexed_by t places)) (limited_within (indexed_by t places) (held_rows t) (indexed_within places)))
+      levels_keep (Within (held_rows t)) (length places) (limited (indexed_by t places)) (limited_within (indexed_by t places) (held_rows t) (indexed_within places))
 
   set_index_within : (keys : Given) → IfOk (set_index_result t keys) (Within (held_rows t))
   set_index_within keys = any_then (Within (held_rows t)) (argument_columns t (labels_in keys)) (index_set t) (λ places. index_set_within places)
@@ -121,13 +111,13 @@ free_within m name gs t e = cc
 module _ (t : Table) (s : IsShaped t) where
   levels_within : IfOk (levels_reset (as_frame t)) (Within (length t.labels * length t.level_names))
   levels_within =
-      any_then (Within (length t.labels * length t.level_names)) (level_columns (as_frame t)) (λ columns. finished (with_levels (as_frame t) columns))
+      any_then (Within (length t.labels * length t.level_names)) (level_columns (as_frame t)) _
       (λ columns.
       let made = with_levels (as_frame t) columns in
       let rows : held_rows made ≤ length made.labels = under_rows made.columns (length made.labels) in
       let count : length made.labels ≡ length t.labels = length_default (length t.labels) in
       let each : length t.labels * 1 ≤ length t.labels * length t.level_names = mul-le-mul_left (length t.labels) s.some in
-      finished_within made (length t.labels * length t.level_names) (omega arith))
+      unless_keeps (Within (length t.labels * length t.level_names)) _ _ (limited_within made (length t.labels * length t.level_names) (omega arith)))
 
   reset_by : (drop : Option Bool) → IfOk (on drop (reset_index_result t)) (λ w. entry_rows w ≤ held_rows t + (if unwrap_or drop false then 0 else length t.labels * length t.level_names))
   reset_by None = tt

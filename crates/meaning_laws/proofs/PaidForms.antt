@@ -1,8 +1,8 @@
 -- What a form leaves has no more rows than were there or are charged.
 use Rattle.{
-  meaning_script.{proofs.cells.Common.{◌≡◌, ◌∙◌, refl, sym, subst, ℕ, suc, ◌+◌, ◌*◌, ◌≤◌, List, [], ◌∷◌, length, map, arith, length-map, length-append, length-set, length-take, length-drop, nat_tests, drop, remove, Bool, true, false, if◌then◌else◌, nat_lt, slice_index_or, Option, Some, None, Result, Ok, Err, IfOk, IfSome, Shape, Series, Frame, CellValue, LabelValue, cell_label, Accessor, loc, FaultValue, wrong_kind, then_value, list_any}, specs.{charge.Charge.{answer_charge, select_charge, is_free_selection, touched_in, setting_charge, reached_count}, tables.{Table.{Table, cell_count, column_at}, Change.{without_column, with_values_from, with_values}, Value.{Entry, cell, table, Given, GivenSub, one, key_given}}, form.{Given.{is_frame}, Infix.{same_tuple}, Finish.{limited_table, limited, finished, column_labels}, Select.{selected_column}}, pick.Keys.{Pick}, select.{Keys.{Reach, columns_by, only_column, all_columns, may_stand_alone}, Select.{Way, plain, through, select_result, picked_result, shown_as, without_leading, as_series, column_rows, cut, way_reach}, Set.{SetValue, set_value, Reached, picked, Target, added_label, or_added, target_of, rows_set, columns_set, target_by, with_gap, with_row, with_new_column, lacks_columns, values_for, fit_from, filled_table, target_set, access_set, item_set, assign_result, removal_result}}, State.{rows_under, held_rows, entry_rows}}},
+  meaning_script.{proofs.cells.Common.{◌≡◌, ◌∙◌, refl, sym, subst, ℕ, suc, ◌+◌, ◌*◌, ◌≤◌, List, [], ◌∷◌, length, map, arith, length-map, length-set, nat_tests, drop, Bool, true, false, if◌then◌else◌, nat_lt, slice_index_or, Option, Some, None, Result, Ok, Err, IfOk, IfSome, Shape, Series, Frame, CellValue, LabelValue, cell_label, Accessor, loc, FaultValue, wrong_kind, then_value, list_any}, specs.{charge.Charge.{answer_charge, select_charge, is_free_selection, touched_in, setting_charge, reached_count}, tables.{Table.{Table, cell_count, column_at}, Change.{with_values_from, with_values}, Value.{Entry, cell, table, Given, GivenSub, one, key_given}}, form.{Given.{is_frame}, Infix.{same_tuple}, Finish.{limited_table, limited, column_labels}, Select.{places_of_label, columns_frame, places_besides}}, pick.Keys.{one_key, Pick}, select.{Keys.{Reach, label_columns, columns_by, only_column, all_columns, may_stand_alone}, Select.{Way, plain, through, select_result, picked_result, shown_as, without_leading, as_series, column_rows, cut, way_reach}, Set.{or_last, SetValue, set_value, Reached, picked, Target, added_label, or_added, target_of, rows_set, columns_set, target_by, with_gap, with_row, with_new_column, lacks_columns, values_for, fit_from, filled_table, target_set, access_set, item_set, assign_result, removal_result}}, State.{rows_under, held_rows, entry_rows}}},
   std.proofs.Math.Nat.{mul-le-mul_left},
-  meaning_laws.{specs.Validity.{IsValidObject}, proofs.{Words.{Below, Column}, ListLaws.{then_keeps, any_then, if_keeps, where_keeps}, TableLaws.{shaped}, ReachLaws.{IsReach, way_reach_is}, PartLaws.{IsPart, free_part}}},
+  meaning_laws.{specs.Validity.{IsValidObject}, proofs.{Words.{Below, Column}, ListLaws.{then_keeps, any_then, if_keeps, where_keeps}, TableLaws.{shaped}, ReachLaws.{IsReach, some_below, way_reach_is}, PartLaws.{IsPart, free_part}}},
 }
 
 -- a value that holds cells in at most so many rows
@@ -51,9 +51,6 @@ costs_where false r most h = costs_cells r most
 pub limited_within : (t : Table) (most : ℕ) → held_rows t ≤ most → IfOk (limited t) (Within most)
 limited_within = grind arith
 
-pub finished_within : (t : Table) (most : ℕ) → held_rows t ≤ most → IfOk (finished t) (Within most)
-finished_within = grind (arith, limited_within)
-
 pub none_below : (places : List ℕ) → Below 0 places → length places ≡ 0
 none_below [] below = refl
 none_below (p ∷ ps) below = absurd (omega (arith, below 0 0 (omega arith)))
@@ -78,7 +75,7 @@ module _ (t : Table) where
 
   shown_within : (single : Bool) (most : ℕ) → held_rows t ≤ most → IfOk (shown_as false single t) (Within most)
   shown_within true most h = limited_within (as_series t) most h
-  shown_within false most h = finished_within t most h
+  shown_within false most h = limited_within t most h
 
 picked_within : (t : Table) (reach : Reach) → IsReach t reach → IsPart (length t.labels) reach.rows → IfOk (picked_result t reach) (Within (held_rows t))
 picked_within t reach r part =
@@ -205,14 +202,18 @@ module _ (t : Table) (way : Way) (first : GivenSub) (second : Option GivenSub) w
       (subst (λ n. IfOk (target_by t.shape by t first second) (Touches n)) same (by_touched t.shape by t first second))
       (λ target touches. target_pays by value target target.columns.added refl touches))
 
--- in brackets one column is touched
+-- in brackets a column is touched
 series_touched : (s : Shape) (t : Table) (first : GivenSub) (second : Option GivenSub) → s ≡ Series → touched_in s (through loc) t first second ≡ touched_in s plain t first second
 series_touched Series t first second e = refl
 series_touched Frame t first second e = cc
 
+put_somewhere : (count : ℕ) (places : List ℕ) → 1 ≤ length (or_last count places)
+put_somewhere count [] = omega arith
+put_somewhere count (place ∷ places) = omega arith
+
 label_touched : (s : Shape) (t : Table) (c : CellValue) → 1 ≤ touched_in s plain t (key_given (one (cell c))) None
 label_touched Series t c = omega arith
-label_touched Frame t c = omega arith
+label_touched Frame t c = put_somewhere (length t.headings) (places_of_label t.headings (cell_label c))
 
 item_pays : (s : Shape) (t : Table) (first : GivenSub) (second : Option GivenSub) (g : Given) → t.shape ≡ s → IfOk (item_set s t first second g) (Pays t plain first second)
 item_pays Series t first second g is = access_pays t plain first second loc g (series_touched t.shape t first second is)
@@ -227,16 +228,17 @@ assign_within (table t) (through by) first second g = access_pays t (through by)
 
 -- ---- removals
 
-fewer_left : {X : Type 0} (xs : List X) (place : ℕ) → length (remove xs place) ≤ length xs
-fewer_left xs place = simp (length-append, length-take, length-drop) (omega arith)
-
-without_within : (t : Table) (place : ℕ) → held_rows (without_column t place) ≤ held_rows t
-without_within t place = under_within (remove t.columns place) t.columns (length t.labels) (length t.labels) (omega arith) (λ none. omega (arith, fewer_left t.columns place))
+-- some of the columns
+pub chosen_within : (t : Table) (places : List ℕ) → Below (length t.columns) places → held_rows (columns_frame t places) ≤ held_rows t
+chosen_within t places below =
+    under_within (columns_frame t places).columns t.columns (length t.labels) (length t.labels) (omega arith)
+    (λ none. length-map places (column_at t.columns) ∙ none_chosen _ places below none)
 
 pub removal_within : (v k : Entry) → IfOk (removal_result v k) (λ left. held_rows left ≤ entry_rows v)
 removal_within (table t) (cell c) =
     let fewer = λ (left : Table). held_rows left ≤ held_rows t in
-    let left : ℕ → Result Table FaultValue = λ place. Ok (without_column t place) in
-    where_keeps fewer (is_frame t.shape) (then_value (selected_column t (cell_label c)) left) wrong_kind
-    (λ is. any_then fewer (selected_column t (cell_label c)) left (λ place. without_within t place))
+    let left : List ℕ → Result Table FaultValue = λ places. Ok (columns_frame t (places_besides t places)) in
+    let found = label_columns t (one_key (cell_label c ∷ [])) in
+    where_keeps fewer (is_frame t.shape) (then_value found left) wrong_kind
+    (λ is. any_then fewer found left (λ places. chosen_within t (places_besides t places) (some_below _ _)))
 removal_within v k = tt

@@ -1,6 +1,6 @@
 -- A slice picks no more rows than there are, and none as a single one.
 use Rattle.{
-  meaning_script.{proofs.{cells.Common.{◌≡◌, refl, subst, ℕ, zero, suc, ◌+◌, ◌-◌, ◌*◌, ◌<◌, ◌≤◌, ℤ, pos, negsuc, List, [], ◌∷◌, length, arith, length-range_with_len, length-map-range_with_len, Bool, true, false, Option, Some, None, Result, Ok, IfOk, Shape, Series, Frame, div_ceil, Ordering, Rows, place_from, label_cmp, cell_label, Accessor, FaultValue}, pick.{InsideLaws.{ok_same, went_on, end_inside}, PositionLaws.{taken_before, before_within, through_within}}}, specs.{cells.Symbol.{loc, iloc, at, iat}, tables.{Table.{Table}, Value.{Given, GivenSub, key_given, span_given, nothing, one, many, cell}}, charge.Charge.{is_free_item, is_free_access, is_free_selection}, form.{Given.{each, is_scalar, same_label}, Select.{selected_column, selected_columns, labels_of}}, pick.{Faults.{PickFault}, Leading.{leading_cmp}, Rows.{rows_where, rows_of}, Slices.{label_slice, slice_on}, Positions.{rows_before, rows_through, bound_or, slice_with_step, step_or_one, position_slice}, Keys.{LabelKey, between, PlaceKey, place_slice, Pick, sliced_pick, picked_by_label, picked_by_place}}, select.{Keys.{Reach, label_bound, span_between, label_span, label_pick, found_pick, found_labels, place_bound, place_pick, rows_by, columns_by, rows_by_two, all_rows_of, all_columns, only_column, may_stand_alone, reach_of, reach_by}, Select.{item_reach, is_truth_list, Way, plain, through, way_reach}}}},
+  meaning_script.{proofs.{cells.Common.{◌≡◌, refl, subst, ℕ, zero, suc, ◌+◌, ◌-◌, ◌*◌, ◌<◌, ◌≤◌, ℤ, pos, negsuc, List, [], ◌∷◌, length, arith, length-range_with_len, length-map-range_with_len, Bool, true, false, Option, Some, None, Result, Ok, IfOk, Shape, Series, Frame, div_ceil, Ordering, Rows, place_from, label_cmp, Accessor, FaultValue}, pick.{InsideLaws.{ok_same, went_on, end_inside}, PositionLaws.{taken_before, before_within, through_within}}}, specs.{cells.Symbol.{loc, iloc, at, iat}, tables.{Table.{Table}, Value.{Given, GivenSub, key_given, span_given, nothing, one, many, cell}}, charge.Charge.{is_free_item, is_free_access, is_free_selection}, form.Given.{same_label}, pick.{Faults.{PickFault}, Leading.{leading_cmp}, Rows.{rows_where, rows_of}, Slices.{label_slice, slice_on}, Positions.{rows_before, rows_through, bound_or, slice_with_step, step_or_one, position_slice}, Keys.{LabelKey, between, PlaceKey, place_slice, Pick, sliced_pick, picked_by_label, picked_by_place}}, select.{Keys.{Reach, label_bound, span_between, label_span, label_pick, found_pick, found_labels, place_bound, place_pick, rows_by, loc_columns, columns_by, rows_by_two, all_rows_of, all_columns, only_column, may_stand_alone, reach_of, reach_by}, Select.{column_reach, item_reach, is_truth_list, Way, plain, through, way_reach}}}},
   std.proofs.Math.Nat.{mul-le-mul_left},
   meaning_laws.proofs.{Words.{Tuple}, ListLaws.{then_keeps, any_then, if_keeps, where_keeps}, ReachLaws.{found_is}},
 }
@@ -114,11 +114,13 @@ access_part Frame by t first (Some other) e = with_columns t (rows_by by t first
 all_part : (t : Table) → IsPart (length t.labels) (all_rows_of t)
 all_part t = record { several = refl; few = omega (arith, length-range_with_len 0 (length t.labels)) }
 
+column_part : (t : Table) (k : GivenSub) → IfOk (column_reach t k) (IsPartOf t)
+column_part t k = with_columns t (Ok (all_rows_of t)) (loc_columns t k) (all_part t)
+
 item_part : (s : Shape) (t : Table) (first : GivenSub) (second : Option GivenSub) → is_free_item s first ≡ true → IfOk (item_reach s t first second) (IsPartOf t)
 item_part Series t first second e = access_part Series loc t first second e
-item_part Frame t (key_given (one (cell c))) None e = any_then (IsPartOf t) (selected_column t (cell_label c)) _ (λ place. all_part t)
-item_part Frame t (key_given (many parts)) None e =
-    where_keeps (IsPartOf t) (each is_scalar parts) _ _ (λ scalars. any_then (IsPartOf t) (selected_columns t (labels_of parts)) _ (λ places. all_part t))
+item_part Frame t (key_given (one (cell c))) None e = column_part t (key_given (one (cell c)))
+item_part Frame t (key_given (many parts)) None e = column_part t (key_given (many parts))
 item_part Frame t first (Some second) e = tt
 item_part Frame t first None e = cc
 

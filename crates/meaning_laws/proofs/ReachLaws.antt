@@ -1,7 +1,7 @@
 -- What keys reach lies in the table.
 use Rattle.{
-  meaning_script.{proofs.{cells.Common.{rules, Bool, filter, ◌≡◌, ℕ, ◌<◌, ◌≤◌, List, [], ◌∷◌, length, arith, ◌∙◌, refl, ap, sym, ◌-◌, drop, map, nat_tests, length-map, length-drop, All-filter, get_or-range_with_len, length-range_with_len, true, Option, Some, None, Result, Ok, IfOk, false, slice_index_or, All, range_with_len, list_all, as_long, Shape, Series, Frame, Kind, LabelValue, na_cell, Accessor, FaultValue, then_value}, tables.KindLaws.{kind_is}, pick.{InsideLaws.{ok_same, went_on, mask_inside}, KeyLaws.{picked_inside, placed_inside}}}, specs.{tables.{Table.{Table, column_at}, Value.{Entry, cell, table, GivenSub, one, key_given}, Valid.{AreHeadings}}, form.{Finish.{column_labels, same_kind}, Infix.{same_tuple}, Select.{heading_at, length_result}}, pick.{Faults.{PickFault, then_pick}, Keys.{LabelKey, one_key, Pick, key_pick, listed_pick}, Masks.{masked_rows}}, select.{Keys.{found_pick, found_labels, label_key, whole_key, label_pick, marks_of, mask_pick, loc_rows, loc_columns, once, at_rows, rows_by, columns_by, reach_of, reach_by, Reach}, Select.{column_reach, columns_reach, item_reach, Way, way_reach, select_result, rows_taken, without_leading, cut, as_series, first_cell, kind_across, row_series, row_result, shown_as, picked_result}}}},
-  meaning_laws.{specs.Validity.{IsValidObject, IsValidEntry, IsHeldCell}, proofs.{Words.{Has, Tuple, Below, IsFrame, Keeps, Column, Name}, ListLaws.{length_tabulate, then_keeps, any_then, try_keeps, all_made, all_mapped, all_pass, at_or}, TableLaws.{IsShaped, some_labelled, shaped, one_column, limited_keeps, column_of_table, series_heading, frame_headings, selected_column_found, different, finished_keeps}, ColumnLaws.{IsColumn, Held, na_held, held_cell, wrap_fits}}},
+  meaning_script.{proofs.{cells.Common.{rules, Bool, filter, ◌≡◌, ℕ, ◌<◌, ◌≤◌, List, [], ◌∷◌, length, arith, ◌∙◌, refl, ap, sym, ◌-◌, drop, map, nat_tests, length-map, length-drop, All-filter, get_or-range_with_len, length-range_with_len, true, Option, Some, None, Result, Ok, IfOk, false, slice_index_or, All, range_with_len, list_all, as_long, Shape, Series, Frame, Kind, na_cell, Accessor, FaultValue, then_value}, tables.KindLaws.{kind_is}, pick.{InsideLaws.{ok_same, went_on, mask_inside}, KeyLaws.{picked_inside, placed_inside}}}, specs.{tables.{Table.{Table, column_at}, Value.{Entry, cell, table, GivenSub, one, many, key_given}, Valid.{AreHeadings}}, form.{Finish.{column_labels, same_kind}, Infix.{same_tuple}, Select.{heading_at, length_result}}, pick.{Faults.{PickFault, then_pick}, Keys.{LabelKey, one_key, Pick, key_pick, listed_pick}, Masks.{masked_rows}}, select.{Keys.{found_pick, found_labels, label_key, whole_key, label_pick, marks_of, mask_pick, loc_rows, loc_columns, once, at_rows, rows_by, columns_by, all_rows_of, reach_of, reach_by, Reach}, Select.{column_reach, item_reach, Way, way_reach, select_result, rows_taken, without_leading, cut, as_series, first_cell, kind_across, row_series, row_result, shown_as, picked_result}}}},
+  meaning_laws.{specs.Validity.{IsValidObject, IsValidEntry, IsHeldCell}, proofs.{Words.{Has, Tuple, Below, IsFrame, Keeps, Column, Name}, ListLaws.{length_tabulate, then_keeps, any_then, all_made, all_mapped, all_pass, at_or}, TableLaws.{IsShaped, some_labelled, shaped, one_column, limited_keeps, column_of_table, series_heading, frame_headings}, ColumnLaws.{IsColumn, Held, na_held, held_cell, wrap_fits}}},
 }
 
 -- selections
@@ -64,7 +64,7 @@ module _ (t : Table) where
     frame_keeps : IsFrame t → count < length t.level_names → Below (length t.labels) rows → Below (length t.columns) places → Keeps (shown_as false false (without_leading count (cut t rows places)))
     frame_keeps is left inside below =
         let some = some_labelled t s is places below in
-        search (finished_keeps, leading_shaped, cut_shaped, frame_headings, different)
+        search (limited_keeps, leading_shaped, cut_shaped, frame_headings)
 
 -- a row across columns of one kind
 module _ (count : ℕ) (kind : Kind) where
@@ -211,26 +211,17 @@ reach_by_is : (p : Shape) (by : Accessor) (t : Table) (first : GivenSub) (second
 reach_by_is = grind (arith, then_keeps, first_below, one_column, rows_by_is, any_then, frame_reach_of, below_all, columns_by_is)
 
 -- brackets on a frame
-column_reach_is : (t : Table) (l : LabelValue) → IsShaped t → IsFrame t → IfOk (column_reach t l) (IsReach t)
-column_reach_is t l s is =
-    let found = selected_column_found t l in
-    grind (arith, below_all)
+all_rows_are : (t : Table) → IsShaped t → IsPick (length t.level_names) (length t.labels) (all_rows_of t)
+all_rows_are = grind (arith, below_all)
 
-columns_reach_is : (t : Table) (ls : Tuple) → IsShaped t → IsFrame t → IfOk (columns_reach t ls) (IsReach t)
-columns_reach_is t ls s is =
-    then_keeps (λ places. (length places ≡ length ls) × Below (length t.headings) places) _ _ _
-    (try_keeps (λ _. Unit {0}) (λ place. place < length _) _ (λ l _. selected_column_found t l) ls (λ k d lt. tt))
-    (λ places below. record {
-      rows = below_all _;
-      levels = omega (arith, s.some);
-      columns = grind arith;
-      one = λ no. cc;
-      frame = λ no. is;
-    })
+column_reach_is : (t : Table) (k : GivenSub) → IsShaped t → IsFrame t → IfOk (column_reach t k) (IsReach t)
+column_reach_is t k s is = frame_reach_of t (Ok (all_rows_of t)) (loc_columns t k) is (all_rows_are t s) (loc_columns_is t k s)
 
 item_reach_is : (p : Shape) (t : Table) (first : GivenSub) (second : Option GivenSub) → IsShaped t → t.shape ≡ p → IfOk (item_reach p t first second) (IsReach t)
 item_reach_is Series t first second s is = search reach_by_is
-item_reach_is Frame t first None s is = grind (arith, column_reach_is, frame_reach_of, mask_pick_is, below_all, columns_reach_is)
+item_reach_is Frame t (key_given (one (cell c))) None s is = column_reach_is t (key_given (one (cell c))) s is
+item_reach_is Frame t (key_given (many parts)) None s is = column_reach_is t (key_given (many parts)) s is
+item_reach_is Frame t first None s is = grind (arith, frame_reach_of, mask_pick_is, below_all)
 item_reach_is Frame t first (Some second) s is = tt
 
 pub way_reach_is : (way : Way) (t : Table) (first : GivenSub) (second : Option GivenSub) → IsShaped t → IfOk (way_reach way t first second) (IsReach t)

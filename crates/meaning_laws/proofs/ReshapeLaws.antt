@@ -1,7 +1,7 @@
 -- Methods of another shape make valid tables of valid ones.
 use Rattle.{
-  meaning_script.{specs.{cells.Cell.{string, text}, join.Concat.{same_kind}, shapes.Reshape.{SpreadOf, cells_of_row, count_of_rows, column_by_row}, tables.{Table.{Table, column_at}, Value.{Given, scalar_in}}, call.{declared.{ReshapeMethod.{ReshapeMethod}, Method.TheVariants.{Reshape}}, Signature.{method_names, fits_shape}}, form.{Finish.{first_repeated, column_labels, value_of_column, column_of_value}, Infix.{same_tuple, tuple_before}, Select.{argument_column}}, select.Select.{row_name}, method.{Concat.{columns_below}, Groups.{keys_of, groups_of, headings_of, keys_in}, Rows.{labels_in, cells_by_row, all_places, without_missing}, Reshape.{stacked_labels, stacked, stack_result, labels_besides, labels_on, met_labels, places_of_column, spread_frame, unstacked_at, unstack_result, Pivoted, place_in, pivoted_in, label_places, under_cells, pivoted, pivot_result, groups_by, group_series, answered_groups, pivot_table_result, Melted, kept_in, values_named, melted_in, heading_cell, kept_column, value_labels, label_column, label_heading, melted, melt_result, reshaped}}, group.Reductions.{GroupReduction, reduce_groups}}, proofs.{cells.Common.{◌≡◌, ◌∙◌, refl, sym, ap, subst, ℕ, ◌+◌, ◌*◌, ◌<◌, ◌≤◌, List, [], ◌∷◌, ◌++◌, length, map, arith, length-append, length-map, length-replicate, length-remove, length-range_with_len, All-nil, All-cons, All-head, All-tail, All-append, All-replicate, Bool, true, false, replicate, remove, slice_index_or, codes, Option, Some, None, IsSome, IfOk, IfSome, All, list_all, flat_map, range_with_len, Kind, Frame, Int64, CellValue, LabelValue, ColumnValue, na_cell, cell_label, nat_tests, is_present}, align.OrderLaws.{all_flat, all_distinct, all_in_order}, tables.KindLaws.{kind_is}, call.ShapeLaws.{of_frame}, pick.InsideLaws.{rows_inside}}},
-  meaning_laws.{specs.Validity.{IsValidEntry}, proofs.{Words.{AllOf, Has, Keeps, Column, Tuple, Levelled, IsFrame}, ListLaws.{both_true, all_made, all_mapped, at_or, length_tabulate, then_keeps, on_keeps, on_some_keeps}, ColumnLaws.{IsColumnOf, IsColumn, Held, na_held, list_keeps}, TableLaws.{IsShaped, shaped, limited_keeps, column_of_table, cells_held, some_labelled, series_heading, frame_headings, different, finished_keeps, argument_column_found}, InfixLaws.{gap_held}, RowLaws.{rows_counted}, ReachLaws.{some_below, rows_shaped}, SetLaws.{length_default, default_levels}, GroupLaws.{one_column, places_found, rows_have, under_body, reduce_makes, each_makes, IsBody, frame_keeps, AreBelow, AreKeys}, LevelLaws.{on_levels_keep, IsLevel, level_of_keeps, of_several_keeps, dropped_has, name_there}}},
+  meaning_script.{specs.{cells.Cell.{string, text}, join.Concat.{same_kind}, shapes.Reshape.{SpreadOf, cells_of_row, count_of_rows, column_by_row}, tables.{Table.{Table, column_at}, Value.{Given, scalar_in}}, call.{declared.{ReshapeMethod.{ReshapeMethod}, Method.TheVariants.{Reshape}}, Signature.{method_names, fits_shape}}, form.{Finish.{column_labels, value_of_column, column_of_value}, Infix.{same_tuple, tuple_before}, Select.{argument_column}}, select.Select.{row_name}, method.{Concat.{columns_below}, Groups.{keys_of, groups_of, headings_of, keys_in}, Rows.{labels_in, cells_by_row, all_places, without_missing}, Reshape.{stacked_labels, stacked, stack_result, labels_besides, labels_on, met_labels, places_of_column, spread_frame, unstacked_at, unstack_result, Pivoted, place_in, pivoted_in, label_places, under_cells, pivoted, pivot_result, groups_by, group_series, answered_groups, pivot_table_result, Melted, kept_in, values_named, melted_in, heading_cell, kept_column, value_labels, label_column, label_heading, melted, melt_result, reshaped}}, group.Reductions.{GroupReduction, reduce_groups}}, proofs.{cells.Common.{◌≡◌, ◌∙◌, refl, sym, ap, subst, ℕ, ◌+◌, ◌*◌, ◌<◌, ◌≤◌, List, [], ◌∷◌, ◌++◌, length, map, arith, length-append, length-map, length-replicate, length-remove, length-range_with_len, All-nil, All-cons, All-head, All-tail, All-append, All-replicate, Bool, true, false, replicate, remove, slice_index_or, codes, Option, Some, None, IsSome, IfOk, IfSome, All, list_all, flat_map, range_with_len, Kind, Frame, Int64, CellValue, LabelValue, ColumnValue, na_cell, cell_label, nat_tests, is_present}, align.OrderLaws.{all_flat, all_distinct, all_in_order}, tables.KindLaws.{kind_is}, call.ShapeLaws.{of_frame}, pick.InsideLaws.{rows_inside}}},
+  meaning_laws.{specs.Validity.{IsValidEntry}, proofs.{Words.{AllOf, Has, Keeps, Column, Tuple, Levelled, IsFrame}, ListLaws.{both_true, all_made, all_mapped, at_or, length_tabulate, then_keeps, on_keeps, on_some_keeps}, ColumnLaws.{IsColumnOf, IsColumn, Held, na_held, list_keeps}, TableLaws.{IsShaped, shaped, limited_keeps, column_of_table, cells_held, some_labelled, series_heading, frame_headings, argument_column_found}, InfixLaws.{gap_held}, RowLaws.{rows_counted}, ReachLaws.{some_below, rows_shaped}, SetLaws.{length_default, default_levels}, GroupLaws.{one_column, places_found, rows_have, under_body, reduce_makes, each_makes, IsBody, frame_keeps, AreBelow, AreKeys}, LevelLaws.{on_levels_keep, IsLevel, level_of_keeps, of_several_keeps, dropped_has, name_there}}},
 }
 use Rattle.meaning_script.specs.call.declared.ReshapeMethod.TheVariants as method
 use Rattle.meaning_script.specs.shapes.Reshape as reshape
@@ -115,8 +115,8 @@ module _ (t : Table) (s : IsShaped t) (level : ℕ) (lt : IsLevel t level) (seve
   abbrev unstacked : SpreadOf LabelValue → Table
   unstacked made = spread_frame (remove t.level_names level) (slice_index_or t.level_names level None) (column_at t.columns 0) made
 
-  unstacked_shaped : (made : SpreadOf LabelValue) → IsSpread (length (remove t.level_names level)) made → first_repeated (unstacked made).headings ≡ None → IsShaped (unstacked made)
-  unstacked_shaped made h none =
+  unstacked_shaped : (made : SpreadOf LabelValue) → IsSpread (length (remove t.level_names level)) made → IsShaped (unstacked made)
+  unstacked_shaped made h =
       let count : length (remove t.level_names level) + 1 ≡ length t.level_names = search length-remove in
       record {
         some = omega (arith, count, several);
@@ -125,14 +125,14 @@ module _ (t : Table) (s : IsShaped t) (level : ℕ) (lt : IsLevel t level) (seve
         headed = length-map _ _ ∙ sym (length-map (range_with_len 0 (length made.columns)) _ ∙ length-range_with_len 0 _);
         columns = all_mapped (IsColumn (length made.rows)) _
             (λ column. record { filled = length-map _ _ ∙ length_tabulate _ _; held = all_mapped (Held (column_at t.columns 0).kind) _ (λ gap. gap_held _ (column_at t.columns 0).cells gap (cells_held t s 0)) (places_of_column made column) }) _;
-        headings = frame_headings Frame _ _ refl (all_made (Has 1) IsSome row_name name_there made.columns h.columns) (different _ (all_made (Has 1) IsSome row_name name_there made.columns h.columns) none);
+        headings = frame_headings Frame _ _ refl (all_made (Has 1) IsSome row_name name_there made.columns h.columns);
       }
 
   pub unstacked_keeps : Keeps (unstacked_at t level)
   unstacked_keeps =
       then_keeps (IsSpread (length (remove t.level_names level))) IsValidEntry _ _
       (spread_is _ (labels_besides t level) (labels_on t level) (all_made (Has (length t.level_names)) (Has (length (remove t.level_names level))) _ (dropped_has t level lt) t.labels s.levels) (all_mapped (Has 1) _ (λ labels. refl) t.labels))
-      (λ made h. finished_keeps _ (unstacked_shaped made h))
+      (λ made h. limited_keeps _ (unstacked_shaped made h))
 
 pub unstack_keeps : (t : Table) (level : Option CellValue) → IsShaped t → Keeps (unstack_result t level)
 unstack_keeps t level s = of_several_keeps IsValidEntry t _ (λ several. then_keeps _ _ _ _ (level_of_keeps t level) (λ k lt. unstacked_keeps t s k lt several))

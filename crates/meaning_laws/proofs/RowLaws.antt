@@ -1,7 +1,7 @@
 -- Methods that answer some rows, or all in another order, make valid tables of valid ones.
 use Rattle.{
-  meaning_script.{proofs.{cells.Common.{◌≡◌, ◌∙◌, ap, refl, ℕ, suc, ◌<◌, ℤ, List, [], ◌∷◌, length, map, arith, length-map, All-nil, All-cons, Bool, None, All, list_all, range_with_len, pointwise, truth_cell, Boolean, na_cell, is_present, same_cell}, pick.{InsideLaws.{rows_inside}, KeyLaws.{placed_inside}}, sorting.OrderLaws.{in_order_all}}, specs.{tables.{Table.{Table, rows_of}, Value.{Given}}, form.{Finish.{first_repeated, limited}, Select.{columns_frame, selected_columns}}, pick.Keys.{PlaceKey, picked_by_place}, select.{Keys.{found_pick}, Select.{rows_taken}}, method.Rows.{subset_places, labels_in, placed_rows, head_result, tail_result, cells_by_row, all_places, dropna_result, repeats, marks_series, duplicated_result, sorted_result, sort_values_result, sort_by_result, places_besides, drop_result}}},
-  meaning_laws.proofs.{Words.{Keeps, Tuple, Below, IsFrame}, ListLaws.{all_made, all_mapped, all_tabulated, length_tabulate, then_keeps, any_then, if_keeps}, ColumnLaws.{IsColumn}, TableLaws.{IsShaped, some_labelled, limited_keeps, column_of_table, series_heading, frame_headings, different, finished_keeps}, ReachLaws.{below_all, some_below, rows_shaped}},
+  meaning_script.{proofs.{cells.Common.{◌≡◌, ◌∙◌, ap, refl, ℕ, suc, ◌<◌, ℤ, List, [], ◌∷◌, length, map, arith, length-map, All-nil, All-cons, Bool, All, list_all, range_with_len, pointwise, truth_cell, Boolean, na_cell, is_present, same_cell}, pick.{InsideLaws.{rows_inside}, KeyLaws.{placed_inside}}, sorting.OrderLaws.{in_order_all}}, specs.{tables.{Table.{Table, rows_of}, Value.{Given}}, form.{Finish.{limited}, Select.{columns_frame}}, pick.Keys.{PlaceKey, each_key, picked_by_place}, select.{Keys.{found_pick, label_columns}, Select.{rows_taken}}, method.Rows.{subset_places, labels_in, placed_rows, head_result, tail_result, cells_by_row, all_places, dropna_result, repeats, marks_series, duplicated_result, sorted_result, sort_values_result, sort_by_result, places_besides, drop_result}}},
+  meaning_laws.{specs.Validity.{IsValidEntry}, proofs.{Words.{Keeps, Tuple, Below, IsFrame}, ListLaws.{all_made, all_mapped, all_tabulated, length_tabulate, then_keeps, any_then, if_keeps}, ColumnLaws.{IsColumn}, TableLaws.{IsShaped, some_labelled, limited_keeps, column_of_table, series_heading, frame_headings}, ReachLaws.{below_all, some_below, rows_shaped}}},
 }
 
 module _ (t : Table) where
@@ -65,10 +65,10 @@ module _ (t : Table) where
     sort_by_keeps = search (any_then, sort_values_keeps)
 
   -- the columns that stay
-  pub kept_shaped : (places : List ℕ) → IsShaped t → IsFrame t → Below (length t.columns) places → first_repeated (columns_frame t places).headings ≡ None → IsShaped (columns_frame t places)
-  kept_shaped places s is below none =
-      search (some_labelled, length-map, all_made, column_of_table, frame_headings, different)
+  pub kept_shaped : (places : List ℕ) → IsShaped t → IsFrame t → Below (length t.columns) places → IsShaped (columns_frame t places)
+  kept_shaped places s is below =
+      search (some_labelled, length-map, all_made, column_of_table, frame_headings)
 
   pub drop_keeps : (columns : Given) → IsShaped t → IsFrame t → Keeps (drop_result t columns)
   drop_keeps columns s is =
-      any_then _ (selected_columns t (labels_in columns)) _ (λ places. finished_keeps (columns_frame t (places_besides t places)) (kept_shaped (places_besides t places) s is (some_below _ _)))
+      any_then IsValidEntry (label_columns t (each_key (map (λ l. l ∷ []) (labels_in columns)))) _ (λ places. limited_keeps (columns_frame t (places_besides t places)) (kept_shaped (places_besides t places) s is (some_below _ _)))

@@ -1,7 +1,7 @@
 -- No setting and no removal has the fault that a file isn't there.
 use Rattle.{
   meaning_script.{proofs.cells.Common.{arith, List, Option, Result, Shape, LabelValue, Accessor, FaultValue}, specs.{tables.{Table.{Table}, Value.{Entry, Given, GivenSub}}, form.Finish.{column_labels}, pick.Keys.{Pick}, select.{Keys.{columns_by}, Select.{Way}, Set.{SetValue, set_value, series_set, frame_set, added_label, or_added, columns_set, Target, target_by, values_for, target_set, assign_result, removal_result}}}},
-  meaning_laws.{specs.FormFault.{HasFormFault}, proofs.{FormFaults.{if_fault, then_value_fault, met_rows_fault, limited_table_fault, of_length_fault, selected_column_fault}, SelectFaults.{joined_key_fault, rows_by_fault, columns_by_fault}}},
+  meaning_laws.{specs.FormFault.{HasFormFault}, proofs.{FormFaults.{if_fault, then_value_fault, met_rows_fault, limited_table_fault, of_length_fault}, SelectFaults.{joined_key_fault, label_columns_fault, rows_by_fault, columns_by_fault}}},
 }
 
 set_value_fault : (g : Given) → HasFormFault (set_value g)
@@ -33,4 +33,4 @@ pub assign_result_fault : (v : Entry) (way : Way) (first : GivenSub) (second : O
 assign_result_fault = grind (arith, then_value_fault, set_value_fault, target_by_fault, target_set_fault, frame_set_fault)
 
 pub removal_result_fault : (v k : Entry) → HasFormFault (removal_result v k)
-removal_result_fault = grind (arith, if_fault, then_value_fault, selected_column_fault)
+removal_result_fault = grind (arith, if_fault, then_value_fault, label_columns_fault)

@@ -1,20 +1,24 @@
 -- Settings and removals leave valid tables.
 use Rattle.{
-  meaning_script.{proofs.{cells.Common.{rules, ◌≡◌, ◌≢◌, ◌∙◌, ap, refl, sym, subst, ℕ, zero, suc, ◌+◌, ◌%◌, ◌/◌, ◌<◌, ◌≤◌, pos, nat_eq, List, [], ◌∷◌, length, map, arith, nat_tests, length-map, length-set, length-map-range_with_len, length-remove, All-cons, All-head, All-tail, All-append, All-set, all_pairs_remove, mul-le, Bool, true, false, ◌&&◌, nat_le, remove, slice_index, Option, Some, None, IsSome, IfSome, unwrap_or, Result, Ok, IfOk, All, list_any, CellValue, na_cell, LabelValue, int, holds, Accessor, FaultValue, then_value}, align.FoundLaws.{reindexed_count}}, specs.{tables.{Table.{Table, column_at}, Change.{put_at, with_column, without_column, with_cell, with_values_from}, Valid.{IsValid}, Value.{Entry, Given, GivenSub}}, form.{Finish.{default_labels, missing_column, column_labels}, Infix.{same_tuple}, Select.{place_of_label, selected_column}}, pick.Keys.{Pick}, align.Faults.{AlignRefusal, met_rows}, select.{Select.{Way}, Set.{SetValue, same, listed, aligned, set_value, put_result, with_rows, list_set, aligned_rows, column_at_rows, aligned_column, series_set, column_set, Reached, or_added, rows_set, Target, target_of, with_gap, with_row, kind_of_value, with_new_column, fit_from, filled_table, target_set, access_set, assign_result, removal_result}}}},
+  meaning_script.{proofs.{cells.Common.{rules, ◌≡◌, ◌∙◌, ap, refl, sym, subst, ℕ, zero, suc, ◌+◌, ◌%◌, ◌/◌, ◌≤◌, nat_eq, List, [], ◌∷◌, fold, length, arith, nat_tests, length-map, length-set, length-map-range_with_len, length-range_with_len, All-cons, All-head, All-tail, All-append, All-set, mul-le, Bool, true, ◌&&◌, nat_le, slice_index, Option, Some, None, IsSome, IfSome, Result, Ok, IfOk, All, CellValue, na_cell, LabelValue, holds, Accessor, FaultValue, then_value}, align.FoundLaws.{reindexed_count}}, specs.{tables.{Table.{Table, column_at}, Change.{with_column, with_cell, with_values_from}, Valid.{IsValid, within_limits}, Value.{Entry, Given, GivenSub}}, form.{Finish.{default_labels, missing_column, column_labels}, Select.{columns_frame, places_besides}, Set.{list_column}}, pick.Keys.{Pick}, align.Faults.{AlignRefusal, met_rows}, select.{Select.{Way}, Set.{SetValue, same, listed, aligned, set_value, with_labelled, places_to_put, put_result, with_rows, list_set, aligned_rows, column_at_rows, aligned_column, series_set, column_set, Reached, or_added, rows_set, Target, target_of, with_gap, with_row, kind_of_value, with_new_column, fit_from, filled_table, target_set, access_set, assign_result, removal_result}}}},
   std.proofs.lemmas.List.{length-append},
-  meaning_laws.{specs.Validity.{IsValidObject, IsHeldCell, IsValidGiven}, proofs.{Words.{Has, Column, Name, Tuple, Cells, Apart, Levelled, IsFrame, IsSeries}, ListLaws.{both_true, all_made, all_mapped, then_keeps, any_then, All-put_at, length-put_at, All-remove, of_length_keeps, where_keeps}, ColumnLaws.{IsColumn, list_keeps, spread_column, Held, na_held}, TableLaws.{IsShaped, shaped, valid, limited_table_keeps, column_of_table, frame_headings, one_column, put_heading, selected_column_found}, InfixLaws.{gap_held}}},
+  meaning_laws.{specs.Validity.{IsValidObject, IsHeldCell, IsValidGiven}, proofs.{Words.{Has, Column, Name, Tuple, Cells, Levelled, IsFrame, IsSeries}, ListLaws.{both_true, all_made, all_mapped, then_keeps, any_then, All-put_at, length-put_at, length_filter, of_length_keeps, where_keeps}, ColumnLaws.{IsColumn, list_keeps, spread_column, Held, na_held}, TableLaws.{IsShaped, shaped, valid, limited_table_keeps, column_of_table, frame_headings, one_column}, InfixLaws.{gap_held}, ReachLaws.{some_below}, RowLaws.{kept_shaped}}},
 }
 
 -- a column under a label at a place
-placed_shaped : (t : Table) (place : ℕ) (l : LabelValue) (c : Column) → IsShaped t → IsFrame t → IsColumn (length t.labels) c → Apart (put_at t.headings place (Some l)) → IsShaped (with_column t place (Some l) c)
-placed_shaped t place l c s is h apart =
+placed_shaped : (t : Table) (place : ℕ) (l : LabelValue) (c : Column) → IsShaped t → IsFrame t → IsColumn (length t.labels) c → IsShaped (with_column t place (Some l) c)
+placed_shaped t place l c s is h =
     let columns = All-put_at (IsColumn (length t.labels)) t.columns place c s.columns h in
-    let headings = frame_headings _ t.columns_name _ is (All-put_at IsSome t.headings place (Some l) (s.headings.labelled is) refl) apart in
+    let headings = frame_headings _ t.columns_name _ is (All-put_at IsSome t.headings place (Some l) (s.headings.labelled is) refl) in
     search length-put_at
 
--- a column in the place of its label, or last
+-- a column in the places of its label, or last
+each_shaped : (places : List ℕ) (t : Table) (l : LabelValue) (c : Column) → IsShaped t → IsFrame t → IsColumn (length t.labels) c → IsShaped (fold (λ u place. with_column u place (Some l) c) t places)
+each_shaped [] t l c s is h = s
+each_shaped (place ∷ places) t l c s is h = each_shaped places (with_column t place (Some l) c) l c (placed_shaped t place l c s is h) is h
+
 put_keeps : (t : Table) (l : LabelValue) (c : Column) → IsShaped t → IsFrame t → IsColumn (length t.labels) c → IfOk (put_result t l c) IsValid
-put_keeps t l c s is h = limited_table_keeps _ (placed_shaped t _ l c s is h (put_heading t.headings l (s.headings.different is)))
+put_keeps t l c s is h = limited_table_keeps (with_labelled t l c) (each_shaped (places_to_put t l) t l c s is h)
 
 pub length_default : (count : ℕ) → length (default_labels count) ≡ count
 length_default = search length-map-range_with_len
@@ -70,7 +74,8 @@ own_column = grind arith
 
 column_set_keeps : (t : Table) (l : LabelValue) (value : SetValue) → IsShaped t → IsFrame t → IsValidValue value → IfOk (column_set t l value) IsValid
 column_set_keeps t l (same c) s is h = search (put_keeps, spread_column)
-column_set_keeps t l (listed cells) s is h = grind (arith, then_keeps, own_column, list_keeps, list_set_keeps)
+column_set_keeps t l (listed cells) s is h =
+    then_keeps (λ c. IsColumn (length c.cells) c) IsValid (list_column cells) (list_set t l) (own_column cells (list_column cells) (list_keeps cells)) (λ c k. list_set_keeps t l c s is k)
 column_set_keeps t l (aligned u) s is h = search (series_set_keeps, shaped)
 
 -- a cell that is set keeps every column's kind
@@ -136,18 +141,17 @@ module _ (t : Table) (added : Name) where
   with_row_headings : (with_row t added).headings ≡ t.headings
   with_row_headings = grind arith
 
--- one more column, under a label that no column has
+-- one more column of a frame
 abbrev pub IsNew : Table → Name → Type 0
-IsNew t added = IfSome added (λ l. (IsFrame t) × (place_of_label t.headings l ≡ None))
+IsNew t added = IfSome added (λ l. IsFrame t)
 
 new_column_shaped : (t : Table) (added : Name) (value : SetValue) → IsShaped t → IsNew t added → IfOk (with_new_column t added value) IsShaped
 new_column_shaped t None value s h = s
-new_column_shaped t (Some l) value s h =
-    let apart = subst (λ n. Apart (put_at t.headings n (Some l))) (search) (put_heading t.headings l (s.headings.different h.0)) in
+new_column_shaped t (Some l) value s is =
     any_then IsShaped (kind_of_value value) _
-    (λ kind. placed_shaped t _ l (missing_column kind (length t.labels)) s h.0 (search (spread_column, na_held)) apart)
+    (λ kind. placed_shaped t _ l (missing_column kind (length t.labels)) s is (search (spread_column, na_held)))
 
--- a row is added on one level, and a column under a label that no column has
+-- a row is added on one level, and a column to a frame
 abbrev AddsTo : Table → Target → Type 0
 AddsTo t target = IfSome target.rows.added (λ l. length t.level_names ≡ 1) × IsNew t target.columns.added
 
@@ -158,14 +162,10 @@ target_keeps by t value target s adds =
     let grown = new_column_shaped (with_row t target.rows.added) target.columns.added value (row_shaped t _ s adds.0) grown_new in
     grind (arith, filled_keeps, then_keeps)
 
--- a label that a key adds is new
+-- what a key adds
 
-not_there : (hs : List Name) (l : LabelValue) → All IsSome hs → list_any (same_tuple (l ∷ [])) (map (λ h. unwrap_or h (int (pos 0)) ∷ []) hs) ≡ false → place_of_label hs l ≡ None
-not_there [] l some e = refl
-not_there (h ∷ hs) l some e = grind (arith, All-head IsSome h hs some, not_there hs l (All-tail IsSome h hs some))
-
-columns_new : (t : Table) (added : Name) (pick : Result Pick FaultValue) → IsShaped t → IsFrame t → IfOk (or_added added (column_labels t) pick) (λ r. IsNew t r.added)
-columns_new = grind (arith, not_there)
+columns_new : (t : Table) (added : Name) (pick : Result Pick FaultValue) → IsFrame t → IfOk (or_added added (column_labels t) pick) (λ r. IsNew t r.added)
+columns_new = grind arith
 
 one_level : (n : ℕ) → nat_eq n 1 ≡ true → n ≡ 1
 one_level n e = grind (arith, nat_tests)
@@ -192,17 +192,19 @@ fewer a b m le e = grind (arith, nat_tests)
 three : (a b c b' c' : Bool) → (b ≡ true → b' ≡ true) → (c ≡ true → c' ≡ true) → a && b && c ≡ true → a && b' && c' ≡ true
 three = grind arith
 
-label_removal_keeps : (t : Table) (l : LabelValue) → IsValid t → IsFrame t → IfOk (then_value (selected_column t l) (λ place. Ok (without_column t place))) IsValid
-label_removal_keeps t l v is =
-    then_keeps (λ place. place < length _) _ _ _ (selected_column_found t l)
-    (λ place lt.
+narrower : (rows a b : ℕ) → a ≤ b → within_limits rows b ≡ true → within_limits rows a ≡ true
+narrower = grind (arith, three, fewer, mul-le)
+
+kept_valid : (t : Table) (places : List ℕ) → IsValid t → IsFrame t → IsValid (columns_frame t (places_besides t places))
+kept_valid t places v is =
+    let kept = places_besides t places in
     let s = shaped t v in
-    let columns : length (remove t.columns place) + 1 ≡ length t.columns = grind (arith, length-remove) in
-    let headings : length (remove t.headings place) + 1 ≡ length t.headings = search length-remove in
-    let held = All-remove (IsColumn (length t.labels)) t.columns place s.columns in
-    let some = All-remove IsSome t.headings place (s.headings.labelled is) in
-    let apart = all_pairs_remove (λ a b. a ≢ b) t.headings place lt (s.headings.different is) in
-    grind (arith, valid, frame_headings, three, fewer, mul-le))
+    let few : length kept ≤ length t.columns = grind (arith, length_filter, length-range_with_len) in
+    let narrow : length (columns_frame t kept).columns ≡ length kept = search length-map in
+    valid (columns_frame t kept) (kept_shaped t kept s is (some_below _ _)) (subst (λ n. within_limits (length t.labels) n ≡ true) (sym narrow) (narrower (length t.labels) _ _ few v.limited))
+
+label_removal_keeps : (t : Table) (found : Result (List ℕ) FaultValue) → IsValid t → IsFrame t → IfOk (then_value found (λ places. Ok (columns_frame t (places_besides t places)))) IsValid
+label_removal_keeps t found v is = any_then _ found _ (λ places. kept_valid t places v is)
 
 -- a removal
 pub removal_result_keeps : (v k : Entry) → IsValidObject v → IfOk (removal_result v k) IsValid

@@ -1,7 +1,7 @@
 -- Tables whose parts fit, before their limits are tested.
 use Rattle.{
-  meaning_script.{proofs.cells.Common.{arith, ◌≡◌, ℕ, ◌<◌, ◌≤◌, List, [], ◌∷◌, length, map, ◌≢◌, refl, suc, nat_tests, set-get_or, All-nil, All-head, All-tail, all_pairs_push, true, None, IsSome, IfOk, All, Bool, false, ◌||◌, nat_lt, slice_index_or, Option, Some, IfSome, option_map, unwrap_or, Decides, list_any, Shape, Series, Frame, Int64, LabelValue, value_decides}, specs.{tables.{Table.{Table, column_at}, Valid.{AreHeadings, IsValid, within_limits}, Change.{put_at}}, form.{Finish.{limited_table, limited, with_columns, same_heading, first_repeated, finished}, Select.{heading_at, place_of_label, found, argument_column, selected_column}}, call.Binding.{same_label}}},
-  meaning_laws.proofs.{Words.{Keeps, Column, Name, Apart, IsFrame, Below}, ColumnLaws.{IsColumn, Held}, ListLaws.{all_made, at_or}},
+  meaning_script.{proofs.cells.Common.{arith, ◌≡◌, ℕ, ◌<◌, ◌≤◌, List, [], ◌∷◌, length, map, refl, suc, All-nil, true, None, IsSome, IfOk, All, slice_index_or, Option, Some, IfSome, option_map, Result, Ok, Decides, Shape, Series, Frame, Int64, LabelValue, FaultValue, value_decides}, specs.{tables.{Table.{Table, column_at}, Valid.{AreHeadings, IsValid, within_limits}}, form.{Finish.{limited_table, limited, with_columns, same_heading, unless_repeated}, Select.{heading_at, place_of_label, found, first_column, first_columns, label_of_several, unless_several, argument_column, argument_columns}}, call.Binding.{same_label}}},
+  meaning_laws.proofs.{Words.{Keeps, Column, Name, IsFrame, Below}, ColumnLaws.{IsColumn, Held}, ListLaws.{all_made, at_or, then_keeps, try_keeps}},
 }
 
 -- a table that is valid if it is within the limits
@@ -47,14 +47,14 @@ pub some_labelled : (t : Table) → IsShaped t → IsFrame t → (places : List 
 some_labelled t s is places below = all_made (λ place. place < length t.columns) IsSome (heading_at t) (λ place lt. s.headings.labelled is place None (omega (arith, lt, s.headed))) places below
 
 -- the labels of a frame
-pub frame_headings : (s : Shape) (name : Name) (hs : List Name) → s ≡ Frame → All IsSome hs → Apart hs → AreHeadings s name hs
+pub frame_headings : (s : Shape) (name : Name) (hs : List Name) → s ≡ Frame → All IsSome hs → AreHeadings s name hs
 frame_headings = grind arith
 
 -- a Series has one column
 pub one_column : (t : Table) → IsShaped t → t.shape ≡ Series → length t.columns ≡ 1
 one_column = grind arith
 
--- labels of columns that differ
+-- labels
 pub label_decides : (a b : LabelValue) → Decides (same_label a b) (a ≡ b)
 label_decides a b = value_decides a b
 
@@ -62,31 +62,9 @@ label_decides a b = value_decides a b
 met : (l : LabelValue) (h : Name) → same_heading (Some l) h ≡ true → h ≡ Some l
 met = grind (arith, label_decides)
 
--- another heading
-other : (h g : Name) → same_heading h g ≡ false → h ≢ g
-other = grind (arith, value_decides)
-
-neither : (b c : Bool) → b || c ≡ false → (b ≡ false) × (c ≡ false)
-neither = grind arith
-
-none_such : (h : Name) (hs : List Name) → list_any (same_heading h) hs ≡ false → All (λ g. h ≢ g) hs
-none_such h [] e = All-nil (λ g. h ≢ g)
-none_such h (g ∷ gs) e =
-    let both = neither _ _ e in
-    grind (arith, other, none_such h gs both.1)
-
--- headings of which none stands again
-pub different : (hs : List Name) → All IsSome hs → first_repeated hs ≡ None → Apart hs
-different [] some e = grind arith
-different (h ∷ hs) some e =
-    let here = All-head IsSome h hs some in
-    let rest = different hs (All-tail IsSome h hs some) in
-    let none = none_such h hs in
-    grind arith
-
--- a table that is finished
-pub finished_keeps : (t : Table) → (first_repeated t.headings ≡ None → IsShaped t) → Keeps (finished t)
-finished_keeps = grind arith
+-- unless a label stands again
+pub unless_keeps : {A : Type 0} (P : A → Type 0) (again : Name) (rest : Result A FaultValue) → IfOk rest P → IfOk (unless_repeated again rest) P
+unless_keeps P = grind arith
 
 -- where a label stands
 pub record IsPlace (hs : List Name) (l : LabelValue) (place : ℕ) : Type 0 where
@@ -100,31 +78,21 @@ pub place_found : (hs : List Name) (l : LabelValue) → IfSome (place_of_label h
 place_found [] l = tt
 place_found (h ∷ hs) l = grind (arith, met, later, place_found hs l)
 
-pub place_absent : (hs : List Name) (l : LabelValue) → place_of_label hs l ≡ None → All (λ h. h ≢ Some l) hs
-place_absent [] l e = grind arith
-place_absent (h ∷ hs) l e =
-    let rest = place_absent hs l in
-    let apart = other (Some l) h in
-    grind arith
-
 pub found_within : (hs : List Name) (l : LabelValue) → IfOk (found l (place_of_label hs l)) (λ place. place < length hs)
 found_within hs l =
     let found = place_found hs l in
     grind arith
 
-pub argument_column_found : (t : Table) (l : LabelValue) → IfOk (argument_column t l) (λ place. place < length t.headings)
-argument_column_found t l = found_within t.headings l
+module _ (t : Table) where
+  pub first_columns_found : (ls : List LabelValue) → IfOk (first_columns t ls) (λ places. (length places ≡ length ls) × Below (length t.headings) places)
+  first_columns_found ls = try_keeps (λ l. Unit {0}) (λ place. place < length t.headings) (first_column t) (λ l _. found_within t.headings l) ls (λ k d lt. tt)
 
-pub selected_column_found : (t : Table) (l : LabelValue) → IfOk (selected_column t l) (λ place. place < length t.headings)
-selected_column_found t l = found_within t.headings l
+  pub argument_columns_found : (ls : List LabelValue) → IfOk (argument_columns t ls) (λ places. (length places ≡ length ls) × Below (length t.headings) places)
+  argument_columns_found ls =
+      let are = λ (places : List ℕ). (length places ≡ length ls) × Below (length t.headings) places in
+      then_keeps are are (first_columns t ls) (λ places. unless_several t ls (Ok places)) (first_columns_found ls) (λ places found. unless_keeps are (label_of_several t ls) (Ok places) found)
 
-not_below : (n : ℕ) → nat_lt n n ≡ false
-not_below n = grind (arith, nat_tests)
-
--- the headings with a label in its own place, or last
-pub put_heading : (hs : List Name) (l : LabelValue) → Apart hs → Apart (put_at hs (unwrap_or (place_of_label hs l) (length hs)) (Some l))
-put_heading hs l apart = by _ refl (place_found hs l)
-  where
-    by : (o : Option ℕ) → place_of_label hs l ≡ o → IfSome o (IsPlace hs l) → Apart (put_at hs (unwrap_or o (length hs)) (Some l))
-    by (Some p) e at = grind (arith, nat_tests, set-get_or)
-    by None e at = grind (arith, not_below (length hs), all_pairs_push (λ a b. a ≢ b) hs (Some l) apart (λ k d lt. place_absent hs l e k d lt))
+  pub argument_column_found : (l : LabelValue) → IfOk (argument_column t l) (λ place. place < length t.headings)
+  argument_column_found l =
+      let is = λ (place : ℕ). place < length t.headings in
+      then_keeps is is (first_column t l) (λ place. unless_several t (l ∷ []) (Ok place)) (found_within t.headings l) (λ place below. unless_keeps is (label_of_several t (l ∷ [])) (Ok place) below)

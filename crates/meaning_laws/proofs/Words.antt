@@ -1,6 +1,6 @@
 -- Words of the laws.
 use Rattle.{
-  meaning_script.{proofs.cells.Common.{◌≡◌, ◌≢◌, ℕ, ◌<◌, List, length, Option, Result, IfOk, All, AllPairs, Series, Frame, CellValue, LabelValue, FaultValue}, specs.tables.{Table.{ColumnOf, Table}, Value.{Entry}}},
+  meaning_script.{proofs.cells.Common.{◌≡◌, ℕ, ◌<◌, List, length, Option, Result, IfOk, All, Series, Frame, CellValue, LabelValue, FaultValue}, specs.tables.{Table.{ColumnOf, Table}, Value.{Entry}}},
   meaning_laws.specs.Validity.{IsValidEntry},
 }
 
@@ -36,10 +36,6 @@ Has count tuple = length tuple ≡ count
 
 abbrev pub Levelled : ℕ → List Tuple → Type 0
 Levelled count tuples = All (Has count) tuples
-
--- items that differ
-abbrev pub Apart : {A : Type 0} → List A → Type 0
-Apart xs = AllPairs (λ a b. a ≢ b) xs
 
 abbrev pub IsFrame : Table → Type 0
 IsFrame t = t.shape ≡ Frame

@@ -12,12 +12,13 @@ use Rattle.meaning_call.specs.cells.Cell.{CellValue, na_cell, LabelValue, int}
 use Rattle.meaning_call.specs.cells.Fault.{FaultValue, wrong_kind, bad_value, argument, levels, repeated_label, then_value}
 use Rattle.meaning_group.specs.align.Targets.{rows_of_targets}
 use Rattle.meaning_shapes.specs.join.Concat.{column_below, united, are_equal, repeated_on_any, first_axis, labels_under}
+use Rattle.meaning_shapes.specs.join.Pairs.{or_else}
 use Rattle.meaning_select.specs.tables.Table.{ColumnOf, Table, column_at}
 use Rattle.meaning_select.specs.tables.Value.{Entry, Given, GivenList, NamedGiven, no_given, more_given, list_in, object_in}
 use Rattle.meaning_call.specs.declared.Function.TheVariants as function
 use Rattle.meaning_call.specs.Signature.{function_parameters}
 use Rattle.meaning_call.specs.Binding.{bound_of, on_bound, whole_in, truth_in, text_in}
-use Rattle.meaning_call.specs.form.Finish.{limited, finished, default_labels, same_heading, value_of_column, column_of_value, missing_column, try_all}
+use Rattle.meaning_call.specs.form.Finish.{limited, first_repeated, default_labels, same_heading, value_of_column, column_of_value, missing_column, try_all}
 use Rattle.meaning_call.specs.form.Infix.{same_tuple, common_name, on_rows}
 use Rattle.meaning_call.specs.form.Make.{on}
 use Rattle.meaning_call.specs.form.Select.{labels_of}
@@ -123,9 +124,40 @@ series_below ts c =
     then_value (columns_below (map (λ t. column_at t.columns 0) ts))
     (λ column. finished_below (table_below Series ts c (name_of_all (map (λ t. slice_index_or t.headings 0 None) ts) ∷ []) (column ∷ [])))
 
--- frames one below the other: a column for each label that a part has, or that all have
-abbrev pub frames_below : List Table → Concatenation → List (Option LabelValue) → Result Entry FaultValue
-frames_below ts c headings = then_value (try_all (frame_column_below ts) headings) (λ columns. finished_below (table_below Frame ts c headings columns))
+-- frames one below the other, under these headings: f makes a column of each of these
+abbrev pub frame_of_columns : {A : Type 0} → List Table → Concatenation → List (Option LabelValue) → (A → Result (ColumnOf CellValue) FaultValue) → List A → Result Entry FaultValue
+frame_of_columns ts c headings f xs = then_value (try_all f xs) (λ columns. finished_below (table_below Frame ts c headings columns))
+
+abbrev pub headings_of_tables : List Table → List (List (Option LabelValue))
+headings_of_tables ts = map (λ t. t.headings) ts
+
+-- frames whose lists of columns are equal: columns meet by position
+abbrev pub placed_column_below : List Table → ℕ → Result (ColumnOf CellValue) FaultValue
+placed_column_below ts place = columns_below (map (λ t. column_at t.columns place) ts)
+
+abbrev pub frames_in_order : List Table → Concatenation → List (Option LabelValue) → Result Entry FaultValue
+frames_in_order ts c headings = frame_of_columns ts c headings (placed_column_below ts) (range_with_len 0 (length headings))
+
+-- frames of other columns: one for each label that a part has, or that all have
+abbrev pub frames_by_label : List Table → Concatenation → List (Option LabelValue) → Result Entry FaultValue
+frames_by_label ts c headings = frame_of_columns ts c headings (frame_column_below ts) headings
+
+-- of the first part that repeats a label of its columns, the first such label
+abbrev pub repeated_in_any : List Table → Option LabelValue
+repeated_in_any [] = None
+repeated_in_any (t ∷ ts) = or_else (first_repeated t.headings) (repeated_in_any ts)
+
+-- a label that stands twice where each may stand once
+abbrev pub unless_label_twice : {A : Type 0} → Option (List LabelValue) → Result A FaultValue → Result A FaultValue
+unless_label_twice None rest = rest
+unless_label_twice (Some label) rest = Err (repeated_label label)
+
+-- Frames one below the other. Columns meet by position where all lists are equal, and else by labels that stand once in
+-- each part.
+abbrev pub frames_below : List Table → Concatenation → Result Entry FaultValue
+frames_below ts c =
+    if are_equal same_heading (headings_of_tables ts) then frames_in_order ts c (first_axis (headings_of_tables ts))
+    else unless_label_twice (option_map (λ l. l ∷ []) (repeated_in_any ts)) (frames_by_label ts c (united same_heading c.inner (headings_of_tables ts)))
 
 abbrev pub are_series : List Table → Bool
 are_series ts = list_all (λ t. is_series t.shape) ts
@@ -141,7 +173,7 @@ same_levels ts rest = if have_same_levels ts then rest else Err (bad_value level
 abbrev pub below : List Table → Concatenation → Result Entry FaultValue
 below ts c =
     if are_series ts then same_levels ts (series_below ts c)
-    else if are_frames ts then same_levels ts (frames_below ts c (united same_heading c.inner (map (λ t. t.headings) ts)))
+    else if are_frames ts then same_levels ts (frames_below ts c)
     else Err wrong_kind
 
 -- the labels of all columns; the names of Series are such labels, and nameless ones are numbered from 0 on
@@ -176,16 +208,12 @@ table_beside ts renumbered labels =
       columns = flat_map (columns_beside labels) ts;
     }
 
-abbrev pub unless_label_twice : {A : Type 0} → Option (List LabelValue) → Result A FaultValue → Result A FaultValue
-unless_label_twice None rest = rest
-unless_label_twice (Some label) rest = Err (repeated_label label)
-
 -- side by side: equal labels of rows stay, and else rows meet by labels that stand once in each part
 abbrev pub beside : List Table → Concatenation → Result Entry FaultValue
 beside ts c =
-    if are_equal same_tuple (labels_of_tables ts) then finished (table_beside ts c.renumbered (first_axis (labels_of_tables ts)))
+    if are_equal same_tuple (labels_of_tables ts) then limited (table_beside ts c.renumbered (first_axis (labels_of_tables ts)))
     else same_levels ts (unless_label_twice (repeated_on_any same_tuple (labels_of_tables ts))
-    (finished (table_beside ts c.renumbered (united same_tuple c.inner (labels_of_tables ts)))))
+    (limited (table_beside ts c.renumbered (united same_tuple c.inner (labels_of_tables ts)))))
 
 -- a label for each part, where there are labels; the rows of the answer have labels of their own then
 abbrev pub with_keys : ℕ → Bool → Bool → Option (List LabelValue) → Result Entry FaultValue → Result Entry FaultValue

@@ -16,7 +16,7 @@ use Rattle.meaning_call.specs.declared.ParameterName.TheVariants as name
 use Rattle.meaning_call.specs.declared.Accepted.TheVariants as accepted
 use Rattle.meaning_call.specs.Signature.{needed, parameters_of}
 use Rattle.meaning_call.specs.Binding.{Bound, not_taken, not_listed, bound, bound_of, each, is_scalar, truth_in, text_in}
-use Rattle.meaning_call.specs.form.Finish.{finished, default_labels, value_of_column, column_of_value, made_column, try_all}
+use Rattle.meaning_call.specs.form.Finish.{limited, first_shared, unless_repeated, default_labels, value_of_column, column_of_value, made_column, try_all}
 use Rattle.meaning_call.specs.form.Select.{argument_column, argument_columns, heading_at, labels_of}
 use Rattle.meaning_call.specs.form.Make.{on}
 use Rattle.meaning_select.specs.Select.{shown_as}
@@ -90,9 +90,11 @@ beside_keys t g headings columns =
       columns = map (key_column t g) g.keys ++ columns;
     }
 
--- a row for each group
+-- a row for each group; no other column has the label of a key that is a column
 abbrev pub grouped_rows : Table → Grouping → Bool → List (Option LabelValue) → List (ColumnOf CellValue) → Result Entry FaultValue
-grouped_rows t g single headings columns = if g.as_index then shown_as false single (under_keys t g headings columns) else finished (beside_keys t g headings columns)
+grouped_rows t g single headings columns =
+    if g.as_index then shown_as false single (under_keys t g headings columns)
+    else unless_repeated (first_shared (map (heading_at t) g.keys) headings) (limited (beside_keys t g headings columns))
 
 -- the rows as they are, under other columns
 abbrev pub same_rows : Table → Bool → List (Option LabelValue) → List (ColumnOf CellValue) → Result Entry FaultValue

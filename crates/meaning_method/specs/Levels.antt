@@ -8,7 +8,7 @@ use Rattle.meaning_call.specs.cells.Fault.{FaultValue, wrong_kind, bad_value, le
 use Rattle.meaning_group.specs.pick.Positions.{row_at}
 use Rattle.meaning_select.specs.tables.Table.{ColumnOf, Table}
 use Rattle.meaning_select.specs.tables.Value.{Entry, Given, many, nothing, one, row, entries, scalar_in}
-use Rattle.meaning_call.specs.form.Finish.{limited, finished, first_repeated, unless_repeated, same_heading, default_labels, try_all}
+use Rattle.meaning_call.specs.form.Finish.{limited, first_shared, unless_repeated, same_heading, default_labels, try_all}
 use Rattle.meaning_call.specs.form.Select.{columns_frame, argument_columns, heading_at, labels_of, place_of_label, found}
 use Rattle.meaning_call.specs.form.Set.{list_column, of_length}
 use Rattle.meaning_select.specs.Keys.{found_pick}
@@ -42,7 +42,7 @@ indexed_by t places =
     }
 
 abbrev pub index_set : Table → List ℕ → Result Entry FaultValue
-index_set t places = unless_repeated (first_repeated (indexed_by t places).headings) (on_levels (length places) (limited (indexed_by t places)))
+index_set t places = on_levels (length places) (limited (indexed_by t places))
 
 abbrev pub set_index_result : Table → Given → Result Entry FaultValue
 set_index_result t keys = then_value (argument_columns t (labels_in keys)) (index_set t)
@@ -84,17 +84,20 @@ level_label t level = unwrap_or (slice_index_or t.level_names level None) (namel
 abbrev pub level_labels : Table → List LabelValue
 level_labels t = map (level_label t) (range_with_len 0 (length t.level_names))
 
+abbrev pub level_headings : Table → List (Option LabelValue)
+level_headings t = map (λ l. Some l) (level_labels t)
+
 -- these columns of the levels before the others
 abbrev pub with_levels : Table → List (ColumnOf CellValue) → Table
 with_levels t columns =
     record (renumbered t) {
-      headings = map (λ l. Some l) (level_labels t) ++ t.headings;
+      headings = level_headings t ++ t.headings;
       columns = columns ++ t.columns;
     }
 
--- of a frame: the levels become columns
+-- of a frame: the levels become columns, whose labels no other column has
 abbrev pub levels_reset : Table → Result Entry FaultValue
-levels_reset t = then_value (level_columns t) (λ columns. finished (with_levels t columns))
+levels_reset t = then_value (level_columns t) (λ columns. unless_repeated (first_shared (level_headings t) t.headings) (limited (with_levels t columns)))
 
 -- a level by its number, counted from the end where it is negative, or the first one of a name, which a text alone can
 -- be

@@ -7,6 +7,7 @@ use Rattle.meaning_call.specs.cell_core.declared.grid.Shape.TheVariants.{Frame}
 use Rattle.meaning_call.specs.cells.Text.{Text, same_text}
 use Rattle.meaning_call.specs.cells.Cell.{CellValue, na_cell, LabelValue, text}
 use Rattle.meaning_call.specs.cells.Column.{gap_cell, taken}
+use Rattle.meaning_call.specs.cells.Reduce.{distinct}
 use Rattle.meaning_call.specs.cells.Fault.{FaultValue, wrong_kind, bad_value, key_kinds, bad_merge, no_common, limit, then_value}
 use Rattle.meaning_shapes.specs.join.declared.How.{How}
 use Rattle.meaning_shapes.specs.join.declared.How.TheVariants as how
@@ -15,10 +16,10 @@ use Rattle.meaning_shapes.specs.join.Pairs.{Pair, RepeatedKey, repeated_key, key
 use Rattle.meaning_select.specs.tables.Table.{ColumnOf, Table, column_at}
 use Rattle.meaning_select.specs.tables.Value.{Entry, Given, nothing, object_in}
 use Rattle.meaning_call.specs.Binding.{text_in}
-use Rattle.meaning_call.specs.form.Finish.{finished, default_labels, same_heading, same_kind}
+use Rattle.meaning_call.specs.form.Finish.{limited, default_labels, same_heading, same_kind}
 use Rattle.meaning_call.specs.form.Infix.{same_tuple, tuple_before, common_name}
 use Rattle.meaning_call.specs.form.Make.{on}
-use Rattle.meaning_call.specs.form.Select.{argument_columns, heading_at}
+use Rattle.meaning_call.specs.form.Select.{first_columns, unless_several, heading_at}
 use Rattle.meaning_method.specs.Rows.{all_places, labels_in, places_besides}
 use Rattle.meaning_method.specs.Groups.{row_keys, headings_of}
 use Rattle.meaning_method.specs.Levels.{label_cell}
@@ -29,17 +30,20 @@ pub record MergeKeys : Type 0 where
   pub left : List ℕ
   pub right : List ℕ
 
--- the labels of columns that both have, in the order of the left
+-- the labels of columns that both have, each once, in the order of the left
 abbrev pub common_headings : Table → Table → List (Option LabelValue)
-common_headings l r = filter (λ h. list_any (same_heading h) r.headings) l.headings
+common_headings l r = distinct same_heading (filter (λ h. list_any (same_heading h) r.headings) l.headings)
 
 -- each column of a frame has a label
 abbrev pub common_labels : Table → Table → List LabelValue
 common_labels l r = filter_map (λ h. h) (common_headings l r)
 
--- the columns of these labels, all of them on the left and then on the right
+-- The columns of these labels. None is absent, on the left and then on the right; and then none has several columns, on the
+-- left and then on the right.
 abbrev pub keys_named : Table → Table → List LabelValue → Result MergeKeys FaultValue
-keys_named l r labels = then_value (argument_columns l labels) (λ left. then_value (argument_columns r labels) (λ right. Ok record { left = left; right = right }))
+keys_named l r labels =
+    then_value (first_columns l labels) (λ left. then_value (first_columns r labels)
+    (λ right. unless_several l labels (unless_several r labels (Ok record { left = left; right = right }))))
 
 abbrev pub keys_under : Table → Table → List LabelValue → Result MergeKeys FaultValue
 keys_under l r [] = Err no_common
@@ -132,7 +136,7 @@ unless_twice (Some repeated) rest = Err (bad_merge repeated.side repeated.key)
 abbrev pub merged_rows : Table → Table → How → Validate → MergeKeys → Result Entry FaultValue
 merged_rows l r h once keys =
     unless_twice (repeated_key same_tuple once (row_keys l keys.left) (row_keys r keys.right))
-    (finished (merged l r keys (key_pairs same_tuple tuple_before h (row_keys l keys.left) (row_keys r keys.right))))
+    (limited (merged l r keys (key_pairs same_tuple tuple_before h (row_keys l keys.left) (row_keys r keys.right))))
 
 -- what `how` says; one of the four names is given
 abbrev pub how_named : Text → How
@@ -151,8 +155,7 @@ abbrev pub validate_in : Option Text → Validate
 validate_in None = record { left = false; right = false }
 validate_in (Some t) = validate_named t
 
--- `left.merge(right, how, on, validate)`: the keys with their kinds and number, then repeated keys, equal labels of
--- columns and the limits
+-- `left.merge(right, how, on, validate)`: the keys with their kinds and number, then repeated keys and the limits
 abbrev pub merge_result : Table → List Given → Result Entry FaultValue
 merge_result l (right ∷ h ∷ labels ∷ once ∷ []) =
     on (object_in right) (λ r. on (text_in h) (λ t. then_value (keys_of_merge l r labels) (merged_rows l r (how_named t) (validate_in (text_in once)))))

@@ -27,7 +27,7 @@ use Rattle.meaning_call.specs.declared.LevelMethod.TheVariants as level_method
 use Rattle.meaning_call.specs.declared.LabelMethod.TheVariants as label_method
 use Rattle.meaning_call.specs.declared.TableMethod.TheVariants as table_method
 use Rattle.meaning_call.specs.Binding.{is_scalar, same_label, whole_in, truth_in}
-use Rattle.meaning_call.specs.form.Finish.{limited, finished, value_of_column, fault_of_column, made_column, try_all, with_columns, same_kind, across_columns}
+use Rattle.meaning_call.specs.form.Finish.{limited, value_of_column, fault_of_column, made_column, try_all, with_columns, same_kind, across_columns}
 use Rattle.meaning_call.specs.form.Select.{cells_of}
 use Rattle.meaning_call.specs.form.Make.{on, kind_given, pairs_in}
 use Rattle.meaning_format.specs.CsvWrite.{csv_text_of}
@@ -139,7 +139,7 @@ renamed_heading pairs (Some l) = Some (unwrap_or (new_label pairs l) l)
 
 -- labels from a dict; those that it doesn't name stay
 abbrev pub renamed_frame : Table → List (LabelValue × Given) → Result Entry FaultValue
-renamed_frame t pairs = if list_all is_scalar_pair pairs then finished (record t { headings = map (renamed_heading pairs) t.headings }) else Err wrong_kind
+renamed_frame t pairs = if list_all is_scalar_pair pairs then limited (record t { headings = map (renamed_heading pairs) t.headings }) else Err wrong_kind
 
 -- a frame of the one column, which has the name, or 0
 abbrev pub as_frame : Table → Table

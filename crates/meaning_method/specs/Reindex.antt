@@ -7,7 +7,7 @@ use Rattle.meaning_group.specs.align.Faults.{met_rows}
 use Rattle.meaning_group.specs.align.Targets.{reindexed}
 use Rattle.meaning_select.specs.tables.Table.{ColumnOf, TableOf, Table, column_at}
 use Rattle.meaning_select.specs.tables.Value.{Entry, GivenList}
-use Rattle.meaning_call.specs.form.Finish.{limited, finished, column_labels}
+use Rattle.meaning_call.specs.form.Finish.{limited, column_labels}
 use Rattle.meaning_call.specs.form.Infix.{same_tuple, on_rows}
 use Rattle.meaning_select.specs.Keys.{whole_items}
 use Rattle.meaning_select.specs.Select.{row_name}
@@ -30,7 +30,7 @@ columns_at na t headings places = record t { headings = headings; columns = map 
 
 abbrev pub columns_reindexed : Table → List (List LabelValue) → Result Entry FaultValue
 columns_reindexed t labels =
-    then_value (met_rows (reindexed same_tuple (column_labels t) labels)) (λ places. finished (columns_at na_cell t (map row_name labels) places))
+    then_value (met_rows (reindexed same_tuple (column_labels t) labels)) (λ places. limited (columns_at na_cell t (map row_name labels) places))
 
 -- the items of a list are scalars on one level, as the columns have, and on several tuples with a label for each
 abbrev pub reindex_rows : Table → GivenList → Result Entry FaultValue

@@ -15,7 +15,7 @@ use Rattle.meaning_select.specs.tables.Value.{Entry, Given, nothing, scalar_in}
 use Rattle.meaning_call.specs.declared.ReshapeMethod.{ReshapeMethod}
 use Rattle.meaning_call.specs.declared.ReshapeMethod.TheVariants as method
 use Rattle.meaning_call.specs.Binding.{text_in}
-use Rattle.meaning_call.specs.form.Finish.{limited, finished, default_labels, value_of_column, column_of_value, column_labels}
+use Rattle.meaning_call.specs.form.Finish.{limited, default_labels, value_of_column, column_of_value, column_labels}
 use Rattle.meaning_call.specs.form.Infix.{same_tuple, tuple_before}
 use Rattle.meaning_call.specs.form.Make.{on}
 use Rattle.meaning_call.specs.form.Select.{argument_column, argument_columns, heading_at}
@@ -84,7 +84,7 @@ spread_frame names columns_name c s =
 -- the cells of rows that have these labels in the frame and of its columns: two rows with the same ones are refused
 abbrev pub spread_result : List (List LabelValue) → List (List LabelValue) → List (Option LabelValue) → Option LabelValue → ColumnOf CellValue → Result Entry FaultValue
 spread_result rest labels names columns_name c =
-    then_value (met_labels (reshape.unstacked same_tuple tuple_before rest labels)) (λ s. finished (spread_frame names columns_name c s))
+    then_value (met_labels (reshape.unstacked same_tuple tuple_before rest labels)) (λ s. limited (spread_frame names columns_name c s))
 
 -- the level's name is that of the columns
 abbrev pub unstacked_at : Table → ℕ → Result Entry FaultValue
@@ -215,7 +215,7 @@ melted t m labels cells =
 
 abbrev pub melt_of : Table → Melted → Result Entry FaultValue
 melt_of t m =
-    then_value (value_labels t m.values) (λ labels. then_value (columns_below (map (column_at t.columns) m.values)) (λ cells. finished (melted t m labels cells)))
+    then_value (value_labels t m.values) (λ labels. then_value (columns_below (map (column_at t.columns) m.values)) (λ cells. limited (melted t m labels cells)))
 
 abbrev pub melt_result : Table → Given → Given → Result Entry FaultValue
 melt_result t ids values = then_value (melted_in t ids values) (melt_of t)

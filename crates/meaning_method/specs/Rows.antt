@@ -1,5 +1,5 @@
 -- Methods that answer some rows of a table, or all of them in another order, and `drop`, which answers some columns.
-use Rattle.std.specs.Prelude.{ℕ, ℤ, pos, neg_ℤ, Bool, not, List, [], ◌∷◌, map, length, filter, slice_index_or, nat_eq, Some, None, Result, Ok, if◌then◌else◌}
+use Rattle.std.specs.Prelude.{ℕ, ℤ, pos, neg_ℤ, Bool, List, [], ◌∷◌, map, length, slice_index_or, Some, None, Result, Ok, if◌then◌else◌}
 use Rattle.std.specs.List.{list_any, list_all, range_with_len}
 use Rattle.std.specs.Ordering.{is_lt, int_eq}
 use Rattle.std.specs.Cmp.Lexicographic.{pointwise, slice_cmp}
@@ -11,11 +11,12 @@ use Rattle.meaning_call.specs.cells.Reduce.{is_present, same_cell}
 use Rattle.meaning_call.specs.cells.Fault.{FaultValue, then_value}
 use Rattle.meaning_select.specs.tables.Table.{Table, rows_of}
 use Rattle.meaning_select.specs.tables.Value.{Entry, cell, Given, nothing, one, many}
-use Rattle.meaning_call.specs.form.Finish.{limited, finished}
-use Rattle.meaning_call.specs.form.Select.{columns_frame, argument_columns, selected_columns, labels_of}
+use Rattle.meaning_call.specs.form.Finish.{limited}
+use Rattle.meaning_call.specs.form.Select.{columns_frame, argument_columns, labels_of}
+pub use Rattle.meaning_call.specs.form.Select.{all_places, places_besides}
 use Rattle.meaning_group.specs.pick.Rows.{rows_where}
-use Rattle.meaning_group.specs.pick.Keys.{PlaceKey, place_slice, picked_by_place}
-use Rattle.meaning_select.specs.Keys.{found_pick}
+use Rattle.meaning_group.specs.pick.Keys.{each_key, PlaceKey, place_slice, picked_by_place}
+use Rattle.meaning_select.specs.Keys.{found_pick, label_columns}
 use Rattle.meaning_select.specs.Select.{rows_taken}
 use Rattle.meaning_group.specs.sorting.Sorting.{in_order}
 pub use Rattle.meaning_group.specs.sorting.Labels.{is_na, directed}
@@ -34,9 +35,6 @@ tail_result t n = if int_eq n (pos 0) then limited (rows_taken t []) else placed
 -- the cells of each row in the columns at these places
 abbrev pub cells_by_row : Table → List ℕ → List (List CellValue)
 cells_by_row t places = map (λ r. r.cells) (rows_of na_cell (columns_frame t places))
-
-abbrev pub all_places : Table → List ℕ
-all_places t = range_with_len 0 (length t.columns)
 
 -- the rows in which no cell is missing
 abbrev pub without_missing : Table → Table
@@ -86,9 +84,6 @@ sort_values_result t ascending places = sorted_result t ascending (map (map cell
 abbrev pub sort_by_result : Table → Bool → Given → Result Entry FaultValue
 sort_by_result t ascending by = then_value (argument_columns t (labels_in by)) (sort_values_result t ascending)
 
--- the columns that aren't named
-abbrev pub places_besides : Table → List ℕ → List ℕ
-places_besides t places = filter (λ place. not (list_any (nat_eq place) places)) (all_places t)
-
+-- all columns but those of these labels
 abbrev pub drop_result : Table → Given → Result Entry FaultValue
-drop_result t columns = then_value (selected_columns t (labels_in columns)) (λ places. finished (columns_frame t (places_besides t places)))
+drop_result t columns = then_value (label_columns t (each_key (map (λ l. l ∷ []) (labels_in columns)))) (λ places. limited (columns_frame t (places_besides t places)))

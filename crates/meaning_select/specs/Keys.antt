@@ -125,13 +125,17 @@ abbrev pub loc_columns : Table → GivenSub → Result Pick FaultValue
 loc_columns t (key_given (row parts)) = Err wrong_kind
 loc_columns t k = label_pick 1 (column_labels t) k
 
+-- the columns of a label, or of each in a list, one after the other
+abbrev pub label_columns : Table → LabelKey (List LabelValue) → Result (List ℕ) FaultValue
+label_columns t key = then_value (found_labels 1 (column_labels t) key) (λ p. Ok p.rows)
+
 -- the labels of a key of `at` or `iat`: a scalar, or a tuple with a label for each level, and no list, slice or mask
 abbrev pub whole_key : ℕ → GivenSub → Result (List LabelValue) FaultValue
 whole_key levels (key_given (one (cell c))) = if nat_eq levels 1 then Ok (cell_label c ∷ []) else Err wrong_kind
 whole_key levels (key_given (row parts)) = if is_tuple_of levels (row parts) then Ok (labels_of parts) else Err wrong_kind
 whole_key levels k = Err wrong_kind
 
--- the row of the labels of `at`, which must stand there once
+-- the row or the column of a key of `at`, which must stand there once
 abbrev pub once : List LabelValue → Pick → Result Pick FaultValue
 once key p = if p.single then Ok p else Err (bad_value (repeated key))
 
@@ -152,7 +156,7 @@ rows_by iat t k = iat_pick (length t.labels) k
 abbrev pub columns_by : Accessor → Table → GivenSub → Result Pick FaultValue
 columns_by loc t k = loc_columns t k
 columns_by iloc t k = place_pick (length t.columns) k
-columns_by at t k = then_value (whole_key 1 k) (λ key. loc_columns t k)
+columns_by at t k = then_value (whole_key 1 k) (λ key. then_value (loc_columns t k) (once key))
 columns_by iat t k = iat_pick (length t.columns) k
 
 -- two scalars as the keys of a Series are one tuple, in `loc` and `at` on several levels

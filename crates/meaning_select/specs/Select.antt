@@ -6,16 +6,14 @@ use Rattle.meaning_form.specs.cell_core.declared.grid.Shape.TheVariants.{Series,
 use Rattle.meaning_form.specs.cell_core.declared.cell.Kind.{Kind}
 use Rattle.meaning_form.specs.cell_core.declared.cell.Kind.TheVariants.{Int64}
 use Rattle.meaning_form.specs.cells.Cell.{CellValue, na_cell, LabelValue}
-use Rattle.meaning_form.specs.cells.Operator.{cell_label}
 use Rattle.meaning_form.specs.cells.Symbol.{Accessor, loc}
 use Rattle.meaning_form.specs.cells.Fault.{FaultValue, wrong_kind, then_value}
 use Rattle.meaning_form.specs.tables.Table.{ColumnOf, Table, column_at}
-use Rattle.meaning_form.specs.tables.Value.{Entry, cell, table, Given, GivenList, GivenSub, one, row, many, key_given}
+use Rattle.meaning_form.specs.tables.Value.{Entry, cell, table, GivenSub, one, row, many, key_given}
 use Rattle.meaning_form.specs.Given.{each, is_scalar, is_truth}
-use Rattle.meaning_form.specs.Finish.{limited, finished, same_kind, across_columns}
-use Rattle.meaning_form.specs.Select.{selected_column, selected_columns, columns_frame, cells_of, labels_of}
-use Rattle.meaning_form.specs.pick.Keys.{single_pick, listed_pick}
-use Rattle.meaning_select.specs.Keys.{Reach, reach_of, reach_by, mask_pick, all_rows_of, all_columns}
+use Rattle.meaning_form.specs.Finish.{limited, same_kind, across_columns}
+use Rattle.meaning_form.specs.Select.{columns_frame, cells_of}
+use Rattle.meaning_select.specs.Keys.{Reach, reach_of, reach_by, mask_pick, loc_columns, all_rows_of, all_columns}
 
 -- the cells of a column at these rows, and the table of these rows and columns
 abbrev pub column_rows : List ℕ → ColumnOf CellValue → ColumnOf CellValue
@@ -65,29 +63,23 @@ abbrev pub shown_as : Bool → Bool → Table → Result Entry FaultValue
 shown_as true true t = Ok (cell (first_cell (column_at t.columns 0)))
 shown_as false true t = limited (as_series t)
 shown_as true false t = row_result t
-shown_as false false t = finished t
+shown_as false false t = limited t
 
 -- the rows of a key of fewer labels than levels lose the levels that it names
 abbrev pub picked_result : Table → Reach → Result Entry FaultValue
 picked_result t reach = shown_as reach.rows.single reach.columns.single (without_leading reach.rows.dropped (cut t reach.rows.rows reach.columns.rows))
 
--- what brackets reach in a frame: a column by its label, columns by a list of labels, or the rows of a mask
-abbrev pub column_reach : Table → LabelValue → Result Reach FaultValue
-column_reach t l = then_value (selected_column t l) (λ place. Ok record { rows = all_rows_of t; columns = single_pick place })
-
-abbrev pub columns_reach : Table → List LabelValue → Result Reach FaultValue
-columns_reach t ls = then_value (selected_columns t ls) (λ places. Ok record { rows = all_rows_of t; columns = listed_pick places })
-
-abbrev pub list_reach : Table → GivenList → Result Reach FaultValue
-list_reach t parts = if each is_scalar parts then columns_reach t (labels_of parts) else Err wrong_kind
+-- what brackets reach in a frame: the columns of a label or of a list of labels, as in `loc`, or the rows of a mask
+abbrev pub column_reach : Table → GivenSub → Result Reach FaultValue
+column_reach t k = reach_of (Ok (all_rows_of t)) (loc_columns t k)
 
 abbrev pub mask_reach : Table → Table → Result Reach FaultValue
 mask_reach t m = reach_of (mask_pick t m) (Ok (all_columns t))
 
 abbrev pub frame_reach : Table → GivenSub → Result Reach FaultValue
-frame_reach t (key_given (one (cell c))) = column_reach t (cell_label c)
+frame_reach t (key_given (one (cell c))) = column_reach t (key_given (one (cell c)))
 frame_reach t (key_given (one (table m))) = mask_reach t m
-frame_reach t (key_given (many parts)) = list_reach t parts
+frame_reach t (key_given (many parts)) = column_reach t (key_given (many parts))
 frame_reach t k = Err wrong_kind
 
 -- of a Series, brackets alone are `loc`; of a frame they take one key

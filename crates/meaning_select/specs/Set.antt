@@ -1,5 +1,5 @@
 -- What a setting or a removal makes of a table: places are picked, all is tested, and then the cells are replaced.
-use Rattle.std.specs.Prelude.{ℕ, suc, ◌*◌, ◌%◌, Bool, true, false, not, ◌&&◌, ◌||◌, List, [], ◌∷◌, ◌++◌, map, length, replicate, slice_index, slice_index_or, nat_eq, nat_lt, Option, Some, None, is_some, unwrap_or, Result, Ok, Err, if◌then◌else◌}
+use Rattle.std.specs.Prelude.{ℕ, suc, ◌*◌, ◌%◌, Bool, true, false, not, ◌&&◌, ◌||◌, List, [], ◌∷◌, ◌++◌, map, fold, length, replicate, slice_index, slice_index_or, nat_eq, nat_lt, Option, Some, None, is_some, Result, Ok, Err, if◌then◌else◌}
 use Rattle.std.specs.List.{list_any}
 use Rattle.meaning_form.specs.cell_core.declared.grid.Shape.{Shape}
 use Rattle.meaning_form.specs.cell_core.declared.grid.Shape.TheVariants.{Series, Frame}
@@ -11,17 +11,17 @@ use Rattle.meaning_form.specs.cells.Operator.{cell_label, scalar_kind}
 use Rattle.meaning_form.specs.cells.Symbol.{Accessor, loc, iloc, at, iat}
 use Rattle.meaning_form.specs.cells.Fault.{FaultValue, wrong_kind, bad_value, length_of, levels, no_columns, then_value}
 use Rattle.meaning_form.specs.tables.Table.{ColumnOf, Table, column_at}
-use Rattle.meaning_form.specs.tables.Change.{with_column, without_column, with_values}
+use Rattle.meaning_form.specs.tables.Change.{with_column, with_values}
 use Rattle.meaning_form.specs.tables.Value.{Entry, cell, table, Given, GivenSub, one, row, many, key_given}
 use Rattle.meaning_form.specs.Given.{each, is_scalar, is_frame}
 use Rattle.meaning_form.specs.Finish.{limited_table, default_labels, missing_column, column_labels}
 use Rattle.meaning_form.specs.Infix.{same_tuple, same_tuples}
-use Rattle.meaning_form.specs.Select.{place_of_label, selected_column, cells_of}
+use Rattle.meaning_form.specs.Select.{places_of_label, columns_frame, places_besides, cells_of}
 use Rattle.meaning_form.specs.Set.{list_column, of_length}
-use Rattle.meaning_form.specs.pick.Keys.{Pick}
+use Rattle.meaning_form.specs.pick.Keys.{one_key, Pick}
 use Rattle.meaning_form.specs.align.Faults.{met_rows}
 use Rattle.meaning_form.specs.align.Targets.{reindexed}
-use Rattle.meaning_select.specs.Keys.{rows_by, columns_by, joined_key, all_columns, only_column, may_stand_alone}
+use Rattle.meaning_select.specs.Keys.{rows_by, label_columns, columns_by, joined_key, all_columns, only_column, may_stand_alone}
 use Rattle.meaning_select.specs.Select.{Way, plain, through}
 
 -- the value of a setting: a scalar for each cell, a list, or a Series
@@ -36,9 +36,17 @@ set_value (one (table s)) = if is_frame s.shape then Err wrong_kind else Ok (ali
 set_value (many parts) = if each is_scalar parts then Ok (listed (cells_of parts)) else Err wrong_kind
 set_value g = Err wrong_kind
 
--- the frame with the column in place of the first one with the label, or last
+-- where a column is put under a label: in place of each one that has it, or after the last one
+abbrev pub or_last : ℕ → List ℕ → List ℕ
+or_last count [] = count ∷ []
+or_last count (place ∷ places) = place ∷ places
+
+abbrev pub places_to_put : Table → LabelValue → List ℕ
+places_to_put t l = or_last (length t.headings) (places_of_label t.headings l)
+
+-- the frame with the column in place of each one that has the label, or last
 abbrev pub with_labelled : Table → LabelValue → ColumnOf CellValue → Table
-with_labelled t l c = with_column t (unwrap_or (place_of_label t.headings l) (length t.headings)) (Some l) c
+with_labelled t l c = fold (λ u place. with_column u place (Some l) c) t (places_to_put t l)
 
 abbrev pub put_result : Table → LabelValue → ColumnOf CellValue → Result Table FaultValue
 put_result t l c = limited_table (with_labelled t l c)
@@ -83,7 +91,7 @@ series_set t l s =
 abbrev pub scalar_column : ℕ → CellValue → ColumnOf CellValue
 scalar_column count c = record { kind = scalar_kind Int64 c; cells = replicate count c }
 
--- a whole column of a frame
+-- the columns of a label
 abbrev pub column_set : Table → LabelValue → SetValue → Result Table FaultValue
 column_set t l (same c) = put_result t l (scalar_column (length t.labels) c)
 column_set t l (listed cells) = then_value (list_column cells) (list_set t l)
@@ -224,8 +232,8 @@ abbrev pub assign_result : Entry → Way → GivenSub → Option GivenSub → Gi
 assign_result (cell c) way first second g = Err wrong_kind
 assign_result (table t) way first second g = table_set way t first second g
 
--- `del` of a frame's column; of a Series, of a scalar, and by what isn't a scalar it is a TypeError
+-- `del` of the columns of a label of a frame; of a Series, of a scalar, and by what isn't a scalar it is a TypeError
 abbrev pub removal_result : Entry → Entry → Result Table FaultValue
 removal_result (table t) (cell c) =
-    if is_frame t.shape then then_value (selected_column t (cell_label c)) (λ place. Ok (without_column t place)) else Err wrong_kind
+    if is_frame t.shape then then_value (label_columns t (one_key (cell_label c ∷ []))) (λ places. Ok (columns_frame t (places_besides t places))) else Err wrong_kind
 removal_result v k = Err wrong_kind

@@ -1,16 +1,15 @@
 -- Tables whose parts fit one another.
-use Rattle.std.specs.Prelude.{◌≡◌, ◌≢◌, ◌≤◌, ℕ, ◌*◌, ◌^◌, nat_le, ◌&&◌, Bool, true, List, length, Option, None, IsSome, All, AllPairs}
+use Rattle.std.specs.Prelude.{◌≡◌, ◌≤◌, ℕ, ◌*◌, ◌^◌, nat_le, ◌&&◌, Bool, true, List, length, Option, None, IsSome, All}
 use Rattle.meaning_cells.specs.cell_core.declared.grid.Shape.{Shape}
 use Rattle.meaning_cells.specs.cell_core.declared.grid.Shape.TheVariants.{Series, Frame}
 use Rattle.meaning_cells.specs.Cell.{holds}
 use Rattle.meaning_tables.specs.Table.{TableOf, Table}
 
--- a Series has one column, and its columns no name; the columns of a frame have labels, which differ
+-- a Series has one column, and its columns no name; each column of a frame has a label, which others may have too
 pub record AreHeadings {L : Type 0} (shape : Shape) (columns_name : Option L) (headings : List (Option L)) : Type 0 where
   pub single : shape ≡ Series → length headings ≡ 1
   pub nameless : shape ≡ Series → columns_name ≡ None
   pub labelled : shape ≡ Frame → All IsSome headings
-  pub different : shape ≡ Frame → AllPairs (λ a b. a ≢ b) headings
 
 -- each column has a heading and a cell for each row
 pub record IsWhole {L C : Type 0} (t : TableOf L C) : Type 0 where

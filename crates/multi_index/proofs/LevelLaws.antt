@@ -1,9 +1,5 @@
 -- Some levels of an axis, by their places.
-use Rattle.{
-  index_core.{proofs.cells.Common.{◌≡◌, ◌∙◌, ap, sym, refl, arith, ℕ, ◌+◌, ◌<◌, List, [], ◌∷◌, ◌++◌, length, map, take, drop, set, remove, swap, slice_index_or, Option, None, All, take_more, take_more_set, map_more, map-append, map-id, map-set, take-map, drop-map, get_or-map, length-map, All-head, All-tail, All-map, fill_by_all, length-range_with_len, get_or-range_with_len, map-range_with_len_more, range_with_len, Label}, specs.Labels.{labels_at}},
-  cell_core.specs.declared.cell.Label.TheVariants.{Na},
-  multi_index.specs.Axes.{AxisValue, HaveLevels, at_levels, without_level, without_leading, with_swapped},
-}
+use Rattle.{index_core.{proofs.cells.Common.{◌≡◌, sym, refl, arith, ℕ, ◌+◌, ◌<◌, List, [], ◌∷◌, ◌++◌, length, map, take, drop, set, remove, swap, slice_index_or, Option, None, All, take_more_set, map_more, map-append, map-id, map-set, take-map, drop-map, get_or-map, All-head, All-tail, fill_by_all, length-range_with_len, get_or-range_with_len, map-range_with_len_more, range_with_len, Label}, specs.Labels.{labels_at}}, cell_core.specs.declared.cell.Label.TheVariants.{Na}, multi_index.specs.Axes.{AxisValue, HaveLevels, at_levels, without_level, without_leading, with_swapped}}
 
 -- all levels
 pub levels_below : (n : ℕ) → All (λ level. level < n) (range_with_len 0 n)
@@ -57,10 +53,6 @@ module _ (axis : AxisValue) (n : ℕ) (alike : HaveLevels n axis.tuples) (count 
 
   pub levels_swapped : (order : List ℕ) (i j : ℕ) → i < n → j < n → order ≡ swap (range_with_len 0 n) i j → at_levels axis order ≡ with_swapped axis i j
   levels_swapped _ i j first second is = cc (levels_are (swap (range_with_len 0 n) i j) (λ t. swap t i j) (swap axis.names i j) (λ t size. read_swapped t n Na size i j first second) (read_swapped axis.names n None count i j first second))
-
--- tuples at some levels have a label for each
-pub levels_at : (tuples : List (List Label)) (order : List ℕ) → HaveLevels (length order) (map (λ tuple. labels_at tuple order) tuples)
-levels_at tuples order = All-map (λ t. length t ≡ length order) (λ t. labels_at t order) tuples (λ k d lt. length-map order _)
 
 -- a list of one level
 pub only_place : (order : List ℕ) → length order ≡ 1 → slice_index_or order 0 0 ∷ [] ≡ order

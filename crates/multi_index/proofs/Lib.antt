@@ -1,4 +1,12 @@
 pub mod NameLaws
+pub mod DistinctLaws
+pub mod KnownLaws
+pub mod OrderedLaws
+pub mod SeenLaws
+pub mod LevelTuples
+pub mod WholeLaws
+pub mod CodeLaws
+pub mod AxisLaws
 pub mod TupleLaws
 pub mod SameTuples
 pub mod PickLaws

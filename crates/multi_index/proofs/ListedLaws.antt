@@ -1,5 +1,5 @@
 -- Leading labels in a list of tuples, and slices of tuples in order.
-use Rattle.index_core.{proofs.{cells.Common.{◌≡◌, ◌∙◌, ap, sym, refl, arith, ℕ, zero, suc, ◌+◌, ◌<◌, ◌≤◌, Bool, true, false, not, ◌&&◌, List, [], ◌∷◌, length, drop, slice_index_or, Option, Some, Ok, nat_tests, drop_more, drop_all, get_or_from_slice_get, slice_get, is_lt, is_gt, ordering_then, Ordering, Less, Equal, Greater, Label, Rows, Text}, pick.{OrderLaws.{sorted_in_order}, LeadingLaws.{leading_below, leading_within}, RowLaws.{when_so}}, SplitLaws.{order_total, rows_of_splits, split_at_first}}, specs.{pick.{Leading.{leads, leading_cmp}, Rows.{rows_of, rows_between}, Slices.{is_in_order, reaches, stays_within, label_slice, leading_slice, slice_on}}, Labels.{order_in}, Splits.{IsSplitAt}}}
+use Rattle.index_core.{proofs.{cells.Common.{◌≡◌, ap, refl, arith, ℕ, ◌+◌, ◌<◌, ◌≤◌, Bool, true, false, not, ◌&&◌, List, [], ◌∷◌, length, drop, slice_index_or, Option, Some, Ok, nat_tests, drop_more, drop_all, get_or_from_slice_get, slice_get, is_lt, is_gt, ordering_then, Ordering, Less, Equal, Label, Rows, Text}, pick.{OrderLaws.{sorted_in_order}, LeadingLaws.{leading_below, leading_within}, RowLaws.{when_so}}, SplitLaws.{order_total, rows_of_splits, split_at_first}}, specs.{pick.{Leading.{leads, leading_cmp}, Rows.{rows_of, rows_between}, Slices.{is_in_order, reaches, stays_within, label_slice, leading_slice, slice_on}}, Labels.{order_in}, Splits.{IsSplitAt}}}
 
 -- leading labels, one more at a time
 module _ {L : Type 0} (same : L → L → Bool) where

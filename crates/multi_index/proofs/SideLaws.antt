@@ -1,10 +1,5 @@
 -- Labels of tuples, one more at a time.
-use Rattle.{
-  index_core.proofs.cells.Common.{arith, ◌≡◌, ◌∙◌, ℕ, ◌+◌, ◌<◌, ◌≤◌, List, [], ◌∷◌, ◌++◌, map, take, set, length, ap, Some, slice_index_or, take_more, take_all, take_more_set, map_more, slice_get-get_or, get_or_from_slice_get, slice_get, Label},
-  std.proofs.lemmas.List.{append_assoc},
-  cell_core.specs.declared.cell.Label.TheVariants.{Na},
-  multi_index.specs.Axes.{AxisValue, label_at},
-}
+use Rattle.{index_core.proofs.cells.Common.{arith, ◌≡◌, ℕ, ◌+◌, ◌<◌, ◌≤◌, List, [], ◌∷◌, ◌++◌, map, take, set, length, Some, slice_index_or, take_more, take_all, take_more_set, map_more, slice_get-get_or, get_or_from_slice_get, Label}, std.proofs.lemmas.List.{append_assoc}, cell_core.specs.declared.cell.Label.TheVariants.{Na}, multi_index.specs.Axes.{AxisValue, label_at}}
 pub use Rattle.multi_index.proofs.SameTuples.{tuple_there}
 
 -- what is made of one row more

@@ -1,4 +1,6 @@
 pub mod Axes
+pub mod Levels
+pub mod Kept
 pub mod Views
 pub mod Picks
 -- definitions of crates below, passed on to the crates above

@@ -9,11 +9,13 @@ ghost use Rattle.index_core.specs.pick.Rows.{rows_of};
 ghost use Rattle.index_core.specs.pick.Slices.{label_slice};
 ghost use Rattle.index_core.specs.Labels.{same_number, order_in};
 ghost use Rattle.multi_index.specs.Axes.{HaveLevels, AreLeading, nameless_axis, range_axis, single_tuples, tuples_at, label_at, with_name, taken_axis, at_levels, without_level, without_leading, with_swapped, with_level};
+ghost use Rattle.multi_index.specs.Levels.{AreLevels, level_tuples};
 ghost use Rattle.multi_index.specs.Picks.{AddsLevel, PicksBy, TellsBy, as_it_is, axis_fault, leading_rows, leading_slice};
 
 use crate::fault::AxisFault;
-use crate::levels::{all_levels, labels_of, names_of, names_with, tuples_of, tuples_with};
+use crate::levels::Levels;
 use crate::listed;
+use crate::names::{all_levels, names_of, names_with};
 use cell_core::{Label, NoMemory, Places, Rows, TextDict, Tuple, Tuples};
 use index_core::{Index, IndexFault, LabelRows};
 use std::alloc::Global;
@@ -24,15 +26,8 @@ use std::marker::Model;
 #[derive(Drop)]
 pub struct Axis {
     alloc: Global,
-    rows: AxisRows,
+    levels: Levels,
     names: [Option<Label>; 4],
-    levels: usize,
-}
-
-#[derive(Drop)]
-enum AxisRows {
-    Single(Index),
-    Listed(Tuples),
 }
 
 impl Model for Axis {
@@ -44,23 +39,17 @@ impl Model for Axis {
 
     ghost view = { kept_axis };
 
-    ghost invariant = { λ a. IsAxis a.rows a.names a.levels };
+    ghost invariant = { IsAxis };
 }
 
 impl Axis {
     /// One level of the whole numbers from 0 to n - 1, without a name. `NoMemory` is the only refusal.
-    #[tactic(auto, using(crate::proofs::TupleLaws::levels_of_single))]
     pub fn range(alloc: Global, n: usize) -> Result<Axis, NoMemory>
         requires { n ≤ 2 ^ 63 }
         ensures { IfOk result (λ axis. axis ≡ range_axis n) }
     {
-        let index = Index::range(alloc, n)?;
-        Ok(Axis {
-            alloc,
-            rows: AxisRows::Single(index),
-            names: [None; 4],
-            levels: 1,
-        })
+        let levels = Levels::range(alloc, n)?;
+        Ok(nameless(alloc, levels))
     }
 
     /// These tuples in order, each of `levels` labels, without names. `NoMemory` is the only refusal.
@@ -75,45 +64,28 @@ impl Axis {
         requires alike { HaveLevels levels tuples.now }
         ensures { IfOk result (λ axis. axis ≡ nameless_axis tuples.now levels) }
     {
-        let rows = if levels == 1 {
-            AxisRows::Single(single_level(alloc, tuples)?)
-        } else {
-            AxisRows::Listed(copy_of(alloc, tuples)?)
-        };
-        Ok(Axis {
-            alloc,
-            rows,
-            names: [None; 4],
-            levels,
-        })
+        let kept = Levels::from_tuples(alloc, dict, tuples, levels)?;
+        Ok(nameless(alloc, kept))
     }
 
     /// One level of these labels in order, without a name. `NoMemory` is the only refusal.
     pub fn from_labels(alloc: Global, dict: &TextDict, labels: Vec<Label>) -> Result<Axis, NoMemory>
         ensures { IfOk result (λ axis. axis ≡ nameless_axis (single_tuples labels.items) 1) }
     {
-        Ok(Axis {
-            alloc,
-            rows: AxisRows::Single(Index::from_vec(labels)),
-            names: [None; 4],
-            levels: 1,
-        })
+        let levels = Levels::from_labels(alloc, labels)?;
+        Ok(nameless(alloc, levels))
     }
 
     /// An axis of its own with the same tuples and names. `NoMemory` is the only refusal.
     pub fn copy(&self, alloc: Global) -> Result<Axis, NoMemory>
         ensures { IfOk result (λ axis. axis ≡ self.now) }
     {
-        let rows = match &self.rows {
-            AxisRows::Single(index) => AxisRows::Single(index.copy(alloc)?),
-            AxisRows::Listed(tuples) => AxisRows::Listed(copy_of(alloc, tuples)?),
-        };
+        let levels = self.levels.copy(alloc)?;
         let names = self.names;
         Ok(Axis {
             alloc,
-            rows,
+            levels,
             names,
-            levels: self.levels,
         })
     }
 
@@ -121,10 +93,7 @@ impl Axis {
     pub fn len(&self) -> usize
         ensures { result ≡ length self.now.tuples }
     {
-        match &self.rows {
-            AxisRows::Single(index) => index.len(),
-            AxisRows::Listed(tuples) => tuples.len(),
-        }
+        self.levels.len()
     }
 
     /// How many levels there are: one to four, and each tuple has a label for each. Takes no memory.
@@ -134,7 +103,7 @@ impl Axis {
         ensures few { result ≤ 4 }
         ensures alike { HaveLevels result self.now.tuples }
     {
-        self.levels
+        self.levels.count()
     }
 
     /// The label of a row at a level, both counted from 0. Takes no memory.
@@ -143,10 +112,15 @@ impl Axis {
         requires level { level < length self.now.names }
         ensures { label_at self.now row level ≡ Some result }
     {
-        match &self.rows {
-            AxisRows::Single(index) => index.label(row),
-            AxisRows::Listed(tuples) => tuples.at(row).at(level),
-        }
+        self.levels.label(row, level)
+    }
+
+    /// The levels: the labels of each, and the codes of each row's labels. Takes no memory.
+    pub fn by_level(&self) -> &Levels
+        ensures tuples { level_tuples result.now ≡ self.now.tuples }
+        ensures count { length result.now ≡ length self.now.names }
+    {
+        &self.levels
     }
 
     /// The name of a level, if it has one. Takes no memory.
@@ -163,8 +137,8 @@ impl Axis {
     pub fn same_labels(&self, other: &Axis) -> bool
         ensures { Decides result (self.now.tuples ≡ other.now.tuples) }
     {
-        match (&self.rows, &other.rows) {
-            (AxisRows::Single(a), AxisRows::Single(b)) => a.same_labels(b),
+        match (self.levels.index(), other.levels.index()) {
+            (Some(a), Some(b)) => a.same_labels(b),
             _ => self.same_rows(other),
         }
     }
@@ -218,15 +192,11 @@ impl Axis {
         requires { All (λ place. place < length self.now.tuples) places.now }
         ensures { IfOk result (λ axis. axis ≡ taken_axis self.now places.now) }
     {
-        let rows = match &self.rows {
-            AxisRows::Single(index) => AxisRows::Single(index.take(alloc, places)?),
-            AxisRows::Listed(tuples) => AxisRows::Listed(taken(alloc, tuples, places)?),
-        };
+        let levels = self.levels.take(alloc, places)?;
         Ok(Axis {
             alloc,
-            rows,
+            levels,
             names: self.names,
-            levels: self.levels,
         })
     }
 
@@ -236,9 +206,9 @@ impl Axis {
         requires { length self.now.names ≡ 1 }
         ensures { IfOk result (λ rows. single_tuples rows ≡ self.now.tuples) }
     {
-        match &self.rows {
-            AxisRows::Single(labels) => labels.rows_by_label(alloc),
-            AxisRows::Listed(_) => unreachable!(),
+        match self.levels.index() {
+            Some(labels) => labels.rows_by_label(alloc),
+            None => unreachable!(),
         }
     }
 
@@ -249,16 +219,11 @@ impl Axis {
         requires inside { All (λ level. level < length self.now.names) order.now }
         ensures { IfOk result (λ axis. axis ≡ at_levels self.now order.now) }
     {
-        let rows = if order.len() == 1 {
-            AxisRows::Single(Index::from_vec(labels_of(alloc, self, order[0])?))
-        } else {
-            AxisRows::Listed(tuples_of(alloc, self, order)?)
-        };
+        let levels = self.levels.at(alloc, order)?;
         Ok(Axis {
             alloc,
-            rows,
+            levels,
             names: names_of(self, order),
-            levels: order.len(),
         })
     }
 
@@ -315,16 +280,14 @@ impl Axis {
         requires { length labels.now ≡ length self.now.tuples }
         ensures { AddsLevel (length self.now.names) (with_level self.now labels.now outer) result }
     {
-        let levels = self.levels();
-        if levels == 4 {
+        if self.levels() == 4 {
             return Err(AxisFault::TooManyLevels);
         }
-        let tuples = tuples_with(alloc, self, labels, outer)?;
+        let levels = self.levels.with_level(alloc, dict, labels, outer)?;
         Ok(Axis {
             alloc,
-            rows: AxisRows::Listed(tuples),
+            levels,
             names: names_with(self, outer),
-            levels: levels + 1,
         })
     }
 
@@ -338,9 +301,9 @@ impl Axis {
         requires { AreLeading (length self.now.names) leading.now }
         ensures { PicksBy as_it_is result (leading_rows self.now leading.now) }
     {
-        match &self.rows {
-            AxisRows::Single(labels) => single_places(alloc, labels, leading),
-            AxisRows::Listed(tuples) => listed::places_of(alloc, tuples, leading),
+        match self.levels.index() {
+            Some(labels) => single_places(alloc, labels, leading),
+            None => listed::places_of(alloc, &self.levels, leading),
         }
     }
 
@@ -366,10 +329,22 @@ impl Axis {
         ensures rows { TellsBy rows_of result (leading_slice dict.now self.now (option_copied from.entry) (option_copied to.entry)) }
         ensures below { IfOk result (λ rows. AreRowsBelow rows (length self.now.tuples)) }
     {
-        match &self.rows {
-            AxisRows::Single(labels) => single_slice(self.alloc, dict, labels, from, to),
-            AxisRows::Listed(tuples) => listed::slice_of(dict, tuples, from, to),
+        match self.levels.index() {
+            Some(labels) => single_slice(self.alloc, dict, labels, from, to),
+            None => listed::slice_of(dict, &self.levels, from, to),
         }
+    }
+}
+
+// An axis of these levels, without names.
+fn nameless(alloc: Global, levels: Levels) -> Axis
+    requires { AreLevels levels }
+    ensures { result ≡ nameless_axis (level_tuples levels) (length levels) }
+{
+    Axis {
+        alloc,
+        levels,
+        names: [None; 4],
     }
 }
 
@@ -425,40 +400,4 @@ fn only_label(bound: Option<&Tuple>) -> Option<Label>
         Some(tuple) => Some(tuple.at(0)),
         None => None,
     }
-}
-
-// The tuples at these places, in their order.
-fn taken(alloc: Global, tuples: &Tuples, places: &Places) -> Result<Tuples, NoMemory>
-    requires { All (λ place. place < length tuples.now) places.now }
-    ensures { IfOk result (λ taken. taken ≡ tuples_at tuples.now places.now) }
-{
-    let mut taken = Tuples::new(alloc);
-    for place in places.as_slice() {
-        taken.push(tuples.at(*place).copy())?;
-    }
-    Ok(taken)
-}
-
-// The labels of tuples of one label.
-#[tactic(auto, using(crate::proofs::TupleLaws::one_more_single))]
-fn single_level(alloc: Global, tuples: &Tuples) -> Result<Index, NoMemory>
-    requires { HaveLevels 1 tuples.now }
-    ensures { IfOk result (λ index. single_tuples index ≡ tuples.now) }
-{
-    let mut labels = Vec::new(alloc);
-    for row in 0..tuples.len() {
-        labels.push(tuples.at(row).at(0))?;
-    }
-    Ok(Index::from_vec(labels))
-}
-
-// A list of its own with the same tuples.
-fn copy_of(alloc: Global, tuples: &Tuples) -> Result<Tuples, NoMemory>
-    ensures { IfOk result (λ copied. copied ≡ tuples.now) }
-{
-    let mut copied = Tuples::new(alloc);
-    for tuple in tuples.as_slice() {
-        copied.push(tuple.copy())?;
-    }
-    Ok(copied)
 }

@@ -1,5 +1,5 @@
-// The rows of leading labels and of slices in a list of tuples.
-ghost use Rattle.std.specs.Prelude.{◌≡◌, true, not, length, IfOk};
+// The rows of leading labels and of slices on several levels.
+ghost use Rattle.std.specs.Prelude.{◌≡◌, ◌<◌, true, not, length, IfOk};
 ghost use Rattle.std.specs.Option.{option_copied};
 ghost use Rattle.cell_core.specs.Grids.{AreRowsBelow};
 ghost use Rattle.index_core.specs.pick.Labels.{rows_of_key};
@@ -8,24 +8,27 @@ ghost use Rattle.index_core.specs.pick.Rows.{rows_of};
 ghost use Rattle.index_core.specs.pick.Slices.{is_in_order, reaches, stays_within, leading_slice, unfound_slice};
 ghost use Rattle.index_core.specs.Labels.{same_number, order_in};
 ghost use Rattle.index_core.specs.Splits.{IsSplitAt};
+ghost use Rattle.multi_index.specs.Levels.{level_tuples, row_count, row_tuple};
 ghost use Rattle.multi_index.specs.Picks.{PicksBy, TellsBy, as_it_is};
 
 use crate::fault::AxisFault;
-use cell_core::{Places, Rows, TextDict, Tuple, Tuples};
+use crate::levels::Levels;
+use cell_core::{Places, Rows, TextDict, Tuple};
 use index_core::run_of;
 use std::alloc::Global;
 use std::cmp::Ordering;
 
-// Whether these are the leading labels of a tuple.
-#[tactic(auto, using(crate::proofs::ListedLaws::leads_all, crate::proofs::ListedLaws::leads_short))]
-fn leads(leading: &Tuple, tuple: &Tuple) -> bool
-    ensures { result ≡ leads same_number leading.now tuple.now }
+// Whether these are the leading labels of a row.
+#[tactic(auto, using(crate::proofs::Hints::leads))]
+fn leads(leading: &Tuple, levels: &Levels, row: usize) -> bool
+    requires { row < row_count levels.now }
+    ensures { result ≡ leads same_number leading.now (row_tuple levels.now row) }
 {
-    if tuple.len() < leading.len() {
+    if levels.count() < leading.len() {
         return false;
     }
     for level in 0..leading.len() {
-        if leading.at(level) != tuple.at(level) {
+        if leading.at(level) != levels.label(row, level) {
             return false;
         }
     }
@@ -35,14 +38,14 @@ fn leads(leading: &Tuple, tuple: &Tuple) -> bool
 // The rows with these leading labels, in order.
 pub(crate) fn places_of(
     alloc: Global,
-    tuples: &Tuples,
+    levels: &Levels,
     leading: &Tuple,
 ) -> Result<Places, AxisFault>
-    ensures { PicksBy as_it_is result (rows_of_key (leads same_number) tuples.now leading.now) }
+    ensures { PicksBy as_it_is result (rows_of_key (leads same_number) (level_tuples levels.now) leading.now) }
 {
     let mut places = Places::new(alloc);
-    for row in 0..tuples.len() {
-        if leads(leading, tuples.at(row)) {
+    for row in 0..levels.len() {
+        if leads(leading, levels, row) {
             places.push(row)?;
         }
     }
@@ -52,16 +55,17 @@ pub(crate) fn places_of(
     Ok(places)
 }
 
-// How a tuple's leading labels stand to a bound.
-#[tactic(auto, using(crate::proofs::ListedLaws::stands_equal))]
-fn compare(dict: &TextDict, tuple: &Tuple, bound: &Tuple) -> Ordering
-    ensures { result ≡ leading_cmp (order_in dict.now) tuple.now bound.now }
+// How a row's leading labels stand to a bound.
+#[tactic(auto, using(crate::proofs::Hints::compare))]
+fn compare(dict: &TextDict, levels: &Levels, row: usize, bound: &Tuple) -> Ordering
+    requires { row < row_count levels.now }
+    ensures { result ≡ leading_cmp (order_in dict.now) (row_tuple levels.now row) bound.now }
 {
     for level in 0..bound.len() {
-        if level >= tuple.len() {
+        if level >= levels.count() {
             return Ordering::Less;
         }
-        let order = dict.compare(tuple.at(level), bound.at(level));
+        let order = dict.compare(levels.label(row, level), bound.at(level));
         if order != Ordering::Equal {
             return order;
         }
@@ -69,12 +73,29 @@ fn compare(dict: &TextDict, tuple: &Tuple, bound: &Tuple) -> Ordering
     Ordering::Equal
 }
 
-// Whether no tuple is less than the one before.
-fn is_sorted(dict: &TextDict, tuples: &Tuples) -> bool
-    ensures { result ≡ is_in_order (leading_cmp (order_in dict.now)) tuples.now }
+// How a row stands to another one.
+#[tactic(auto, using(crate::proofs::Hints::compare))]
+fn compare_rows(dict: &TextDict, levels: &Levels, row: usize, other: usize) -> Ordering
+    requires row { row < row_count levels.now }
+    requires other { other < row_count levels.now }
+    ensures { result ≡ leading_cmp (order_in dict.now) (row_tuple levels.now row)
+        (row_tuple levels.now other) }
 {
-    for row in 1..tuples.len() {
-        if compare(dict, tuples.at(row), tuples.at(row - 1)).is_lt() {
+    for level in 0..levels.count() {
+        let order = dict.compare(levels.label(row, level), levels.label(other, level));
+        if order != Ordering::Equal {
+            return order;
+        }
+    }
+    Ordering::Equal
+}
+
+// Whether no row is less than the one before.
+fn is_sorted(dict: &TextDict, levels: &Levels) -> bool
+    ensures { result ≡ is_in_order (leading_cmp (order_in dict.now)) (level_tuples levels.now) }
+{
+    for row in 1..levels.len() {
+        if compare_rows(dict, levels, row, row - 1).is_lt() {
             return false;
         }
     }
@@ -82,70 +103,70 @@ fn is_sorted(dict: &TextDict, tuples: &Tuples) -> bool
 }
 
 // The first row that isn't below the bound.
-fn first_reached(dict: &TextDict, tuples: &Tuples, bound: Option<&Tuple>) -> usize
-    requires { is_in_order (leading_cmp (order_in dict.now)) tuples.now ≡ true }
+fn first_reached(dict: &TextDict, levels: &Levels, bound: Option<&Tuple>) -> usize
+    requires { is_in_order (leading_cmp (order_in dict.now)) (level_tuples levels.now) ≡ true }
     ensures { IsSplitAt (reaches (leading_cmp (order_in dict.now)) (option_copied bound.entry))
-        tuples.now result }
+        (level_tuples levels.now) result }
 {
     let Some(bound) = bound else {
         return 0;
     };
-    for row in 0..tuples.len() {
-        if !compare(dict, tuples.at(row), bound).is_lt() {
+    for row in 0..levels.len() {
+        if !compare(dict, levels, row, bound).is_lt() {
             return row;
         }
     }
-    tuples.len()
+    levels.len()
 }
 
 // The row behind the last one that isn't above the bound.
-fn end_within(dict: &TextDict, tuples: &Tuples, bound: Option<&Tuple>) -> usize
-    requires { is_in_order (leading_cmp (order_in dict.now)) tuples.now ≡ true }
+fn end_within(dict: &TextDict, levels: &Levels, bound: Option<&Tuple>) -> usize
+    requires { is_in_order (leading_cmp (order_in dict.now)) (level_tuples levels.now) ≡ true }
     ensures { IsSplitAt (λ tuple. not (stays_within (leading_cmp (order_in dict.now))
-        (option_copied bound.entry) tuple)) tuples.now result }
+        (option_copied bound.entry) tuple)) (level_tuples levels.now) result }
 {
     let Some(bound) = bound else {
-        return tuples.len();
+        return levels.len();
     };
-    for row in 0..tuples.len() {
-        if compare(dict, tuples.at(row), bound).is_gt() {
+    for row in 0..levels.len() {
+        if compare(dict, levels, row, bound).is_gt() {
             return row;
         }
     }
-    tuples.len()
+    levels.len()
 }
 
 // The rows of a slice where the rows aren't in order: all without a bound.
 fn unfound_slice(
-    tuples: &Tuples,
+    levels: &Levels,
     from: Option<&Tuple>,
     to: Option<&Tuple>,
 ) -> Result<Rows, AxisFault>
     ensures rows { TellsBy rows_of result
-        (unfound_slice (option_copied from.entry) (option_copied to.entry) tuples.now) }
-    ensures below { IfOk result (λ rows. AreRowsBelow rows (length tuples.now)) }
+        (unfound_slice (option_copied from.entry) (option_copied to.entry) (level_tuples levels.now)) }
+    ensures below { IfOk result (λ rows. AreRowsBelow rows (length (level_tuples levels.now))) }
 {
     match from.or(to) {
         Some(bound) => Err(AxisFault::NotThere(bound.copy())),
-        None => Ok(run_of(0, tuples.len(), tuples.len())),
+        None => Ok(run_of(0, levels.len(), levels.len())),
     }
 }
 
 // The rows of a slice.
 pub(crate) fn slice_of(
     dict: &TextDict,
-    tuples: &Tuples,
+    levels: &Levels,
     from: Option<&Tuple>,
     to: Option<&Tuple>,
 ) -> Result<Rows, AxisFault>
     ensures rows { TellsBy rows_of result (leading_slice (leading_cmp (order_in dict.now))
-        (option_copied from.entry) (option_copied to.entry) tuples.now) }
-    ensures below { IfOk result (λ rows. AreRowsBelow rows (length tuples.now)) }
+        (option_copied from.entry) (option_copied to.entry) (level_tuples levels.now)) }
+    ensures below { IfOk result (λ rows. AreRowsBelow rows (length (level_tuples levels.now))) }
 {
-    if !is_sorted(dict, tuples) {
-        return unfound_slice(tuples, from, to);
+    if !is_sorted(dict, levels) {
+        return unfound_slice(levels, from, to);
     }
-    let first = first_reached(dict, tuples, from);
-    let end = end_within(dict, tuples, to);
-    Ok(run_of(first, end, tuples.len()))
+    let first = first_reached(dict, levels, from);
+    let end = end_within(dict, levels, to);
+    Ok(run_of(first, end, levels.len()))
 }

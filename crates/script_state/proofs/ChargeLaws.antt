@@ -1,6 +1,6 @@
 -- What forms cost, as the code counts it.
 use Rattle.{
-  frame_calls.proofs.frame_parts.Common.{arith, ◌≡◌, ◌∙◌, ℕ, zero, suc, ◌+◌, ◌-◌, ◌≤◌, Bool, true, false, List, [], ◌∷◌, length, refl, sym, ap, Option, Some, None, Result, Ok, Err, length-append, if◌then◌else◌, try_all, length-range_with_len, then_value, unwrap_or, finished, limited, on, Given, NamedGiven, Text, FaultValue, CellValue, Table, ColumnOf, Entry, cell, table, IsLive, Value, Object, Scalar, World, objects_of, entry_in, table_in, FormsFor, SetsFor},
+  frame_calls.proofs.frame_parts.Common.{arith, ◌≡◌, ◌∙◌, ℕ, zero, suc, ◌+◌, ◌-◌, ◌≤◌, Bool, true, false, List, [], ◌∷◌, length, refl, sym, ap, Option, Some, None, Result, Ok, Err, length-append, if◌then◌else◌, try_all, length-range_with_len, then_value, unwrap_or, unless_repeated, limited, on, Given, NamedGiven, Text, FaultValue, CellValue, LabelValue, Table, ColumnOf, Entry, cell, table, IsLive, Value, Object, Scalar, World, objects_of, entry_in, table_in, FormsFor, SetsFor},
   meaning_laws.{proofs.cells.Common.{◌*◌, min}, specs.{charge.Charge.{answer_charge, select_charge, setting_charge, touched_columns}, script.{Spent.{spent_for}}, call.{declared.Method.{Method}, Signature.{parameters_of, method_named}, Binding.{Bound, bound, not_taken, not_listed, bound_of, on_bound, truth_in}}, method.{Calls.{plain, call_result}, Charges.{call_charge, drops_labels, method_charge, reset_charge}, Levels.{level_columns, renumbered, with_levels}, Methods.{answer_for, as_frame, reset_index_result}}, select.{Select.{Way}, Set.{assign_result}}, tables.{Cost.{cost_of}, Value.{GivenSub}}}},
   outside_io.specs.Count.{last_count},
   frame_calls.specs.{Calls.{method_in, chain_of}, declared.between.Between.{Between}},
@@ -48,13 +48,15 @@ levels_counted t columns is = count_tried _ _ _ is ∙ length-range_with_len 0 (
 made_table : (t : Table) (answer : Entry) → limited t ≡ Ok answer → columns_in answer ≡ length t.columns
 made_table t answer = grind arith
 
-made_frame : (t : Table) (answer : Entry) → finished t ≡ Ok answer → columns_in answer ≡ length t.columns
-made_frame t answer = grind (arith, made_table)
+made_unshared : (shared : Option LabelValue) (t : Table) (answer : Entry) → unless_repeated shared (limited t) ≡ Ok answer → columns_in answer ≡ length t.columns
+made_unshared None t answer is = made_table t answer is
+made_unshared (Some l) t answer is = absurd cc
 
-reset_columns : (t : Table) (r : Result (List (ColumnOf CellValue)) FaultValue) (answer : Entry) → ((columns : List (ColumnOf CellValue)) → r ≡ Ok columns → length columns ≡ length t.level_names) → then_value r (λ columns. finished (with_levels t columns)) ≡ Ok answer
+reset_columns : (t : Table) (shared : Option LabelValue) (r : Result (List (ColumnOf CellValue)) FaultValue) (answer : Entry)
+    → ((columns : List (ColumnOf CellValue)) → r ≡ Ok columns → length columns ≡ length t.level_names) → then_value r (λ columns. unless_repeated shared (limited (with_levels t columns))) ≡ Ok answer
     → columns_in answer ≡ length t.level_names + length t.columns
-reset_columns t (Ok columns) answer counted is = made_frame (with_levels t columns) answer is ∙ length-append columns t.columns ∙ ap (λ n. n + length t.columns) (counted columns refl)
-reset_columns t (Err fault) answer counted is = absurd cc
+reset_columns t shared (Ok columns) answer counted is = made_unshared shared (with_levels t columns) answer is ∙ length-append columns t.columns ∙ ap (λ n. n + length t.columns) (counted columns refl)
+reset_columns t shared (Err fault) answer counted is = absurd cc
 
 reset_truth : (t : Table) (answer : Entry) (o : Option Bool) → on o (reset_index_result t) ≡ Ok answer
     → (if unwrap_or o false then 0 else length t.labels * length t.level_names) ≡ length t.labels * (columns_in answer - length t.columns)
@@ -63,7 +65,7 @@ reset_truth t answer (Some true) is =
     let none : columns_in answer - length t.columns ≡ 0 = omega (arith, made_table (renumbered t) answer is) in
     rw none (omega arith)
 reset_truth t answer (Some false) is =
-    let all = reset_columns (as_frame t) (level_columns (as_frame t)) answer (levels_counted (as_frame t)) is in
+    let all = reset_columns (as_frame t) _ (level_columns (as_frame t)) answer (levels_counted (as_frame t)) is in
     let left : length t.level_names ≡ columns_in answer - length t.columns = omega (arith, all) in
     ap (λ n. length t.labels * n) left
 

@@ -1,7 +1,7 @@
 -- Two objects of a store.
 use Rattle.{
-  column_core.proofs.cells.Common.{◌≡◌, ◌∙◌, ℕ, Bool, true, false, [], ◌∷◌, refl, ap, sym, subst, arith, nat_eq, if◌then◌else◌, Option, Some, None, nat_tests, ◌≢◌, is_some, IsSome, length, Series, Frame},
-  frame_store.specs.{tables.{Table.{NumberedTable, column_at}, Change.{put_at, with_column}, Valid.{AreHeadings}}, Objects.{Tables, with_object, with_moved, table_or, table_at}},
+  column_core.proofs.cells.Common.{◌≡◌, ◌∙◌, ℕ, Bool, true, false, [], ◌∷◌, refl, ap, sym, subst, arith, nat_eq, if◌then◌else◌, Option, Some, None, nat_tests, ◌≢◌, is_some, IsSome, Series, Frame},
+  frame_store.specs.{tables.{Table.{NumberedTable, column_at}, Change.{with_column}}, Parts.{TakesHeading}, Objects.{Tables, with_object, with_moved, table_or, table_at}},
 }
 
 nat_eq_self : (n : ℕ) → nat_eq n n ≡ true
@@ -34,14 +34,8 @@ module _ (none one two : Tables) (a b : ℕ) (s t : NumberedTable) (fresh : one 
   moved_there _ moved =
       ap is_some (ap (λ (f : Tables). f a) moved ∙ ap (λ c. if c then Some (with_column (table_at two a) 0 None (column_at (table_at two b).columns 0)) else (if nat_eq b a then None else two a)) (nat_eq_self a))
 
--- the headings of a Series stay as they are
-pub same_headings : (o : Option NumberedTable) (t : NumberedTable) → o ≡ Some t → t.shape ≡ Series → t.columns_name ≡ None → t.headings ≡ None ∷ [] → AreHeadings (table_or o).shape (table_or o).columns_name (put_at (table_or o).headings 0 None)
-same_headings o t is series name headings =
+-- a column that is put into a Series takes the place of its own
+pub takes_place : (o : Option NumberedTable) (t : NumberedTable) → o ≡ Some t → t.shape ≡ Series → TakesHeading (table_or o) 0 None
+takes_place o t is series =
     let other : t.shape ≡ Frame → ⊥ = λ e. cc in
-    subst (λ (p : Option NumberedTable). AreHeadings (table_or p).shape (table_or p).columns_name (put_at (table_or p).headings 0 None)) (sym is)
-    (record {
-      single = λ e. ap (λ l. length (put_at l 0 None)) headings;
-      nameless = λ e. name;
-      labelled = λ e. absurd (other e);
-      different = λ e. absurd (other e);
-    })
+    subst (λ (p : Option NumberedTable). TakesHeading (table_or p) 0 None) (sym is) (record { labelled = λ e. absurd (other e); single = λ e. refl })

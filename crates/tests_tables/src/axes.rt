@@ -3,7 +3,7 @@ ghost use Rattle.std.specs.Prelude.{◌≡◌, length, IfOk};
 
 use cell_core::{Label, NoMemory, Places, TextDict, Tuple, Tuples};
 use index_core::Index;
-use multi_index::{Axis, AxisFault};
+use multi_index::{Axis, AxisFault, Levels};
 use std::alloc::Global;
 
 #[test]
@@ -103,5 +103,37 @@ fn rows_are_taken_with_their_names(rt: HostRuntime) -> Result<(), NoMemory> {
         && taken.label(0, 1) == Label::Bool(true)
         && taken.name(1) == Some(Label::Int(9));
     assert!(rt; is_second);
+    Ok(())
+}
+
+// The middle one of three rows of two levels, whose labels are texts and whole numbers.
+fn middle_row(alloc: Global, dict: &TextDict, a: Label, b: Label) -> Result<Axis, NoMemory> {
+    let mut tuples = Tuples::new(alloc);
+    tuples.push(Tuple::of(alloc, &[b, Label::Int(2)]))?;
+    tuples.push(Tuple::of(alloc, &[a, Label::Int(1)]))?;
+    tuples.push(Tuple::of(alloc, &[b, Label::Int(1)]))?;
+    let axis = Axis::from_tuples(alloc, dict, &tuples, 2)?;
+    let mut places = Places::new(alloc);
+    places.push(1)?;
+    axis.take(alloc, &places)
+}
+
+// Whether one row of two levels has the first label of each, and the first level has this one as its second.
+fn is_first_of_two(levels: &Levels, second: Label) -> bool {
+    levels.count() == 2
+        && levels.len() == 1
+        && levels.level_size(0) == 2
+        && levels.level_label(0, 1) == second
+        && levels.code(0, 0) == Some(0)
+        && levels.code(0, 1) == Some(0)
+}
+
+#[test]
+fn a_level_keeps_labels_that_no_row_has(rt: HostRuntime) -> Result<(), NoMemory> {
+    let mut dict = TextDict::new(rt.alloc());
+    let b = Label::Text(dict.intern("b")?);
+    let a = Label::Text(dict.intern("a")?);
+    let taken = middle_row(rt.alloc(), &dict, a, b)?;
+    assert!(rt; is_first_of_two(taken.by_level(), b));
     Ok(())
 }

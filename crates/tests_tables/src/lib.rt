@@ -1,5 +1,5 @@
-//! Tests of cells, columns, methods of texts, axes and sorts, of the pool and the store, and of printed frames and frames as JSON: what no
-//! clause says, and what no script reaches.
+//! Tests of cells, columns and operators on them, methods of texts, axes and sorts, of the pool and the store, and of
+//! printed frames, and of JSON both ways: what no clause says, and what no script reaches.
 #![tactic(auto)]
 
 #[cfg(test)]
@@ -10,6 +10,10 @@ mod cells;
 mod columns;
 #[cfg(test)]
 mod json;
+#[cfg(test)]
+mod json_read;
+#[cfg(test)]
+mod kernels;
 #[cfg(test)]
 mod managers;
 #[cfg(test)]

@@ -17,4 +17,4 @@ on_axis-requires-clause-axis c =
 pub returns-in-Err-DuplicateLabels : goal.returns-in-Err-DuplicateLabels
 returns-in-Err-DuplicateLabels c =
     let answer = rw c.in-Err-DuplicateLabels.field-0-is at c.in-Err-DuplicateLabels.ensures in
-    search met_twice
+    rw c.in-Err-DuplicateLabels.field-0-is (met_twice _ c.len.ensures.distinct _ c.requires.known c.args.asked.now _ c.requires.axes c.requires.apart _ answer)

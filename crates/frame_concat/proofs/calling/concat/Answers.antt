@@ -1,10 +1,4 @@
-use Rattle.{
-  frame_parts.proofs.Common.{arith, subst, Ok, List, ◌≡◌, IfSome, option_map, tables, World, world, AreKnownArguments, Named, Text, IsSettled, list_in, labels_of},
-  frame_signatures.specs.{Bound.{IsBound, stands_at}, declared.bound.Bound.{Bound as BoundArguments}},
-  frame_store.specs.Readers.{AreLiveLentItems},
-  meaning_call.specs.{declared.Function.TheVariants.{Concat}, Signature.{function_parameters}},
-  frame_concat.specs.{declared.asked.Asked.{Asked}, Asked.{asked_value, keys_value}},
-}
+use Rattle.{frame_parts.proofs.Common.{arith, Ok, List, ◌≡◌, option_map, World, world, AreKnownArguments, Named, Text, IsSettled, list_in, labels_of}, frame_signatures.specs.{Bound.{IsBound, stands_at}, declared.bound.Bound.{Bound as BoundArguments}}, meaning_call.specs.{declared.Function.TheVariants.{Concat}, Signature.{function_parameters}}, frame_concat.specs.{declared.asked.Asked.{Asked}, Asked.{asked_value, keys_value}}}
 use Rattle.frame_concat.proofs.calling.concat.Goals as goal
 
 -- the labels of parts were given

@@ -4,5 +4,5 @@ use Rattle.{
 }
 use Rattle.frame_concat.proofs.columns.all_kinds_meet.Given as goal
 
-abbrev pub invariant-loop-heading : goal.invariant-loop-heading
-invariant-loop-heading l = all_kinds_meet l.parts l.shape (drop l.heading-index l.headings) ≡ all_kinds_meet l.parts l.shape l.headings
+abbrev pub invariant-loop-sought : goal.invariant-loop-sought
+invariant-loop-sought l = all_kinds_meet l.parts (drop l.sought-index l.columns) ≡ all_kinds_meet l.parts l.columns

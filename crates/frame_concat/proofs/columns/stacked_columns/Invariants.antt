@@ -5,8 +5,8 @@ use Rattle.{
 use Rattle.frame_concat.proofs.columns.stacked_columns.Given as goal
 
 -- the columns so far
-abbrev pub invariant-loop-heading : goal.invariant-loop-heading
-invariant-loop-heading l = record {
-  columns : (texts : List Text) → blocks_value texts l.made ≡ columns_value texts (columns_stacked l.fn.parts l.fn.shape (take l.heading-index l.headings));
+abbrev pub invariant-loop-sought : goal.invariant-loop-sought
+invariant-loop-sought l = record {
+  columns : (texts : List Text) → blocks_value texts l.made ≡ columns_value texts (columns_stacked l.fn.parts (take l.sought-index l.columns));
   single : All IsSingle l.made;
 }

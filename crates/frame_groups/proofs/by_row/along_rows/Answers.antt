@@ -17,7 +17,7 @@ returns-in_err-headings c =
     let p = err_from_is_err_and c.from_residual-in_err-headings.result c.from_residual-in_err-headings.ensures.1 in
     rw (p.1, p.2)
     (refused_is _ _ _ _ _ (along_meant dict t g v c.args.call c.requires.call true (search rules))
-    (c.in_err-headings.ensures.may (along_table dict t g v _ c.requires.call) (search along_headings)))
+    (c.in_err-headings.ensures.may dict (along_table dict t g v _ c.requires.call) (search along_headings)))
 
 -- the table
 pub new_table-requires-clause-headed : goal.new_table-requires-clause-headed
@@ -49,4 +49,4 @@ returns c =
       labels_given = own_settled dict t v.places c.as_slice.result.now labels c.requires.known.given;
       blocks_given = c.in_ok-made.ensures.blocks.given;
     }
-    (along_meant dict t g v c.args.call c.requires.call true (search rules)) (c.in_ok-headings.ensures.may table headed) c.in_ok-headings.ensures.made c.new_table.ensures
+    (along_meant dict t g v c.args.call c.requires.call true (search rules)) (c.in_ok-headings.ensures.may dict table headed) c.in_ok-headings.ensures.made c.new_table.ensures

@@ -7,7 +7,7 @@ use Rattle.frame_groups.proofs.by_row.counts.Goals as goal
 pub returns-in_err-headings : goal.returns-in_err-headings
 returns-in_err-headings c = λ _.
     let p = err_from_is_err_and c.from_residual-in_err-headings.result c.from_residual-in_err-headings.ensures.1 in
-    rw (p.1, p.2) (refused_is _ _ _ _ _ refl (c.in_err-headings.ensures.may (counts_table c.args.dict.now c.args.on.now c.args.grouping.now) (grind (arith, length-map))))
+    rw (p.1, p.2) (refused_is _ _ _ _ _ refl (c.in_err-headings.ensures.may c.args.dict.now (counts_table c.args.dict.now c.args.on.now c.args.grouping.now) (grind (arith, length-map))))
 
 pub new_table-requires-clause-rows : goal.new_table-requires-clause-rows
 new_table-requires-clause-rows c =
@@ -35,4 +35,4 @@ returns c = λ _.
       labels_given = λ more. refl;
       blocks_given = boxed.given;
     }
-    refl (c.in_ok-headings.ensures.may table (grind (arith, length-map))) c.in_ok-headings.ensures.made c.new_table.ensures
+    refl (c.in_ok-headings.ensures.may dict table (grind (arith, length-map))) c.in_ok-headings.ensures.made c.new_table.ensures

@@ -1,4 +1,4 @@
-use Rattle.{frame_parts.{proofs.Common.{arith, ◌≡◌, ◌∙◌, ap, sym, refl, then_value, table_value, on, table_at, world, object_settled}, specs.form.Select.{argument_columns}}, meaning_call.specs.Binding.{truth_in}, frame_labels.{specs.{method.Rows.{dropna_result, sort_values_result, sort_by_result, all_places, labels_in}, Named.{first_in}}, proofs.NamedLaws.{all_are}}, frame_methods.proofs.AnswerLaws.{makes_by}}
+use Rattle.{frame_parts.{proofs.Common.{arith, ◌≡◌, ◌∙◌, ap, sym, refl, then_value, table_value, on, table_at, world, object_settled}, specs.form.Select.{argument_columns}}, meaning_call.specs.Binding.{truth_in}, frame_labels.{specs.{method.Rows.{dropna_result, duplicated_result, subset_places, sort_values_result, sort_by_result, all_places, labels_in}, Named.{first_in}}, proofs.NamedLaws.{all_are}}, frame_methods.{specs.Rows.{duplicated_among}, proofs.AnswerLaws.{makes_by}}}
 use Rattle.meaning_call.specs.declared.Method.TheVariants as method
 use Rattle.frame_methods.proofs.calling.rows_made.Goals as goal
 
@@ -25,6 +25,16 @@ pub sort_index-requires-clause-known : goal.sort_index-requires-clause-known
 sort_index-requires-clause-known c = search object_settled
 
 -- the columns that are named, or all
+pub returns-in_ok-places-in-DuplicatedFrame : goal.returns-in_ok-places-in-DuplicatedFrame
+returns-in_ok-places-in-DuplicatedFrame c =
+    let w = world c.args.store.now c.args.dict.now in
+    let s = table_value w.texts c.read-source.result in
+    let at : c.read-source.result ≡ table_at w.tables c.args.on.0 = grind arith in
+    let g = first_in w c.args.bound.now in
+    makes_by w _ _ c.args.bound.now _ _ _ (λ a t. duplicated_result t (a 0)) _ c.read-source.ensures.table (ap method.Rows c.in-DuplicatedFrame.is) c.requires.call.parameters (λ v. refl)
+    (ap (λ r. then_value r (duplicated_among s)) (sym (ap (λ n. subset_places (table_value w.texts n) g) at ∙ c.in_ok-places-in-DuplicatedFrame.ensures.0)))
+    c.duplicated-in-DuplicatedFrame.ensures
+
 -- in the order of their cells
 pub returns-in_ok-places-in-SortValuesSeries : goal.returns-in_ok-places-in-SortValuesSeries
 returns-in_ok-places-in-SortValuesSeries c =

@@ -9,8 +9,8 @@ returns-in-Copy c = free_so _ _ _ _ _ _ (grind (arith, answer_by)) c.copied.ensu
 pub returns-in-ToFrame : goal.returns-in-ToFrame
 returns-in-ToFrame c = free_so _ _ _ _ _ _ (grind (arith, answer_by)) c.to_frame.ensures
 
-pub returns-in_ok-places-in-DropColumns : goal.returns-in_ok-places-in-DropColumns
-returns-in_ok-places-in-DropColumns c = free_so _ _ _ _ _ _ (grind (arith, answer_by)) c.drop_columns.ensures
+pub returns-in-DropColumns : goal.returns-in-DropColumns
+returns-in-DropColumns c = free_so _ _ _ _ _ _ (grind (arith, answer_by)) c.drop_columns.ensures
 
 -- the first and the last rows
 pub returns-in-Head : goal.returns-in-Head

@@ -10,16 +10,13 @@ returns-then-not-have_labels-clause-answer c =
 
 pub returns-clause-headings : goal.returns-clause-headings
 returns-clause-headings c =
-    new_heads _ _ _ _ _ (c.deref.ensures.value ∙ c.in_ok-headings.ensures)
-    (c.requires.whole.headings.labelled c.requires.shape) c.different_headings.ensures
+    rw c.in_ok-heading_list.ensures (new_heads _ _ _ _ (c.deref.ensures.value ∙ c.in_ok-headings.ensures) (c.requires.whole.headings.labelled c.requires.shape))
 
 pub returns-clause-settled : goal.returns-clause-settled
 returns-clause-settled c =
-    new_settled _ _ _ _ _ _ (c.deref.ensures.value ∙ c.in_ok-headings.ensures)
-    c.in_ok-labels.ensures.settled (headings_part _ _ c.requires.settled) c.different_headings.ensures
+    rw c.in_ok-heading_list.ensures (new_settled _ _ _ _ (c.deref.ensures.value ∙ c.in_ok-headings.ensures) c.in_ok-labels.ensures.settled (headings_part _ _ c.requires.settled))
 
 pub returns-clause-answer : goal.returns-clause-answer
 returns-clause-answer c =
-    new_meant _ c.len.ensures.distinct _ _ _ _ _ _
-    c.in_ok-labels.ensures.settled (headings_part _ _ c.requires.settled) c.in_ok-labels.ensures.last (c.deref.ensures.value ∙ c.in_ok-headings.ensures) (sym c.have_labels.ensures ∙ c.if-not-have_labels.false)
-    c.different_headings.ensures
+    rw c.in_ok-heading_list.ensures
+    (new_meant _ c.len.ensures.distinct _ _ _ _ c.in_ok-labels.ensures.settled (headings_part _ _ c.requires.settled) c.in_ok-labels.ensures.last (c.deref.ensures.value ∙ c.in_ok-headings.ensures) (sym c.have_labels.ensures ∙ c.if-not-have_labels.false))

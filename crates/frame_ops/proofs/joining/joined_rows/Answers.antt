@@ -1,7 +1,6 @@
 use Rattle.{
-  frame_parts.proofs.{Common.{arith, length, lists_seen}, RowLaws.{tuples_given}},
-  label_align.proofs.{align.DifferLaws.{joined_apart}, SameLaws.{tuple_decides}},
-  frame_ops.proofs.JoinLaws.{rows_inside, joined_given, few_rows},
+  frame_parts.proofs.{Common.{arith, length}, RowLaws.{tuples_given}},
+  frame_ops.proofs.JoinLaws.{rows_inside, joined_given},
 }
 use Rattle.frame_ops.proofs.joining.joined_rows.Goals as goal
 
@@ -23,6 +22,3 @@ returns-in-Ok-clause-inside c =
     rows_inside _ _ _ c.len.ensures.distinct c.requires.given_a c.requires.given_b _ c.requires.few (length c.args.a.now.names)
     (grind arith) (grind arith) c.in-Ok.rows c.in-Ok.ensures.rows in
     grind arith
-
-pub returns-in-Ok-clause-apart : goal.returns-in-Ok-clause-apart
-returns-in-Ok-clause-apart c = λ left right. joined_apart _ _ tuple_decides _ _ left right (lists_seen c.in-Ok.rows) (few_rows _ _ _ c.requires.few c.in-Ok.ensures.rows)

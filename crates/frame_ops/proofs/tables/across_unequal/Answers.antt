@@ -1,6 +1,7 @@
 use Rattle.{
   frame_parts.proofs.Common.{arith, refl, sym, true, false, nat_tests},
-  frame_ops.proofs.{InfixLaws.{makes_as}, WideLaws.{by_tests, by_labels}},
+  column_operators.specs.Tasks.{operator_of},
+  frame_ops.proofs.{InfixLaws.{makes_as}, WideLaws.{by_tests, by_labels, spread_may}},
 }
 use Rattle.frame_ops.proofs.tables.across_unequal.Goals as goal
 
@@ -21,6 +22,11 @@ returns-then-compares-clause-makes c = (
   by_labels _ _ _ _ _ true true (grind arith) (grind arith) c.len.ensures.distinct c.requires.known_frame.given c.requires.known_series.given (grind arith) (grind arith),
   λ more. refl,
 )
+
+pub joined_across-requires-clause-may : goal.joined_across-requires-clause-may
+joined_across-requires-clause-may c =
+    spread_may c.args.dict.now c.args.frame.now c.args.series.now (operator_of c.args.op) c.args.left c.requires.known_frame.whole c.requires.known_series.whole c.requires.series
+    (grind arith) (grind arith) c.len.ensures.distinct c.requires.known_frame.given c.requires.known_series.given (grind arith) (grind arith)
 
 pub returns-clause-makes : goal.returns-clause-makes
 returns-clause-makes c =

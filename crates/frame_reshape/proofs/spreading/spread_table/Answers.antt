@@ -1,8 +1,7 @@
 use Rattle.{
-  frame_parts.proofs.Common.{◌∙◌, ap, sym, refl, length, err_from_is_err_and},
-  frame_select.specs.Headings.{repeated_heading},
+  frame_parts.proofs.Common.{◌∙◌, refl, length},
   reshape.specs.Answers.{spread_value},
-  frame_reshape.proofs.SpreadTableLaws.{is_spread_of, spread_refused, spread_repeated, spread_whole, spread_made},
+  frame_reshape.proofs.SpreadTableLaws.{is_spread_of, spread_refused, spread_whole, spread_made},
 }
 use Rattle.frame_reshape.proofs.spreading.spread_table.Goals as goal
 
@@ -21,22 +20,14 @@ from_tuples-requires-clause-alike c =
 pub spread_blocks-requires : goal.spread_blocks-requires
 spread_blocks-requires c = (length c.args.names.now, is_spread_of _ c.requires.spread.0 c.requires.spread.1 _ _ c.requires.spread.2 (spread_value c.in-Ok.spread) (rw c.in-Ok.is at c.requires.spread.3))
 
--- a heading that stands again
-pub returns-in_err-headings : goal.returns-in_err-headings
-returns-in_err-headings c = λ rest labels are unstacks.
-    let p = err_from_is_err_and c.from_residual-in_err-headings.result c.from_residual-in_err-headings.ensures.1 in
-    rw (p.1, p.2)
-    (spread_repeated _ rest labels _ _ are c.len.ensures.distinct c.args.names.now c.args.columns_name c.args.cells.now (spread_value c.in-Ok.spread) (rw c.in-Ok.is at unstacks)
-    _ (rw (c.as_slice.ensures.value, c.in_ok-labels.ensures) at c.in_err-headings.ensures.refused))
-
 -- the frame
 pub new-requires-clause-whole : goal.new-requires-clause-whole
 new-requires-clause-whole c =
-    rw (c.named_axis.ensures, c.in_ok-axis.ensures, c.in_ok-headings.ensures.made, c.as_slice.ensures.value, c.in_ok-labels.ensures, c.in_ok-blocks.ensures.columns)
-    (spread_whole c.args.names.now c.args.columns_name c.args.cells.now (spread_value c.in-Ok.spread) (ap repeated_heading (sym (c.as_slice.ensures.value ∙ c.in_ok-labels.ensures)) ∙ c.in_ok-headings.ensures.different))
+    rw (c.named_axis.ensures, c.in_ok-axis.ensures, c.in_ok-headings.ensures, c.as_slice.ensures.value, c.in_ok-labels.ensures, c.in_ok-blocks.ensures.columns)
+    (spread_whole c.args.names.now c.args.columns_name c.args.cells.now (spread_value c.in-Ok.spread))
 
 pub returns : goal.returns
 returns c = λ rest labels are unstacks.
     spread_made _ rest labels _ _ are c.len.ensures.distinct c.args.names.now c.args.columns_name c.args.cells.now (spread_value c.in-Ok.spread) (rw c.in-Ok.is at unstacks)
-    (ap repeated_heading (sym (c.as_slice.ensures.value ∙ c.in_ok-labels.ensures)) ∙ c.in_ok-headings.ensures.different) refl c.requires.names c.requires.name c.requires.cells _
-    (c.new.ensures ∙ rw (c.named_axis.ensures, c.in_ok-axis.ensures, c.in_ok-headings.ensures.made, c.as_slice.ensures.value, c.in_ok-labels.ensures, c.in_ok-blocks.ensures.columns))
+    refl c.requires.names c.requires.name c.requires.cells _
+    (c.new.ensures ∙ rw (c.named_axis.ensures, c.in_ok-axis.ensures, c.in_ok-headings.ensures, c.as_slice.ensures.value, c.in_ok-labels.ensures, c.in_ok-blocks.ensures.columns))

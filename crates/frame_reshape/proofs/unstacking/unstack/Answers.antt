@@ -1,5 +1,9 @@
-use Rattle.{frame_parts.proofs.Common.{arith}, frame_labels.proofs.ResetLaws.{name_settled}, frame_reshape.{specs.Keys.{level_keys}, proofs.{LevelKeyLaws.{one_label}, UnstackLaws.{cells_there, makes_so, entries_read, few_read, names_read, unstacked_read}}}}
+use Rattle.{frame_parts.proofs.Common.{arith}, frame_labels.proofs.ResetLaws.{name_settled}, frame_reshape.{specs.Keys.{level_keys}, proofs.{LevelKeyLaws.{one_label}, UnstackLaws.{cells_there, makes_so, entries_read, few_read, alike_read, names_read, unstacked_read}}}}
 use Rattle.frame_reshape.proofs.unstacking.unstack.Goals as goal
+
+pub unstack_rows-spread-requires-clause-alike : goal.unstack_rows-spread-requires-clause-alike
+unstack_rows-spread-requires-clause-alike c =
+    alike_read _ c.args.on.now _ c.in_ok-rest.rest _ _ c.axis-axis.ensures c.in_ok-rest.ensures c.levels.ensures.count c.levels.ensures.alike (omega arith) c.levels.ensures.few c.in_ok-level.ensures.within c.requires.known
 
 pub unstack_rows-spread-requires-clause-few : goal.unstack_rows-spread-requires-clause-few
 unstack_rows-spread-requires-clause-few c =

@@ -4,5 +4,5 @@ use Rattle.{
 }
 use Rattle.frame_select.proofs.planning.value_plan.Goals as goal
 
-pub selected_column-requires-clause-label : goal.selected_column-requires-clause-label
-selected_column-requires-clause-label c = label_settled _ _ _ c.from.ensures.1 (λ more. grind (arith, rw c.in-Scalar.is at c.requires.value.given))
+pub label_columns-requires-clause-label : goal.label_columns-requires-clause-label
+label_columns-requires-clause-label c = label_settled _ _ _ c.from.ensures.1 (λ more. grind (arith, rw c.in-Scalar.is at c.requires.value.given))

@@ -19,5 +19,5 @@ returns c =
     let within : within_limits (length c.args.columns.now) 1 ≡ true = search rules in
     row_made c.args.on.now _ _ _ _ (grind arith) (rw c.requires.known.whole.headed c.requires.columns) c.row_name-name.ensures c.args.dict.now _
     (c.in_ok-kind.ensures.kind _) within
-    (grind arith)
+    (search rules)
     c.requires.known.given

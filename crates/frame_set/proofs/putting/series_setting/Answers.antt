@@ -15,8 +15,8 @@ series_change-requires-clause-series c = search object_settled
 pub returns-in_err-place-clause-setting : goal.returns-in_err-place-clause-setting
 returns-in_err-place-clause-setting = grind (arith, err_from_is_err_and, put_seen, series_fits, part_refused, put_there)
 
-pub returns-clause-setting : goal.returns-clause-setting
-returns-clause-setting c =
+pub returns-in-One-clause-setting : goal.returns-in-One-clause-setting
+returns-in-One-clause-setting c =
     let texts = c.args.dict.now in
     let t = c.args.on.now in
     let s = table_at (tables c.args.store.now) c.args.series.0 in

@@ -1,7 +1,7 @@
 use Rattle.{
   frame_parts.proofs.Common.{length-map, arith, ◌≡◌, subst, length, table_value, heading_value, column_labels, MakesBy, subscript_of, settled_by},
   frame_select.specs.{select.{Keys.{columns_by}, Set.{or_added, added_label}}, Reaches.{accessor_of}},
-  frame_set.{specs.Values.{reached_value}, proofs.TargetLaws.{columns_tell, fresh_reached}},
+  frame_set.{specs.Values.{reached_value}, proofs.TargetLaws.{columns_tell}},
 }
 use Rattle.frame_set.proofs.targets.columns_reached.Goals as goal
 
@@ -15,10 +15,6 @@ returns-clause-columns c = λ live settled.
     subst (λ o. MakesBy reached_value texts c.picked_or_added.result (or_added o (column_labels t) (columns_by by t k))) (c.label_to_add.ensures live texts)
     (c.picked_or_added.ensures.reached texts (column_labels t) (columns_by by t k) many (c.columns_by-columns.ensures.columns live settled)
     (rw (c.label_to_add.ensures live texts) (columns_tell by t k)))
-
-pub returns-clause-fresh : goal.returns-clause-fresh
-returns-clause-fresh c = λ live settled.
-    fresh_reached _ c.args.on.now _ _ _ c.requires.shape (returns-clause-columns c live settled)
 
 pub returns-clause-given : goal.returns-clause-given
 returns-clause-given c = λ live settled.

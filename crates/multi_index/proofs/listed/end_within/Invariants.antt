@@ -1,6 +1,7 @@
 use Rattle.index_core.{proofs.cells.Common.{◌≡◌, ◌<◌, ℕ, List, false, slice_index_or, is_gt, Label}, specs.{pick.Leading.{leading_cmp}, Labels.{order_in}}}
+use Rattle.multi_index.specs.Levels.{level_tuples}
 use Rattle.multi_index.proofs.listed.end_within.Given as goal
 
 -- the rows so far aren't above the bound
 abbrev pub invariant-loop-row : goal.invariant-loop-row
-invariant-loop-row l = (k : ℕ) → k < l.row → (d : List Label) → is_gt (leading_cmp (order_in l.dict) (slice_index_or l.tuples k d) l.bound) ≡ false
+invariant-loop-row l = (k : ℕ) → k < l.row → (d : List Label) → is_gt (leading_cmp (order_in l.dict) (slice_index_or (level_tuples l.levels) k d) l.bound) ≡ false

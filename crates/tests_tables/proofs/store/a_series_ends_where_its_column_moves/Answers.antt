@@ -1,7 +1,7 @@
 use Rattle.{
   column_core.proofs.cells.Common.{◌∙◌, length, refl, ap, sym, is_some},
   frame_store.specs.Objects.{tables, table_or},
-  tests_tables.proofs.StoreLaws.{apart, first_there, second_there, moved_there, same_headings},
+  tests_tables.proofs.StoreLaws.{apart, first_there, second_there, moved_there, takes_place},
 }
 use Rattle.tests_tables.proofs.store.a_series_ends_where_its_column_moves.Goals as goal
 
@@ -24,7 +24,7 @@ move_column-requires-clause-rows g c =
 
 pub move_column-requires-clause-headings : goal.move_column-requires-clause-headings
 move_column-requires-clause-headings g c =
-    same_headings _ _ (first_there _ _ _ c.in_ok-on.on.0 c.in_ok-other.other.0 _ _ c.in_ok-other.ensures.fresh c.in_ok-on.ensures.added c.in_ok-other.ensures.added) refl refl refl
+    takes_place _ _ (first_there _ _ _ c.in_ok-on.on.0 c.in_ok-other.other.0 _ _ c.in_ok-other.ensures.fresh c.in_ok-on.ensures.added c.in_ok-other.ensures.added) refl
 
 pub read-table-requires : goal.read-table-requires
 read-table-requires g c = moved_there _ _ _ c.in_ok-on.on.0 c.in_ok-other.other.0 _ _ c.in_ok-other.ensures.fresh c.in_ok-on.ensures.added c.in_ok-other.ensures.added (tables c.move_column.new.self) c.in_ok-move_column.ensures.ok

@@ -1,5 +1,8 @@
-use Rattle.{meaning_tables.{proofs.cells.Common.{◌∙◌, sym, ap, subst}, specs.{Table.{column_at}, Change.{with_column}}}, block_pool.specs.Pools.{PoolValue}, frame_store.{specs.Stores.{IsStore, tables_over}, proofs.ChangedLaws.{both_are_live, store_taken, tables_taken, store_back, tables_back, lie_taken, lie_back}}}
+use Rattle.{meaning_tables.{proofs.cells.Common.{◌∙◌, sym, ap, subst}, specs.{Table.{column_at}, Change.{with_column}}}, block_pool.specs.Pools.{PoolValue}, frame_store.{specs.Stores.{IsStore, tables_over}, proofs.ChangedLaws.{kept_on, both_are_live, store_taken, tables_taken, store_back, tables_back, lie_taken, lie_back}}}
 use Rattle.frame_store.proofs.store.Store.move_column.Goals as goal
+
+pub take_column-requires-clause-kept : goal.take_column-requires-clause-kept
+take_column-requires-clause-kept c = kept_on c.args.self.now.pool c.args.self.now.pool c.args.self.now.objects.slots c.remove-source.new.self.slots c.args.on.0 c.args.series.0 c.index_mut-object.result.now c.remove-source.result c.requires.different c.args.self.now.kept c.index_mut-object.ensures.value c.remove-source.ensures.value c.remove-source.ensures.slots
 
 pub take_column-requires-clause-apart : goal.take_column-requires-clause-apart
 take_column-requires-clause-apart c = both_are_live c.args.self.now.pool c.args.self.now.pool c.args.self.now.objects.slots c.remove-source.new.self.slots c.args.on.0 c.args.series.0 c.index_mut-object.result.now c.remove-source.result c.requires.different c.args.self.now.kept c.index_mut-object.ensures.value c.remove-source.ensures.value c.remove-source.ensures.slots

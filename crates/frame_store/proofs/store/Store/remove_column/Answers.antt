@@ -1,4 +1,4 @@
-use Rattle.{meaning_tables.{proofs.cells.Common.{on_ok_weaker, subst, length, ◌<◌}, specs.{Table.{NumberedTable}, Change.{without_column}}}, std.proofs.lemmas.Result.{on_err_weaker}, frame_store.{specs.Parts.{SparesHeading}, proofs.{ChangedLaws.{store_changed, tables_changed, tables_unchanged, lie_changed, kept_there, table_is}, KeptLaws.{stays_table}}}}
+use Rattle.{meaning_tables.{proofs.cells.Common.{on_ok_weaker, subst, length, ◌<◌, ◌≡◌, Frame}, specs.{Table.{NumberedTable}, Change.{without_column}}}, std.proofs.lemmas.Result.{on_err_weaker}, frame_store.proofs.{ChangedLaws.{store_changed, tables_changed, tables_unchanged, lie_changed, kept_there, table_is}, KeptLaws.{stays_table}}}
 use Rattle.frame_store.proofs.store.Store.remove_column.Goals as goal
 
 pub remove_column-requires-clause-kept : goal.remove_column-requires-clause-kept
@@ -24,8 +24,8 @@ returns-clause-err c =
 pub remove_column-requires-clause-column : goal.remove_column-requires-clause-column
 remove_column-requires-clause-column c = subst (λ (t : NumberedTable). c.args.column < length t.columns) (table_is c.args.self.now.pool c.args.self.now.objects.slots c.args.self.now.kept c.args.on.0 c.index_mut.result.now c.index_mut.ensures.value) c.requires.column
 
-pub remove_column-requires-clause-headings : goal.remove_column-requires-clause-headings
-remove_column-requires-clause-headings c = subst (λ (t : NumberedTable). SparesHeading t c.args.column) (table_is c.args.self.now.pool c.args.self.now.objects.slots c.args.self.now.kept c.args.on.0 c.index_mut.result.now c.index_mut.ensures.value) c.requires.headings
+pub remove_column-requires-clause-frame : goal.remove_column-requires-clause-frame
+remove_column-requires-clause-frame c = subst (λ (t : NumberedTable). t.shape ≡ Frame) (table_is c.args.self.now.pool c.args.self.now.objects.slots c.args.self.now.kept c.args.on.0 c.index_mut.result.now c.index_mut.ensures.value) c.requires.frame
 
 pub returns-clause-blocks : goal.returns-clause-blocks
 returns-clause-blocks c = lie_changed c.args.self.now.pool c.remove_column.new.pool c.args.self.now.objects.slots c.args.on.0 c.index_mut.result.now c.remove_column.new.self c.args.self.now.kept c.index_mut.ensures.value c.remove_column.ensures.trades c.remove_column.result c.remove_column.ensures.err

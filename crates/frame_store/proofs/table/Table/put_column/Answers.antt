@@ -1,6 +1,6 @@
 use Rattle.{
-  meaning_tables.{proofs.cells.Common.{arith, ◌∙◌, refl, ap}, specs.Change.{put_at}},
-  frame_store.{specs.{Parts.{IsSingle}, Views.{kept_table}}, proofs.ColumnLaws.{All-put_at, put_is_whole, put_is_column}},
+  meaning_tables.{proofs.cells.Common.{arith, ◌∙◌, refl, ap, sym, subst}, specs.{Change.{put_at}, Valid.{IsWhole}}},
+  frame_store.{specs.{Parts.{IsSingle, block_column}, Views.{kept_table}}, proofs.ColumnLaws.{All-put_at, put_is_whole, put_is_column}},
 }
 use Rattle.frame_store.proofs.table.Table.put_column.Goals as goal
 
@@ -19,6 +19,5 @@ invariant_of-self-2 c =
     in
     record {
       single = rw blocks (All-put_at IsSingle c.self.inside.blocks.items c.args.column c.args.block c.self.invariant.single c.requires.single);
-      whole =
-          grind (arith, put_is_whole);
+      whole = subst IsWhole (sym is) (put_is_whole c.args.self.now c.args.column c.args.heading (block_column c.args.block) (subst IsWhole c.self.view_is c.self.invariant.whole) c.requires.rows c.requires.headings);
     }

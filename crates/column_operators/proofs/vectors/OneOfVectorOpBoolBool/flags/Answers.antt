@@ -1,0 +1,5 @@
+use Rattle.column_operators.proofs.VectorLaws.{both_lane}
+use Rattle.column_operators.proofs.vectors.OneOfVectorOpBoolBool.flags.Goals as goal
+
+pub returns : goal.returns
+returns c = λ k m n s t below x p y q. both_lane _ _ k s t p q

@@ -1,0 +1,11 @@
+use Rattle.{
+  index_core.proofs.cells.Common.{arith, ◌≡◌},
+  multi_index.{specs.Levels.{seen_labels}, proofs.KnownLaws.{all_seen}},
+}
+use Rattle.multi_index.proofs.single.SingleLevel.seen.Goals as goal
+
+pub invariant_of-result : goal.invariant_of-result
+invariant_of-result c =
+    let labels : c.in_ok-labels.labels.value ≡ seen_labels c.args.rows.items = grind arith in
+    let rows : c.in_ok-index.index.value ≡ c.args.rows.items = grind arith in
+    rw (labels, rows) (all_seen c.args.rows.items)
