@@ -17,6 +17,9 @@ pub data ReasonValue : Type 0 where
   argument : ReasonValue
   cast : ReasonValue
   no_columns : ReasonValue
+  unsorted : Side → ℕ → ReasonValue
+  not_json : ReasonValue
+  not_table : ReasonValue
 
 pub data FaultValue : Type 0 where
   no_name : Text → FaultValue
@@ -35,6 +38,7 @@ pub data FaultValue : Type 0 where
   no_records : FaultValue
   no_file : Text → FaultValue
   limit : FaultValue
+  bad_query : FaultValue
 
 -- the first fault, or what the value goes on to
 abbrev pub then_value : {A B : Type 0} → Result A FaultValue → (A → Result B FaultValue) → Result B FaultValue

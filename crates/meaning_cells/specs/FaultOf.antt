@@ -8,7 +8,7 @@ use Rattle.cell_core.specs.declared.code.Code.{Code}
 use Rattle.cell_core.specs.declared.code.Code.TheVariants as code
 use Rattle.meaning_cells.specs.Text.{Text}
 use Rattle.meaning_cells.specs.Cell.{label_datum}
-use Rattle.meaning_cells.specs.Fault.{FaultValue, ReasonValue, Side, left, right, repeated, length_of, entry, not_aligned, key_kinds, levels, argument, cast, no_columns, no_name, no_attribute, wrong_kind, no_key, out_of_range, no_mask_label, bad_value, zero_divide, bad_merge, no_common, repeated_label, long_row, not_utf8, no_records, no_file, limit}
+use Rattle.meaning_cells.specs.Fault.{FaultValue, ReasonValue, Side, left, right, repeated, length_of, entry, not_aligned, key_kinds, levels, argument, cast, no_columns, unsorted, not_json, not_table, no_name, no_attribute, wrong_kind, no_key, out_of_range, no_mask_label, bad_value, zero_divide, bad_merge, no_common, repeated_label, long_row, not_utf8, no_records, no_file, limit, bad_query}
 
 abbrev pub side_of : CodeSide → Side
 side_of side.Left = left
@@ -24,6 +24,9 @@ reason_of texts reason.Levels = levels
 reason_of texts reason.Argument = argument
 reason_of texts reason.Cast = cast
 reason_of texts reason.NoColumns = no_columns
+reason_of texts (reason.Unsorted s row) = unsorted (side_of s) row
+reason_of texts reason.NotJson = not_json
+reason_of texts reason.NotTable = not_table
 
 abbrev pub fault_of : List Text → Code → FaultValue
 fault_of texts (code.NoName n) = no_name n
@@ -42,3 +45,4 @@ fault_of texts (code.NotUtf8 p) = not_utf8 p
 fault_of texts code.NoRecords = no_records
 fault_of texts (code.NoFile n) = no_file n
 fault_of texts code.Limit = limit
+fault_of texts code.BadQuery = bad_query

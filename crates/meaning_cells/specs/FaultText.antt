@@ -3,7 +3,7 @@ use Rattle.std.specs.Prelude.{ℕ, ◌==◌, true, false, List, [], ◌∷◌, �
 use Rattle.std.specs.Fmt.{signed_decimal}
 use Rattle.meaning_cells.specs.Text.{Text}
 use Rattle.meaning_cells.specs.Cell.{LabelValue, truth, int, text, na}
-use Rattle.meaning_cells.specs.Fault.{FaultValue, ReasonValue, Side, left, right, repeated, length_of, entry, not_aligned, key_kinds, levels, argument, cast, no_columns, no_name, no_attribute, wrong_kind, no_key, out_of_range, no_mask_label, bad_value, zero_divide, bad_merge, no_common, repeated_label, long_row, not_utf8, no_records, no_file, limit}
+use Rattle.meaning_cells.specs.Fault.{FaultValue, ReasonValue, Side, left, right, repeated, length_of, entry, not_aligned, key_kinds, levels, argument, cast, no_columns, unsorted, not_json, not_table, no_name, no_attribute, wrong_kind, no_key, out_of_range, no_mask_label, bad_value, zero_divide, bad_merge, no_common, repeated_label, long_row, not_utf8, no_records, no_file, limit, bad_query}
 
 -- a byte of a text in quotes: backslash, quote, line feed and tab are escaped
 abbrev pub quoted_byte : ℕ → Text
@@ -49,6 +49,9 @@ reason_text levels = codes "levels"
 reason_text argument = codes "argument"
 reason_text cast = codes "cast"
 reason_text no_columns = codes "no columns"
+reason_text (unsorted side row) = side_text side ++ codes " keys not sorted at row " ++ decimal row
+reason_text not_json = codes "not json"
+reason_text not_table = codes "not a table"
 
 abbrev pub fault_text : FaultValue → Text
 fault_text (no_name n) = codes "NameError: " ++ n
@@ -67,3 +70,4 @@ fault_text (not_utf8 p) = codes "UnicodeDecodeError: byte " ++ decimal p
 fault_text no_records = codes "EmptyDataError"
 fault_text (no_file n) = codes "FileNotFoundError: " ++ n
 fault_text limit = codes "LimitError"
+fault_text bad_query = codes "QueryError"

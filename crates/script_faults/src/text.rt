@@ -2,7 +2,7 @@
 ghost use Rattle.std.specs.Prelude.{◌≡◌, ◌++◌, IfOk, decimal, map, string_bytes, true};
 ghost use Rattle.cell_core.specs.Values.{label_datum};
 ghost use Rattle.meaning_script.specs.Run.{line_about, not_found_line, stats_line, syntax_line, warning_line};
-ghost use Rattle.meaning_script.specs.cells.Fault.{bad_merge, bad_value, length_of, long_row, out_of_range};
+ghost use Rattle.meaning_script.specs.cells.Fault.{bad_merge, bad_value, length_of, long_row, out_of_range, unsorted};
 ghost use Rattle.meaning_script.specs.cells.FaultOf.{fault_of, reason_of, side_of};
 ghost use Rattle.meaning_script.specs.cells.FaultText.{fault_text, key_text, reason_text, side_text};
 ghost use Rattle.script_faults.specs.Lines.{Appends};
@@ -72,6 +72,7 @@ fn push_fault(line: &mut String, texts: &TextDict, code: &Code) -> Result<(), Al
         Code::NoRecords => line.push_str("EmptyDataError"),
         Code::NoFile(name) => push_words(line, "FileNotFoundError: ", name.as_str()),
         Code::Limit => line.push_str("LimitError"),
+        Code::BadQuery => line.push_str("QueryError"),
     }
 }
 
@@ -96,6 +97,9 @@ fn push_reason(line: &mut String, texts: &TextDict, reason: &Reason) -> Result<(
         Reason::Argument => line.push_str("argument"),
         Reason::Cast => line.push_str("cast"),
         Reason::NoColumns => line.push_str("no columns"),
+        Reason::Unsorted(side, row) => push_unsorted(line, *side, *row),
+        Reason::NotJson => line.push_str("not json"),
+        Reason::NotTable => line.push_str("not a table"),
     }
 }
 
@@ -152,6 +156,13 @@ fn push_bad_merge(
 {
     push_words(line, "MergeError: ", side_word(side))?;
     push_keyed(line, " keys repeat ", texts, key)
+}
+
+fn push_unsorted(line: &mut String, side: Side, row: u64) -> Result<(), AllocError>
+    ensures { Appends result line.old line.new (reason_text (unsorted (side_of side) row)) }
+{
+    line.push_str(side_word(side))?;
+    push_counted(line, " keys not sorted at row ", row)
 }
 
 fn side_word(side: Side) -> &'static str

@@ -35,8 +35,8 @@ fn after_comment(bytes: &[u8]) -> &[u8]
     rest
 }
 
-// What follows blanks, line ends and comments.
-pub(crate) fn skip(bytes: &[u8]) -> &[u8]
+/// What follows blanks, line ends and comments.
+pub fn skip(bytes: &[u8]) -> &[u8]
     ensures { result.now ≡ spec.skip bytes.now }
 {
     let mut rest = bytes;

@@ -13,8 +13,9 @@ use crate::word::{begins_word, int_at, is_digit, word_at};
 use cell_core::NoMemory;
 use std::alloc::Global;
 
-// The token that bytes begin with, and what follows it.
-fn token_at(alloc: Global, bytes: &[u8]) -> Result<Option<(Token<'_>, &[u8])>, NoMemory>
+/// The token that bytes begin with, and what follows it; `None` exactly where no token begins
+/// them. `NoMemory` where memory was refused.
+pub fn token_at(alloc: Global, bytes: &[u8]) -> Result<Option<(Token<'_>, &[u8])>, NoMemory>
     requires { IsUtf8 bytes.now }
     ensures { IfOk result (λ found. MatchOption found (BeginsNoToken bytes.now)
         (λ found. spec.IsToken (token_of found.0) bytes.now found.1.now)) }

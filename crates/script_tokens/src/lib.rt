@@ -21,7 +21,7 @@ mod text;
 mod token;
 mod word;
 
-pub use blank::is_blank;
-pub use lexing::tokens;
+pub use blank::{is_blank, skip};
+pub use lexing::{token_at, tokens};
 pub use piece::{line_ends, piece_len};
 pub use token::{Binary, Mark, Token};
