@@ -28,4 +28,4 @@ pub use between::Between;
 pub use chain::Chain;
 pub use frame_signatures::function_named;
 pub use functions::{file_name, function_called, function_exists, make};
-pub use methods::{exists, method, method_behind, method_called, method_of};
+pub use methods::{exists, is_query, method, method_behind, method_called, method_of};

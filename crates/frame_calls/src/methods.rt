@@ -1,5 +1,6 @@
 // Methods of values by their names.
-ghost use Rattle.std.specs.Prelude.{◌≡◌, List, Some};
+ghost use Rattle.std.specs.Prelude.{◌≡◌, ◌||◌, List, Some};
+ghost use Rattle.meaning_query.specs.Method.{is_query};
 ghost use Rattle.frame_labels.specs.method.cells.Text.{Text as OneText};
 ghost use Rattle.meaning_call.specs.Signature as signature;
 ghost use Rattle.frame_labels.specs.method.Calls as calls;
@@ -13,7 +14,7 @@ ghost use Rattle.frame_calls.specs.Calls.{method_in, chain_of, IsKnownBetween};
 
 use crate::between::Between;
 use crate::chain::Chain;
-use cell_core::{Grid, TextDict};
+use cell_core::{Grid, Shape, TextDict};
 use frame_groups::GroupedCall;
 use frame_labels::no_attribute;
 use frame_late::has_texts;
@@ -39,18 +40,30 @@ pub fn method_of(store: &Store, on: Value, name: &str) -> Option<Method>
     }
 }
 
-/// Whether a value has a method of the name, `groupby`, `rolling` and `expanding` among them, or texts behind `str`,
-/// which a Series of kind `string` alone has. A scalar has none. Takes no memory.
+/// Whether the name is that of a query of the value: `query` of a frame. Takes no memory.
+pub fn is_query(store: &Store, on: Value, name: &str) -> bool
+    requires { IsLive (tables store.now) on }
+    ensures { (texts : List OneText)
+        → result ≡ is_query (entry_of (tables store.now) texts on) name.now }
+{
+    match on {
+        Value::Scalar(_) => false,
+        Value::Object(id) => store.read(id).shape() == Shape::Frame && name == "query",
+    }
+}
+
+/// Whether a value has a method of the name, `groupby`, `rolling`, `expanding` and a frame's `query` among them, or texts
+/// behind `str`, which a Series of kind `string` alone has. A scalar has none. Takes no memory.
 #[tactic(auto, using(crate::proofs::NameLaws::has_named))]
 pub fn exists(store: &Store, on: Value, name: &str) -> bool
     requires { IsLive (tables store.now) on }
-    ensures { (texts : List OneText)
-        → result ≡ has_attribute (entry_of (tables store.now) texts on) name.now }
+    ensures { (texts : List OneText) → let v = entry_of (tables store.now) texts on in
+        result ≡ (has_attribute v name.now || is_query v name.now) }
 {
     if name == "str" {
         return has_texts(store, on);
     }
-    method_of(store, on, name).is_some()
+    method_of(store, on, name).is_some() || is_query(store, on, name)
 }
 
 // A method that an object has under the name, by its family.

@@ -1,6 +1,6 @@
 -- The tables that names stand for were paid for.
 use Rattle.{
-  meaning_script.{proofs.cells.Common.{arith, ◌≡◌, refl, sym, subst, ℕ, ◌+◌, ◌≤◌, ◌^◌, nat_le, nat_tests, List, [], ◌∷◌, ◌++◌, length, map, max, Bool, true, false, ◌&&◌, ◌||◌, if◌then◌else◌, codes, is_some, get, Option, Some, None, IfSome, Result, Ok, Err, IfOk, All-head, All-tail, inl, inr, Text, same_text, Contents, FaultValue}, specs.{charge.Charge.{answer_charge, select_charge, setting_charge}, language.Tree.{Expr, Step, Action, Statement}, tables.{Table.{Table}, Valid.{within_limits}, Value.{Entry, cell, table, NamedGiven, key_given}}, method.{Charges.{call_charge}, Calls.{has_method, has_attribute, call_result}, StrCalls.{has_str_method}, Functions.{function_result}, Readers.{reads_file, file_name_of, read_result}}, call.{declared.Function.TheVariants.{ReadCsv}, Signature.{function_named}}, form.Select.{length_result}, select.{Select.{plain, through, select_result}, Set.{removal_result}}, Spent.{Spent, spent_for}, State.{State, no_names, without_name, value_rows, entry_rows, held_rows, most_rows_of, most_rows}, Reading.{Files, Reading, Reads, at_once, costing, after, goes_on, then_read, of_bytes, path_of_name, of_path}, Expression.{named_by, value_of_name, where_named, made, value_of, stepped, sub_of, second_of, brackets_of, given_of, named_of, target_of}, Statement.{Answer, done, refused, then_answer, with_value, with_set, set_answer, assigned, statement_result}, Run.{Ending, usage, syntax, RunStep, RunResult, least_peak, spent_of, told_charge, IsPeak, after_fault, after_answer, fetched, statements_result, with_line, too_large_line, syntax_line, not_found_line, IsScriptResult, IsFileResult}}},
+  meaning_script.{proofs.cells.Common.{arith, ◌≡◌, refl, sym, subst, ℕ, ◌+◌, ◌≤◌, ◌^◌, nat_le, nat_tests, List, [], ◌∷◌, ◌++◌, length, map, max, Bool, true, false, ◌&&◌, ◌||◌, if◌then◌else◌, codes, is_some, get, Option, Some, None, IfSome, Result, Ok, Err, IfOk, All-head, All-tail, inl, inr, Text, same_text, Contents, FaultValue}, specs.{query.{Method.{is_query}, Query.{frame_name}}, charge.Charge.{answer_charge, select_charge, setting_charge}, language.Tree.{Expr, Step, Action, Statement}, tables.{Table.{Table}, Valid.{within_limits}, Value.{Entry, cell, table, one, NamedGiven, key_given}}, method.{Charges.{call_charge}, Calls.{has_method, has_attribute, call_result}, StrCalls.{has_str_method}, Functions.{function_result}, Readers.{reads_file, file_name_of, read_result}}, call.{declared.Function.TheVariants.{ReadCsv}, Signature.{function_named}}, form.Select.{length_result}, select.{Select.{plain, through, select_result}, Set.{removal_result}}, Spent.{Spent, spent_for}, State.{State, with_new, no_names, without_name, value_rows, entry_rows, held_rows, most_rows_of, most_rows}, Reading.{Files, Reading, Reads, at_once, costing, after, goes_on, then_read, of_bytes, path_of_name, of_path}, Expression.{named_by, value_of_name, where_named, made, value_of, stepped_by, sub_of, second_of, brackets_by, given_of, arguments_by, target_of, queried, value_by, no_query, mask_for, query_text, chosen as chosen_rows}, Statement.{Answer, done, refused, then_answer, with_value, with_set, set_answer, assigned, statement_result}, Run.{Ending, usage, syntax, RunStep, RunResult, least_peak, spent_of, told_charge, IsPeak, after_fault, after_answer, fetched, statements_result, with_line, too_large_line, syntax_line, not_found_line, IsScriptResult, IsFileResult}}},
   meaning_laws.{specs.{Validity.{IsValidObject, IsValidEntry, IsValidState, LeavesValid, HasHeldLiterals, IsHeldAction}, Paid.{IsPaid, LeavesPaid, PaidIn, PaysForTables, HasPeak}}, proofs.{LiteralLaws.{AreHeld, script_held}, PaidForms.{Within, under_rows, costs_cells, select_within, assign_within, removal_within}, PaidCalls.{call_within}, StatementLaws.{value_of_keeps, statement_keeps}}},
 }
 use Rattle.meaning_script.specs.language.Tree as tree
@@ -62,6 +62,18 @@ made_pays files f gs paid =
     (after_any 0 paid (at_once (file_name_of ReadCsv gs)) _ (omega arith) (λ name later le. path_pays files.held name (path_of_name files.paths name) gs later))
     (cells_pay (function_result None f gs) paid)
 
+-- ---- queries
+
+chosen_pays : (v m : Entry) (paid : ℕ) → IsValidObject v → entry_rows v ≤ paid → PaysFor paid (chosen_rows v m)
+chosen_pays v (cell c) paid h le = tt
+chosen_pays v (table m) paid h le =
+    costing_pays (select_charge v plain (key_given (one (table m)))) (select_result v plain (key_given (one (table m))) None) (entry_rows v) paid le (select_within v plain (key_given (one (table m))) None h)
+
+queried_pays : (files : Files) (s : State) (v : Entry) (gs : List NamedGiven) (paid : ℕ) → IsValidObject v → entry_rows v ≤ paid → PaysFor paid (queried files s v gs)
+queried_pays files s v gs paid h le =
+    after_any (entry_rows v) paid (at_once (mask_for (query_text gs))) _ le
+    (λ mask later le. after_any (entry_rows v) later (value_by no_query files (with_new s frame_name v) mask) _ le (λ m later le. chosen_pays v m later h le))
+
 -- ---- expressions
 
 name_pays : (n : Text) (o : Option Entry) (paid : ℕ) → value_rows o ≤ paid → PaysFor paid (at_once (value_of_name n o))
@@ -80,7 +92,7 @@ objects (Ok v) h = object v h
 objects (Err fault) h = tt
 
 module _ (files : Files) (s : State) (valid : IsValidState s) where
-  step_pays : (v : Entry) (step : Step) (paid : ℕ) → IsValidObject v → entry_rows v ≤ paid → PaysFor paid (stepped files s v step)
+  step_pays : (v : Entry) (step : Step) (paid : ℕ) → IsValidObject v → entry_rows v ≤ paid → PaysFor paid (stepped_by (queried files) files s v step)
   step_pays v (tree.item a) paid h le =
       after_any (entry_rows v) paid (given_of files s a) _ le
       (λ g later le. costing_pays (select_charge v plain (key_given g)) (select_result v plain (key_given g) None) (entry_rows v) later le (select_within v plain (key_given g) None h))
@@ -89,29 +101,31 @@ module _ (files : Files) (s : State) (valid : IsValidState s) where
       (λ g later le. after_any (entry_rows v) later (second_of files s second) _ le
       (λ k later le. costing_pays (select_charge v (through by) g) (select_result v (through by) g k) (entry_rows v) later le (select_within v (through by) g k h)))
   step_pays v (tree.method n args) paid h le =
-      named_pays (has_method v n) n paid _
-      (after_any (entry_rows v) paid (named_of files s args) _ le
-      (λ gs later le. costing_pays (call_charge v (calls.plain n) gs) (call_result v (calls.plain n) gs) (entry_rows v) later le (call_within v (calls.plain n) gs h)))
+      either (is_query v n) paid _ _
+      (after_any (entry_rows v) paid (arguments_by (queried files) files s args) _ le (λ gs later le. queried_pays files s v gs later h le))
+      (named_pays (has_method v n) n paid _
+      (after_any (entry_rows v) paid (arguments_by (queried files) files s args) _ le
+      (λ gs later le. costing_pays (call_charge v (calls.plain n) gs) (call_result v (calls.plain n) gs) (entry_rows v) later le (call_within v (calls.plain n) gs h))))
   step_pays v (tree.text_method n args) paid h le =
       named_pays (has_attribute v (codes "str")) (codes "str") paid _
       (named_pays (has_str_method n) n paid _
-      (after_any (entry_rows v) paid (named_of files s args) _ le
+      (after_any (entry_rows v) paid (arguments_by (queried files) files s args) _ le
       (λ gs later le. costing_pays (call_charge v (calls.on_texts n) gs) (call_result v (calls.on_texts n) gs) (entry_rows v) later le (call_within v (calls.on_texts n) gs h))))
   step_pays v (tree.group args by n more) paid h le =
       named_pays (has_method v (codes "groupby")) (codes "groupby") paid _
-      (after_any (entry_rows v) paid (named_of files s args) _ le
-      (λ g later le. after_any (entry_rows v) later (brackets_of files s by) _ le
-      (λ k later le. after_any (entry_rows v) later (named_of files s more) _ le
+      (after_any (entry_rows v) paid (arguments_by (queried files) files s args) _ le
+      (λ g later le. after_any (entry_rows v) later (brackets_by (queried files) files s by) _ le
+      (λ k later le. after_any (entry_rows v) later (arguments_by (queried files) files s more) _ le
       (λ gs later le. costing_pays (call_charge v (calls.grouped g k n) gs) (call_result v (calls.grouped g k n) gs) (entry_rows v) later le (call_within v (calls.grouped g k n) gs h)))))
   step_pays v (tree.rolling args n more) paid h le =
       named_pays (has_method v (codes "rolling")) (codes "rolling") paid _
-      (after_any (entry_rows v) paid (named_of files s args) _ le
-      (λ g later le. after_any (entry_rows v) later (named_of files s more) _ le
+      (after_any (entry_rows v) paid (arguments_by (queried files) files s args) _ le
+      (λ g later le. after_any (entry_rows v) later (arguments_by (queried files) files s more) _ le
       (λ gs later le. costing_pays (call_charge v (calls.rolling g n) gs) (call_result v (calls.rolling g n) gs) (entry_rows v) later le (call_within v (calls.rolling g n) gs h))))
   step_pays v (tree.expanding args n more) paid h le =
       named_pays (has_method v (codes "expanding")) (codes "expanding") paid _
-      (after_any (entry_rows v) paid (named_of files s args) _ le
-      (λ g later le. after_any (entry_rows v) later (named_of files s more) _ le
+      (after_any (entry_rows v) paid (arguments_by (queried files) files s args) _ le
+      (λ g later le. after_any (entry_rows v) later (arguments_by (queried files) files s more) _ le
       (λ gs later le. costing_pays (call_charge v (calls.expanding g n) gs) (call_result v (calls.expanding g n) gs) (entry_rows v) later le (call_within v (calls.expanding g n) gs h))))
 
   -- the value of an expression was paid for before it and on the way to it
@@ -128,7 +142,7 @@ module _ (files : Files) (s : State) (valid : IsValidState s) where
   value_pays (tree.len x) held paid h = after_any 0 paid (value_of files s x) _ (omega arith) (λ v later le. length_pays v later)
   value_pays (tree.make f args) held paid h =
       named_pays (is_some (function_named f)) f paid _
-      (after_any 0 paid (named_of files s args) _ (omega arith) (λ gs later le. made_pays files f gs later))
+      (after_any 0 paid (arguments_by (queried files) files s args) _ (omega arith) (λ gs later le. made_pays files f gs later))
   value_pays (tree.paren x) held paid h = value_pays x held paid h
 
 -- ---- names

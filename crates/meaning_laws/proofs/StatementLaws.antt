@@ -1,6 +1,6 @@
 -- A statement leaves a valid state of a valid one.
 use Rattle.{
-  meaning_script.{proofs.cells.Common.{arith, ℕ, List, All-nil, All-cons, Bool, if◌then◌else◌, codes, is_some, Option, Some, None, IfSome, Result, Ok, Err, IfOk, All, Text, Contents, FaultValue}, specs.{charge.Charge.{answer_charge}, language.Tree.{Expr, Step, Arg, Parts, bare, named, Action}, tables.{Table.{Table}, Valid.{IsValid}, Value.{Entry, NamedGiven}}, call.Signature.{function_named}, method.{Calls.{has_method, has_attribute}, StrCalls.{has_str_method}, Concat.{tables_of}, Readers.{read_result}}, State.{State, without_name}, Reading.{Files, Reading, Reads, at_once, costing, then_read, of_bytes, of_path}, Expression.{target_of, value_of_name, where_named, made, value_of, stepped, sub_of, second_of, brackets_of, given_of, part_of, parts_of, pairs_of, named_of}, Statement.{Answer, then_answer, with_value, set_answer, statement_result}}},
+  meaning_script.{proofs.cells.Common.{arith, ℕ, List, All-nil, All-cons, Bool, if◌then◌else◌, codes, is_some, Option, Some, None, IfSome, Result, Ok, Err, IfOk, All, Text, Contents, FaultValue}, specs.{query.{Method.{is_query}, Query.{frame_name}}, charge.Charge.{answer_charge}, language.Tree.{Expr, Step, Arg, Parts, bare, named, Action}, tables.{Table.{Table}, Valid.{IsValid}, Value.{Entry, cell, table, NamedGiven}}, call.Signature.{function_named}, method.{Calls.{has_method, has_attribute}, StrCalls.{has_str_method}, Concat.{tables_of}, Readers.{read_result}}, State.{State, with_new, without_name}, Reading.{Files, Reading, Reads, at_once, costing, then_read, of_bytes, of_path}, Expression.{target_of, value_of_name, where_named, made, value_of, stepped_by, sub_of, second_of, brackets_by, given_of, part_by, parts_by, pairs_by, arguments_by, queried, value_by, no_query, mask_for, query_text, chosen as chosen_rows}, Statement.{Answer, then_answer, with_value, set_answer, statement_result}}},
   meaning_laws.{specs.Validity.{IsValidObject, IsValidEntry, IsValidGiven, IsValidArgument, AreValidArguments, IsValidState, LeavesValid, HasHeldLiterals, IsHeldArgument, IsHeldAction}, proofs.{Words.{Keeps}, InfixLaws.{infix_result_keeps, sign_result_keeps}, ReachLaws.{select_result_keeps, length_result_keeps}, SetLaws.{assign_result_keeps, removal_result_keeps}, GroupLaws.{grouped_result_keeps}, WindowLaws.{rolling_result_keeps, expanding_result_keeps}, CsvLaws.{read_result_keeps}, ArgumentLaws.{more_valid}, CallLaws.{call_result_keeps, function_result_keeps}}},
 }
 use Rattle.meaning_script.specs.language.Tree as tree
@@ -36,6 +36,19 @@ made_keeps files f gs h =
     let called = function_result_keeps None f gs h in
     grind (arith, path_keeps)
 
+-- queries: a frame's rows, which are chosen by what a mask gives
+
+chosen_keeps : (v m : Entry) → IsValidObject v → Keeps (chosen_rows v m).answer
+chosen_keeps v (cell c) h = tt
+chosen_keeps v (table m) h = select_result_keeps v _ _ _ h
+
+queried_keeps : (files : Files) (s : State) (v : Entry) (gs : List NamedGiven) → IsValidObject v → Keeps (queried files s v gs).answer
+queried_keeps files s v gs h =
+    after_any IsValidEntry (at_once (mask_for (query_text gs))) _ (λ mask. after_any IsValidEntry (value_by no_query files (with_new s frame_name v) mask) _ (λ m. chosen_keeps v m h))
+
+either_keeps : (b : Bool) (x y : Reads Entry) → Keeps x.answer → Keeps y.answer → IfOk (if b then x else y).answer IsValidEntry
+either_keeps = grind arith
+
 -- expressions
 
 name_keeps : (n : Text) (o : Option Entry) → IfSome o IsValidEntry → Keeps (value_of_name n o)
@@ -70,57 +83,58 @@ module _ (files : Files) (s : State) (valid : IsValidState s) where
     value_valid (tree.len x) = gives_valid (tree.len x) (value_of files s (tree.len x)) (after_any IsValidEntry (value_of files s x) _ length_result_keeps)
     value_valid (tree.make f args) =
         gives_valid (tree.make f args) (value_of files s (tree.make f args))
-        (named_keeps (is_some (function_named f)) f _ (read_keeps AreValidArguments IsValidEntry (named_of files s args) _ (arguments_valid args) (λ gs k. made_keeps files f gs k)))
+        (named_keeps (is_some (function_named f)) f _ (read_keeps AreValidArguments IsValidEntry (arguments_by (queried files) files s args) _ (arguments_valid args) (λ gs k. made_keeps files f gs k)))
     value_valid (tree.paren x) = parens (value_of files s x).answer (value_valid x)
       where
         parens : (o : Result Entry FaultValue) → IfOk o (IsValueOf x) → IfOk o (IsValueOf (tree.paren x))
         parens (Ok v) h = record { valid = h.valid; held = h.held }
         parens (Err fault) h = tt
 
-    step_keeps : (v : Entry) (step : Step) → IsValidObject v → IfOk (stepped files s v step).answer IsValidEntry
+    step_keeps : (v : Entry) (step : Step) → IsValidObject v → IfOk (stepped_by (queried files) files s v step).answer IsValidEntry
     step_keeps v (tree.item a) h = after_any IsValidEntry (given_of files s a) _ (λ g. select_result_keeps v _ _ _ h)
     step_keeps v (tree.access by first second) h =
         after_any IsValidEntry (sub_of files s first) _ (λ g. after_any IsValidEntry (second_of files s second) _ (λ k. select_result_keeps v _ _ _ h))
     step_keeps v (tree.method n args) h =
-        named_keeps (has_method v n) n _ (read_keeps AreValidArguments IsValidEntry (named_of files s args) _ (arguments_valid args) (λ gs k. call_result_keeps v (calls.plain n) gs h k))
+        either_keeps (is_query v n) _ _ (after_any IsValidEntry (arguments_by (queried files) files s args) _ (λ gs. queried_keeps files s v gs h))
+        (named_keeps (has_method v n) n _ (read_keeps AreValidArguments IsValidEntry (arguments_by (queried files) files s args) _ (arguments_valid args) (λ gs k. call_result_keeps v (calls.plain n) gs h k)))
     step_keeps v (tree.text_method n args) h =
         named_keeps (has_attribute v (codes "str")) (codes "str") _
-        (named_keeps (has_str_method n) n _ (read_keeps AreValidArguments IsValidEntry (named_of files s args) _ (arguments_valid args) (λ gs k. call_result_keeps v (calls.on_texts n) gs h k)))
+        (named_keeps (has_str_method n) n _ (read_keeps AreValidArguments IsValidEntry (arguments_by (queried files) files s args) _ (arguments_valid args) (λ gs k. call_result_keeps v (calls.on_texts n) gs h k)))
     step_keeps v (tree.group args by n more) h =
         named_keeps (has_method v (codes "groupby")) (codes "groupby") _
-        (after_any IsValidEntry (named_of files s args) _ (λ g. after_any IsValidEntry (brackets_of files s by) _ (λ k. after_any IsValidEntry (named_of files s more) _ (λ gs. grouped_result_keeps v g k n gs h))))
+        (after_any IsValidEntry (arguments_by (queried files) files s args) _ (λ g. after_any IsValidEntry (brackets_by (queried files) files s by) _ (λ k. after_any IsValidEntry (arguments_by (queried files) files s more) _ (λ gs. grouped_result_keeps v g k n gs h))))
     step_keeps v (tree.rolling args n more) h =
         named_keeps (has_method v (codes "rolling")) (codes "rolling") _
-        (after_any IsValidEntry (named_of files s args) _ (λ g. after_any IsValidEntry (named_of files s more) _ (λ gs. rolling_result_keeps v g n gs h)))
+        (after_any IsValidEntry (arguments_by (queried files) files s args) _ (λ g. after_any IsValidEntry (arguments_by (queried files) files s more) _ (λ gs. rolling_result_keeps v g n gs h)))
     step_keeps v (tree.expanding args n more) h =
         named_keeps (has_method v (codes "expanding")) (codes "expanding") _
-        (after_any IsValidEntry (named_of files s args) _ (λ g. after_any IsValidEntry (named_of files s more) _ (λ gs. expanding_result_keeps v g n gs h)))
+        (after_any IsValidEntry (arguments_by (queried files) files s args) _ (λ g. after_any IsValidEntry (arguments_by (queried files) files s more) _ (λ gs. expanding_result_keeps v g n gs h)))
 
     argument_valid : (a : Arg) → IfOk (given_of files s a).answer IsValidArgument
     argument_valid (tree.expr x) = read_keeps (IsValueOf x) IsValidArgument (value_of files s x) _ (value_valid x) (λ v k. k.valid)
-    argument_valid (tree.many parts) = read_keeps (λ gs. All IsValid (tables_of gs)) IsValidArgument (parts_of files s parts) _ (parts_valid parts) (λ gs k. k)
-    argument_valid (tree.row parts) = after_any IsValidArgument (parts_of files s parts) _ (λ gs. tt)
-    argument_valid (tree.table pairs) = after_any IsValidArgument (pairs_of files s pairs) _ (λ es. tt)
+    argument_valid (tree.many parts) = read_keeps (λ gs. All IsValid (tables_of gs)) IsValidArgument (parts_by (queried files) files s parts) _ (parts_valid parts) (λ gs k. k)
+    argument_valid (tree.row parts) = after_any IsValidArgument (parts_by (queried files) files s parts) _ (λ gs. tt)
+    argument_valid (tree.table pairs) = after_any IsValidArgument (pairs_by (queried files) files s pairs) _ (λ es. tt)
     argument_valid tree.nothing = tt
 
-    part_valid : (a : Arg) → IfOk (part_of files s a).answer IsValidArgument
+    part_valid : (a : Arg) → IfOk (part_by (queried files) files s a).answer IsValidArgument
     part_valid (tree.expr x) = read_keeps (IsValueOf x) IsValidArgument (value_of files s x) _ (value_valid x) (λ v k. k.valid)
-    part_valid (tree.row parts) = after_any IsValidArgument (parts_of files s parts) _ (λ gs. tt)
+    part_valid (tree.row parts) = after_any IsValidArgument (parts_by (queried files) files s parts) _ (λ gs. tt)
     part_valid (tree.many parts) = tt
     part_valid (tree.table pairs) = tt
     part_valid tree.nothing = tt
 
-    parts_valid : (parts : Parts bare) → IfOk (parts_of files s parts).answer (λ gs. All IsValid (tables_of gs))
+    parts_valid : (parts : Parts bare) → IfOk (parts_by (queried files) files s parts).answer (λ gs. All IsValid (tables_of gs))
     parts_valid tree.no_parts = All-nil IsValid
     parts_valid (tree.more_parts tag a rest) =
-        read_keeps IsValidArgument (λ gs. All IsValid (tables_of gs)) (part_of files s a) _ (part_valid a)
-        (λ g h. read_keeps (λ gs. All IsValid (tables_of gs)) (λ gs. All IsValid (tables_of gs)) (parts_of files s rest) _ (parts_valid rest) (λ gs k. more_valid g gs h k))
+        read_keeps IsValidArgument (λ gs. All IsValid (tables_of gs)) (part_by (queried files) files s a) _ (part_valid a)
+        (λ g h. read_keeps (λ gs. All IsValid (tables_of gs)) (λ gs. All IsValid (tables_of gs)) (parts_by (queried files) files s rest) _ (parts_valid rest) (λ gs k. more_valid g gs h k))
 
-    arguments_valid : (args : Parts named) → IfOk (named_of files s args).answer AreValidArguments
+    arguments_valid : (args : Parts named) → IfOk (arguments_by (queried files) files s args).answer AreValidArguments
     arguments_valid tree.no_parts = All-nil (λ (g : NamedGiven). IsValidArgument g.value)
     arguments_valid (tree.more_parts n a rest) =
         read_keeps IsValidArgument AreValidArguments (given_of files s a) _ (argument_valid a)
-        (λ g h. read_keeps AreValidArguments AreValidArguments (named_of files s rest) _ (arguments_valid rest)
+        (λ g h. read_keeps AreValidArguments AreValidArguments (arguments_by (queried files) files s rest) _ (arguments_valid rest)
         (λ gs k. All-cons (λ (g : NamedGiven). IsValidArgument g.value) record { name = n; value = g } gs h k))
 
 -- what an expression gives in a valid state
@@ -133,9 +147,9 @@ value_of_keeps files s valid x h = held_entry x (value_of files s x).answer h (v
 
 given_keeps : (files : Files) (s : State) → IsValidState s → (a : Arg) → IsHeldArgument a → IfOk (given_of files s a).answer IsValidGiven
 given_keeps files s valid (tree.expr x) h = read_keeps IsValidEntry IsValidGiven (value_of files s x) _ (value_of_keeps files s valid x h) (λ v k. k)
-given_keeps files s valid (tree.many parts) h = after_any IsValidGiven (parts_of files s parts) _ (λ gs. tt)
-given_keeps files s valid (tree.row parts) h = after_any IsValidGiven (parts_of files s parts) _ (λ gs. tt)
-given_keeps files s valid (tree.table pairs) h = after_any IsValidGiven (pairs_of files s pairs) _ (λ es. tt)
+given_keeps files s valid (tree.many parts) h = after_any IsValidGiven (parts_by (queried files) files s parts) _ (λ gs. tt)
+given_keeps files s valid (tree.row parts) h = after_any IsValidGiven (parts_by (queried files) files s parts) _ (λ gs. tt)
+given_keeps files s valid (tree.table pairs) h = after_any IsValidGiven (pairs_by (queried files) files s pairs) _ (λ es. tt)
 given_keeps files s valid tree.nothing h = tt
 
 -- states

@@ -17,6 +17,7 @@ pub use Rattle.meaning_method.specs.join as join
 pub use Rattle.meaning_language.specs as language
 pub use Rattle.meaning_method.specs as method
 pub use Rattle.meaning_method.specs.pick as pick
+pub use Rattle.meaning_query.specs as query
 pub use Rattle.meaning_method.specs.shapes as shapes
 pub use Rattle.meaning_method.specs.select as select
 pub use Rattle.meaning_method.specs.tables as tables

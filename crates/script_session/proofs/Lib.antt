@@ -1,3 +1,4 @@
+pub mod MaskLaws
 pub mod Parts
 pub mod Trees
 pub mod Gathering

@@ -1,22 +1,21 @@
 -- Lists of parts, pairs and arguments that grow by one.
 use mathlib.Core.Former.{Count}
 use Rattle.{
-  script_state.{proofs.cells.Common.{arith, ◌≡◌, List, [], ◌∷◌, ◌++◌, refl, append_assoc, Label, Text, cell_label, label_datum}, specs.{language.Tree.{parts}, script.Expression.{cell_of, parts_of, part_of, pairs_of, given_of}, tables.{Settled.{IsSettled}, Value.{GivenList, GivenPairs, NamedGiven, no_given, more_given, no_entries, more_entries}}}},
-  script_session.proofs.Gathering.{ReadsParts},
+  script_state.{proofs.cells.Common.{arith, ◌≡◌, List, [], ◌∷◌, ◌++◌, Option, refl, append_assoc, Label, Text, cell_label, label_datum}, specs.{language.Tree.{parts}, script.Expression.{cell_of, parts_by, part_by, pairs_by, given_by, arguments_by}, tables.{Settled.{IsSettled}, Value.{Entry, GivenList, GivenPairs, NamedGiven, no_given, more_given, no_entries, more_entries}}}},
+  script_session.{specs.Masks.{asks, masked}, proofs.Gathering.{ReadsParts}},
   frame_store.{specs.{Objects.{Tables}, Arguments.{item_of, items_of, argument_of, entries_of, named_of, arguments_of, IsLiveItem, IsLiveRow, AreLiveItems, IsLiveArgument, AreLiveEntries, AreLivePairs, AreLive}, declared.arguments.{Argument.{Argument, Table, Table', Row_of-Entries-pairs-2, end_of-Entries-pairs-2, more_of-Entries-pairs-2, items-the_row-Entries-pairs-2, items_hidden-the_row-Entries-pairs-2-0}, Item.{Item, Row, Row', Row_of-Item, end_of-Item, more_of-Item, items-the_row-Item, items_hidden-the_row-Item-0}, Items.{Items}, Entries.{Entries}, Named.{Named}}, World.{World, IsKnownItem, AreKnownItems, IsKnownArgument, AreKnownPairs, AreKnownArguments, IsKnownSubscript}}, proofs.RowLaws.{item_of-Row, argument_of-Table}},
 }
 use Rattle.frame_store.specs.declared.arguments.Subscript.TheVariants as subscript
-use Rattle.script_state.specs.script.Expression as expression
 
 -- lists of parts, pairs and arguments as they are read
-pub reads_items : ReadsParts (λ fs s xs. parts_of fs s (parts xs)) (λ fs s x. part_of fs s x.1) (λ x. more_given) no_given
-reads_items = record { none = λ fs s. refl; more = λ fs s x xs. refl }
+pub reads_items : (f : Option Entry) → ReadsParts (λ fs s xs. parts_by (asks f fs) fs (masked f s) (parts xs)) (λ fs s x. part_by (asks f fs) fs (masked f s) x.1) (λ x. more_given) no_given
+reads_items f = record { none = λ fs s. refl; more = λ fs s x xs. refl }
 
-pub reads_pairs : ReadsParts (λ fs s xs. pairs_of fs s (parts xs)) (λ fs s x. given_of fs s x.1) (λ x. more_entries (cell_label (cell_of x.0))) no_entries
-reads_pairs = record { none = λ fs s. refl; more = λ fs s x xs. refl }
+pub reads_pairs : (f : Option Entry) → ReadsParts (λ fs s xs. pairs_by (asks f fs) fs (masked f s) (parts xs)) (λ fs s x. given_by (asks f fs) fs (masked f s) x.1) (λ x. more_entries (cell_label (cell_of x.0))) no_entries
+reads_pairs f = record { none = λ fs s. refl; more = λ fs s x xs. refl }
 
-pub reads_arguments : ReadsParts (λ fs s xs. expression.named_of fs s (parts xs)) (λ fs s x. given_of fs s x.1) (λ x g l. record { name = x.0; value = g } ∷ l) []
-reads_arguments = record { none = λ fs s. refl; more = λ fs s x xs. refl }
+pub reads_arguments : (f : Option Entry) → ReadsParts (λ fs s xs. arguments_by (asks f fs) fs (masked f s) (parts xs)) (λ fs s x. given_by (asks f fs) fs (masked f s) x.1) (λ x g l. record { name = x.0; value = g } ∷ l) []
+reads_arguments f = record { none = λ fs s. refl; more = λ fs s x xs. refl }
 
 -- parts behind parts
 abbrev pub join_parts : GivenList → GivenList → GivenList

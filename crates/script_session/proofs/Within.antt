@@ -1,10 +1,5 @@
 -- The charge stays above what is held, and above the peak.
-use Rattle.{
-  script_state.{proofs.cells.Common.{arith, ◌≡◌, ℕ, zero, suc, ◌+◌, ◌≤◌, List, Result, Ok, Err, Contents, Text}, specs.{script.{State.{State}, Reading.{Files, Reading}, Statement.{Answer}}, Reads.{Costs, count_after}, Work.{tab_of}}},
-  std.specs.Prelude.{min, max, OnErr},
-  outside_io.specs.{Count.{last_count}, Files.{FilesValue}},
-  script_session.specs.{declared.{fault.{Outcome.{Outcome}, StepFault.{StepFault}}, session.Session.{Session}}, Faults.{Performs}, Session.{charge_of, held_in, meter_in, peak_of, IsWithinCharge}},
-}
+use Rattle.{script_state.{proofs.cells.Common.{arith, ◌≡◌, ℕ, zero, suc, ◌+◌, ◌≤◌, List, Result, Ok, Err, Text}, specs.{script.{State.{State}, Reading.{Files, Reading}, Statement.{Answer}}, Reads.{Costs, count_after}, Work.{tab_of}}}, std.specs.Prelude.{min, max, OnErr}, outside_io.specs.{Count.{last_count}, Files.{FilesValue}}, script_session.specs.{declared.{fault.{Outcome.{Outcome}, StepFault.{StepFault}}, session.Session.{Session}}, Faults.{Performs}, Session.{charge_of, held_in, meter_in, peak_of, IsWithinCharge}}}
 
 within_more : (n c c' t t' peak peak' : ℕ) → c ≤ last_count → c' ≡ count_after c n → t' ≤ t + n → peak' ≡ max peak (min t' last_count) → min t last_count ≤ c → peak ≤ c → (min t' last_count ≤ c') × (peak' ≤ c')
 within_more zero c c' t t' peak peak' fits is held top within least = grind arith

@@ -1,5 +1,6 @@
 pub mod Parts
 pub mod Links
+pub mod Masks
 pub mod Faults
 pub mod Apart
 pub mod Session

@@ -7,7 +7,7 @@ use Rattle.script_state.specs.language.Tree.{parts}
 use Rattle.script_state.specs.method.Calls.{has_method, ChainValue, grouped, rolling, expanding}
 use Rattle.script_state.specs.script.Reading.{Files, Reads, then_read}
 use Rattle.script_state.specs.script.State.{State}
-use Rattle.script_state.specs.script.Expression.{called, where_named, named_of, brackets_of}
+use Rattle.script_state.specs.script.Expression.{Asked, called, where_named, arguments_by, brackets_by}
 use Rattle.script_tree.specs.View.{named_parts_of, optional_arg}
 use Rattle.frame_store.specs.declared.arguments.Argument.{Argument}
 use Rattle.frame_store.specs.declared.arguments.Named.{Named}
@@ -35,14 +35,14 @@ chain_meant Rolling args by name = rolling args name
 chain_meant Expanding args by name = expanding args name
 
 -- what follows the arguments of the link, and what follows the brackets
-abbrev pub after_brackets : Files → State → Entry → Linked → List NamedGiven → Option Given → Reads Entry
-after_brackets files s v call g h = then_read (named_of files s (parts (named_parts_of call.more.now))) (called v (chain_meant call.link g h call.name.now))
+abbrev pub after_brackets : Asked → Files → State → Entry → Linked → List NamedGiven → Option Given → Reads Entry
+after_brackets ask files s v call g h = then_read (arguments_by ask files s (parts (named_parts_of call.more.now))) (called v (chain_meant call.link g h call.name.now))
 
-abbrev pub after_link : Files → State → Entry → Linked → List NamedGiven → Reads Entry
-after_link files s v call g = then_read (brackets_of files s (optional_arg call.by.now)) (after_brackets files s v call g)
+abbrev pub after_link : Asked → Files → State → Entry → Linked → List NamedGiven → Reads Entry
+after_link ask files s v call g = then_read (brackets_by ask files s (optional_arg call.by.now)) (after_brackets ask files s v call g)
 
 -- The name is tested first. Then all arguments and the brackets are read, from left to right, and the method is called.
-abbrev pub linked : Files → State → Entry → Linked → Reads Entry
-linked files s v call =
+abbrev pub linked : Asked → Files → State → Entry → Linked → Reads Entry
+linked ask files s v call =
     where_named (has_method v (link_name call.link)) (link_name call.link)
-    (then_read (named_of files s (parts (named_parts_of call.args.now))) (after_link files s v call))
+    (then_read (arguments_by ask files s (parts (named_parts_of call.args.now))) (after_link ask files s v call))

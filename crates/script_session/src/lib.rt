@@ -22,6 +22,7 @@
 mod evaluating;
 mod fault;
 mod link;
+mod masks;
 mod session;
 mod statements;
 mod target;

@@ -56,7 +56,7 @@ fn bind<F: Files>(
         Executes names.now (tree.bind name.now (expr_of expr.now))
         (at work.old files.old) (at work.new files.new) result }
 {
-    let value = evaluate(work, files, names, expr)?;
+    let value = evaluate(work, files, names, None, expr)?;
     work.set_name(name.as_str(), value)?;
     Ok(quiet(work.alloc(), false))
 }
@@ -76,8 +76,8 @@ fn put<F: Files>(
     ensures apart { OnOk result (IsSetApart (named_by (expr_of target.now))
         (state_in work.old) (state_in work.new)) }
 {
-    let value = given(work, files, names, arg)?;
-    let on = evaluate(work, files, names, target)?;
+    let value = given(work, files, names, None, arg)?;
+    let on = evaluate(work, files, names, None, target)?;
     let (by, first, second) = last_step(work, files, names, step)?;
     let warned = is_chained(target);
     match work.assign(on, by, &first, &second, &value) {
@@ -112,7 +112,7 @@ fn drop_column<F: Files>(
         (state_in work.old) (state_in work.new)) }
 {
     let on = work.named(name)?;
-    let label = evaluate(work, files, names, key)?;
+    let label = evaluate(work, files, names, None, key)?;
     match work.remove(on, label) {
         Ok(()) => Ok(quiet(work.alloc(), false)),
         Err(fault) => Err(marked(fault, false)),
@@ -131,7 +131,7 @@ fn print<F: Files>(
         Executes names.now (tree.print (expr_of expr.now) end.now)
         (at work.old files.old) (at work.new files.new) result }
 {
-    let value = evaluate(work, files, names, expr)?;
+    let value = evaluate(work, files, names, None, expr)?;
     let end = end.as_str();
     let printed = work.printed(value, end)?;
     Ok(Outcome {

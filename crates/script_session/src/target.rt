@@ -26,11 +26,11 @@ pub fn last_step<F: Files>(
 {
     match step {
         Step::Item(arg) => {
-            let key = given(work, files, names, arg)?;
+            let key = given(work, files, names, None, arg)?;
             Ok((Selector::Plain, Subscript::Key(key), None))
         }
         Step::Access(by, first, second) => {
-            let (first, second) = subscripts(work, files, names, first, second)?;
+            let (first, second) = subscripts(work, files, names, None, first, second)?;
             Ok((selector_of(*by), first, second))
         }
         Step::Method(_, _)

@@ -14,6 +14,7 @@ ghost use Rattle.meaning_laws.specs.select.Set.{assign_result, removal_result};
 ghost use Rattle.std.specs.Prelude.{codes};
 ghost use Rattle.meaning_laws.specs.method.Calls.{call_result, has_method, has_attribute, plain, on_texts};
 ghost use Rattle.meaning_laws.specs.method.StrCalls.{has_str_method};
+ghost use Rattle.meaning_laws.specs.script.query.Method.{is_query};
 ghost use Rattle.meaning_laws.specs.method.Functions.{made_by};
 ghost use Rattle.meaning_laws.specs.charge.Charge.{answer_charge, select_charge, setting_charge};
 ghost use Rattle.meaning_laws.specs.method.Charges.{call_charge};
@@ -40,7 +41,7 @@ use crate::work::Work;
 use cell_core::{Cell, Code, Grid, Label, Words};
 use column_operators::Operator;
 use frame_calls::{
-    Between, function_called, function_named, method_behind, method_called, method_of,
+    Between, function_called, function_named, is_query, method_behind, method_called, method_of,
 };
 use frame_late::{has_texts, text_exists};
 use frame_set::NewValue;
@@ -165,6 +166,15 @@ impl Work {
         note(&mut self.temps, made);
         self.charge = charged(self.charge, answer_cells(&self.store, made));
         Ok(made)
+    }
+
+    /// Whether the name is that of a query of the value: `query` of a frame. Takes no memory.
+    pub fn is_query(&self, on: Value, name: &str) -> bool
+        requires { IsLive (tables_in self.now) on }
+        ensures { (texts : List OneText)
+            → result ≡ is_query (entry_of (tables_in self.now) texts on) name.now }
+    {
+        is_query(&self.store, on, name)
     }
 
     /// The method that the value has under this name, and else an `AttributeError` that gives the name, or want of
@@ -521,8 +531,8 @@ pub fn expect_str_method(alloc: Global, name: &str) -> Result<(), EvalFault>
     Err(no_attribute(alloc, name))
 }
 
-// The fault of a name that isn't there.
-fn no_attribute(alloc: Global, name: &str) -> EvalFault
+/// The fault of an attribute that isn't there, an `AttributeError` that gives the name; or want of memory.
+pub fn no_attribute(alloc: Global, name: &str) -> EvalFault
     ensures { IsNoAttribute result name.now false }
 {
     match Words::from_text(alloc, name) {

@@ -27,6 +27,6 @@ mod work;
 
 pub use fault::{EvalFault, evaluated};
 pub use file_names::{FileName, FileNames};
-pub use forms::{expect_function, expect_str_method};
+pub use forms::{expect_function, expect_str_method, no_attribute};
 pub use frame_calls::Between;
 pub use work::Work;
