@@ -7,8 +7,8 @@ PROGRAM is the built `pdscript`. A file of 1,000,000 rows has four columns of wh
 of two columns is missing. A script reads the file and does a query, once and then several times, and another script does the
 same with the mask written out. A line for each query gives in milliseconds what it takes, with the reading of the file
 subtracted, what the mask written out takes, the query's time as a part of that, and the most memory that the script of the
-query held in MiB; where the Python that runs this has pandas, what `query` of pandas takes with nullable kinds, and the
-program's time as a part of it. Times are those of the processor, of the user and the system, and the least of the runs counts.
+query held in MiB; where the Python that runs this has pandas, what `query` of pandas takes with nullable kinds, by its Python
+engine, since the other one doesn't take them, and the program's time as a part of it. Times are those of the processor, of the user and the system, and the least of the runs counts.
 
 A query should take no longer than its mask, and at most a fifth of what pandas takes. At the end stand queries of one row, as
 many as a script may have: what is left there is the text that is read.
@@ -37,6 +37,14 @@ def header():
     return "%10s %10s %6s %8s %s" % ("ms", "mask", "ratio", "MiB", there)
 
 
+def in_pandas(other, text):
+    """What `query` of pandas takes, or None where its release doesn't take the kinds."""
+    try:
+        return other.form(HEAD + 'x = f.query("%s", engine="python")' % text, 1, False)[0]
+    except (TypeError, ValueError):
+        return None
+
+
 def queries(program, path, head, rows, runs):
     """A line for each query."""
     other = Pandas(path, KINDS, runs) if pandas else None
@@ -47,7 +55,8 @@ def queries(program, path, head, rows, runs):
         query = 'x = f.query("%s")' % text
         alone, _, held = program.form(head, query, 10, path)
         written, _, _ = program.form(head, "x = f[%s]" % mask, 10, path)
-        there = told(alone, other.form(HEAD + query, 1, False)[0]) if other else ""
+        beside = in_pandas(other, text) if other else None
+        there = told(alone, beside) if beside else ""
         print("%-26s %10.2f %10.2f %6.2f %8.0f %s" % (name, alone, written, alone / written if written else 0, held, there), flush=True)
 
 

@@ -9,11 +9,11 @@ first_seen : (texts : List Text) (tuple : List Label) → slice_get (tuple_value
 first_seen _ [] = refl
 first_seen _ (l ∷ ls) = refl
 
-headings_seen : (texts : List Text) (labels : List (List Label)) → map (λ label. slice_get label 0) (tuples_seen texts labels) ≡ headings_value texts (map first_label labels)
+pub headings_seen : (texts : List Text) (labels : List (List Label)) → map (λ label. slice_get label 0) (tuples_seen texts labels) ≡ headings_value texts (map first_label labels)
 headings_seen _ [] = refl
 headings_seen texts (l ∷ ls) = λ j. first_seen texts l j ∷ headings_seen texts ls j
 
-cells_seen : (texts : List Text) (columns : List CellColumn) → columns_seen texts columns ≡ columns_value texts (map table_column columns)
+pub cells_seen : (texts : List Text) (columns : List CellColumn) → columns_seen texts columns ≡ columns_value texts (map table_column columns)
 cells_seen _ [] = refl
 cells_seen texts (c ∷ cs) = search (cells_seen texts cs)
 
@@ -38,7 +38,7 @@ heading_step labels place tuple _ _ _ _ lt at first pushed before =
 pub blocks_single : (columns : List CellColumn) (blocks : List CellBlock) → blocks ≡ map column_block columns → All IsSingle blocks
 blocks_single columns _ is = rw is (All-map IsSingle column_block columns (λ k d lt. refl))
 
-blocks_columns : (columns : List CellColumn) → map block_column (map column_block columns) ≡ map table_column columns
+pub blocks_columns : (columns : List CellColumn) → map block_column (map column_block columns) ≡ map table_column columns
 blocks_columns [] = refl
 blocks_columns (c ∷ cs) = cc (blocks_columns cs)
 
@@ -54,7 +54,7 @@ some_first (l ∷ ls) _ = refl
 no_series : Frame ≡ Series → ⊥
 no_series e = cc
 
-headings_fit : (labels : List (List Label)) → HaveLevels 1 labels → AreHeadings Frame (headings_of labels).columns_name (headings_of labels).labels
+pub headings_fit : (labels : List (List Label)) → HaveLevels 1 labels → AreHeadings Frame (headings_of labels).columns_name (headings_of labels).labels
 headings_fit labels single =
     record {
       single = λ e. absurd (no_series e);

@@ -10,8 +10,8 @@ use frame_store::{Blocks, Headings, Table};
 use multi_index::Axis;
 use std::alloc::Global;
 
-// The labels of columns as headings.
-fn headings_of(alloc: Global, labels: &Tuples) -> Result<Headings, NoMemory>
+/// The labels of columns, each a tuple of its own, as headings. `NoMemory` is the only refusal.
+pub fn headings_of(alloc: Global, labels: &Tuples) -> Result<Headings, NoMemory>
     requires { HaveLevels 1 labels.now }
     ensures { IfOk result (λ made. made ≡ meant.headings_of labels.now) }
 {
@@ -44,9 +44,9 @@ fn reversed_blocks(alloc: Global, mut blocks: Blocks) -> Result<Blocks, NoMemory
     Ok(made)
 }
 
-// The columns as blocks. They are moved, so that no cell is copied: a list gives up its last item
-// alone, and is turned twice.
-fn blocks_of(alloc: Global, columns: Columns) -> Result<Blocks, NoMemory>
+/// The columns as blocks. They are moved, so that no cell is copied: a list gives up its last item
+/// alone, and is turned twice. `NoMemory` is the only refusal.
+pub fn blocks_of(alloc: Global, columns: Columns) -> Result<Blocks, NoMemory>
     ensures { IfOk result (λ made. made ≡ map meant.column_block columns) }
 {
     let blocks = blocks_from_last(alloc, columns)?;

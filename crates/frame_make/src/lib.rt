@@ -14,7 +14,7 @@
 //!
 //! The name of a file is an argument (`names`). The dict of `dtype` is read as kinds that are named for labels
 //! (`kinds`), the file as columns (the crate `csv_frames`), and the columns are moved into a frame (`file_frames`), all
-//! in their order (`reading`).
+//! in their order (`reading`). [`headings_of`] and [`blocks_of`] make the parts of such a frame for other readers.
 //!
 //! ```text
 //! // `pd.Series([7, None])`: `args` has one argument, a list of two scalars
@@ -38,6 +38,7 @@ mod reading;
 mod scalars;
 mod series;
 
+pub use file_frames::{blocks_of, headings_of};
 pub use given::{made_frame, made_series};
 pub use names::{file_name, reads_file};
 pub use reading::read_frame;

@@ -11,7 +11,7 @@ use Rattle.{
   indexmap.specs.IndexSet.{insert_key},
   meaning_call.specs.{declared.{Method.TheVariants.{Other}, OtherMethod.TheVariants.{Merge}, Parameter.{Parameter}}, Signature.{parameters_of, needed, optional}, Binding.{each, is_scalar, count_of, takes, text_in}},
   frame_select.{specs.{Headings.{same_heading, NamesRepeated}, Selected.{heading_of, headings_at}, declared.labels.Named.{Named as NamedColumns}}, proofs.{HeadingLaws.{heading_decides, same_seen, head_settled, rest_settled, repeated_settled}, PlaceLaws.{heading_seen, heading_settled}, AnswerLaws.{column_seen}, PickedLaws.{list_is}}},
-  frame_merge.specs.{Headings.{AreAmong, label_beside, merged_headings}, declared.keys.MergeKeys.{MergeKeys as NumberedKeys}, Keys.{keys_value, cell_labels, common_headings, keys_told, keys_checked, kinds_of, AreMergeKeys, keys_seen, labels_on}, Calls.{IsMergeCall}},
+  frame_merge.specs.{Headings.{AreAmong, label_beside, merged_headings}, declared.keys.MergeKeys.{MergeKeys as NumberedKeys}, Keys.{keys_value, cell_labels, common_headings, keys_told, keys_checked, kinds_of, AreAlike, keys_seen, labels_on}, Calls.{IsMergeCall}},
   frame_store.specs.tables.Value.{nothing},
   meaning_join.specs.declared.{How.{How}, Validate.{Validate}},
   frame_signatures.{specs.{Bound.{given_in, stands_at, IsBound}, declared.bound.Bound.{Bound as BoundArguments}}, proofs.RuleLaws.{filled}},
@@ -220,7 +220,7 @@ kinds_agree as' bs k d e same lt = grind arith
 kind_at : (t : NumberedTable) (places : List ℕ) (k place : ℕ) → slice_get places k ≡ Some place → slice_index_or (kinds_of t places) k (column_at t.columns 0).kind ≡ (column_at t.columns place).kind
 kind_at t places k place here = cc (get_or-map (λ p. (column_at t.columns p).kind) places k 0, get_or_from_slice_get places k place 0 here)
 
-pub kinds_of_key : (l r : NumberedTable) (keys : NumberedKeys) → AreMergeKeys l r keys → (k place other : ℕ) (a b : CellColumn) → slice_get keys.left k ≡ Some place → slice_get keys.right k ≡ Some other → column_at l.columns place ≡ table_column a → column_at r.columns other ≡ table_column b
+pub kinds_of_key : (l r : NumberedTable) (keys : NumberedKeys) → AreAlike l r keys → (k place other : ℕ) (a b : CellColumn) → slice_get keys.left k ≡ Some place → slice_get keys.right k ≡ Some other → column_at l.columns place ≡ table_column a → column_at r.columns other ≡ table_column b
     → b.kind ≡ a.kind
 kinds_of_key l r keys are k place other a b here there at_left at_right =
     let lt : k < length keys.left = search slice_get_within in

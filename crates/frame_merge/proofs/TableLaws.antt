@@ -1,5 +1,5 @@
 -- The columns of joined rows, and the frame of them.
-use Rattle.{frame_parts.proofs.Common.{drop_more, length-map, map-append, take_more, length-append, map-range_with_len_more, length-map-range_with_len, All-map, All-append, All-filter, length-range_with_len, slice_get_within, get_or_from_slice_get, nat_tests, ◌-◌, ◌&&◌, ◌≡◌, ◌∙◌, ◌+◌, ap, refl, sym, arith, ℕ, suc, false, List, [], ◌∷◌, ◌++◌, map, take, drop, length, slice_get, All, Option, Some, None, append_assoc, nat_eq, Result, filter, ◌^◌, ◌<◌, subst, true, slice_index_or, Ok, Err, get_or-map, range_with_len, position_or_len, IfSome, IsSome, on_rows_seen, default_seen, map-map as map_map, Cell, Na, Label, Limit, Frame, IsLonger, Text, CellValue, na_cell, datum, LabelValue, FaultValue, IsSettled, ColumnOf, Table, column_at, column_value, NumberedTable, table_value, heading_value, Entry, IsWhole, columns_value, headings_value, Makes, IsKnownTable, Refused, HeadingList, columns_of, table_of, table_settled, settled_later, seen_later, columns_part, CellBlock, AxisValue, range_axis, within_limits, limited, default_labels, common_name, heading_at}, std.proofs.Common.{min, nat_le}, frame_select.proofs.AnswerLaws.{column_seen}, meaning_join.specs.{Pairs.{Pair}, declared.{How.{How}, Validate.{Validate}}}, frame_labels.{specs.method.{Rows.{all_places}, Merge.{MergeKeys, is_key, right_key, right_places, key_cell, left_column, column_of_side, suffixed_heading, merged, merged_rows}}, proofs.{NamedLaws.{is_other, others_meant}, TableLaws.{limited_within, frame_heads}}}, frame_merge.specs.{Columns.{key_cell_at, key_cells, column_on, joined_or_left, left_column_on, merged_columns}, declared.keys.MergeKeys.{MergeKeys as NumberedKeys}, Keys.{keys_value, AreMergeKeys}, Rows.{MeetsBy, AreRowsMet, repeated_in, pairs_in}, Headings.{merged_headings}}, factorize.proofs.sorting.RankLaws.{below_range}, merge_concat.specs.{declared.pairs.Pairs.{Pairs}, Pairs.{ArePairs}}}
+use Rattle.{frame_parts.proofs.Common.{drop_more, length-map, map-append, take_more, length-append, map-range_with_len_more, length-map-range_with_len, All-map, All-append, All-filter, length-range_with_len, slice_get_within, get_or_from_slice_get, nat_tests, ◌-◌, ◌&&◌, ◌≡◌, ◌∙◌, ◌+◌, ap, refl, sym, arith, ℕ, suc, false, List, [], ◌∷◌, ◌++◌, map, take, drop, length, slice_get, All, Option, Some, None, append_assoc, nat_eq, Result, filter, ◌^◌, ◌<◌, subst, true, slice_index_or, Ok, Err, get_or-map, range_with_len, position_or_len, IfSome, IsSome, on_rows_seen, default_seen, map-map as map_map, Cell, Na, Label, Limit, Frame, IsLonger, Text, CellValue, na_cell, datum, LabelValue, FaultValue, IsSettled, ColumnOf, Table, column_at, column_value, NumberedTable, table_value, heading_value, Entry, IsWhole, columns_value, headings_value, Makes, IsKnownTable, Refused, HeadingList, columns_of, table_of, table_settled, settled_later, seen_later, columns_part, CellBlock, AxisValue, range_axis, within_limits, limited, default_labels, common_name, heading_at}, column_core.proofs.cells.Common.{zip}, std.proofs.Common.{min, nat_le}, frame_store.specs.declared.fault.OpFault.{OpFault}, frame_select.proofs.AnswerLaws.{column_seen}, meaning_join.specs.{Pairs.{Pair, pair}, declared.{How.{How}, Validate.{Validate}}}, frame_labels.{specs.method.{Rows.{all_places}, Merge.{MergeKeys, is_key, right_key, right_places, key_cell, left_column, column_of_side, suffixed_heading, merged, merged_rows}}, proofs.{NamedLaws.{is_other, others_meant}, TableLaws.{limited_within, frame_heads}}}, frame_merge.specs.{Columns.{key_cell_at, key_cells, column_on, joined_or_left, left_column_on, merged_columns}, declared.keys.MergeKeys.{MergeKeys as NumberedKeys}, Keys.{keys_value, AreAlike}, Rows.{MeetsBy, AreRowsMet, pairs_value, repeated_in, pairs_in}, Headings.{merged_headings}}, factorize.proofs.sorting.RankLaws.{below_range}, merge_concat.specs.{declared.pairs.Pairs.{Pairs}, Pairs.{ArePairs}}}
 use Rattle.frame_labels.specs.method.Merge as meant
 
 -- one column more
@@ -118,9 +118,27 @@ module _ (texts : List Text) where
   some_headings : (hs : List (Option Label)) → All IsSome (headings_value texts hs) → All IsSome hs
   some_headings hs all = λ k d lt. grind (arith, subst IsSome (get_or-map (heading_value texts) hs k d) (all k _ (omega (arith, length-map hs (heading_value texts), lt))))
 
--- the frame that is meant, of rows that are met
-module _ (old : List Text) (l r : NumberedTable) (numbers : NumberedKeys) (known : record { left : IsKnownTable old l; right : IsKnownTable old r; frames : (l.shape ≡ Frame) × (r.shape ≡ Frame); keys : AreMergeKeys l r numbers }) (how : How) (once : Validate) (most : ℕ) (met : Option Pairs)
-    (found : record { rows : MeetsBy old most (Ok met) (repeated_in once (table_value old l) (table_value old r) (keys_value numbers)) (pairs_in how (table_value old l) (table_value old r) (keys_value numbers)); inside : IfSome met (AreRowsMet l r) }) where
+-- the rows of both sides, pair by pair
+left_pairs : (ls rs : List (Option ℕ)) → length rs ≡ length ls → ls ≡ map (λ (p : Pair). p.left) (map (λ (rows : Option ℕ × Option ℕ). pair rows.0 rows.1) (zip ls rs))
+left_pairs [] rs _ = refl
+left_pairs (l ∷ ls) [] same = absurd (omega (arith, same))
+left_pairs (l ∷ ls) (r ∷ rs) same = ap (λ more. l ∷ more) (left_pairs ls rs (omega (arith, same)))
+
+right_pairs : (ls rs : List (Option ℕ)) → length rs ≡ length ls → rs ≡ map (λ (p : Pair). p.right) (map (λ (rows : Option ℕ × Option ℕ). pair rows.0 rows.1) (zip ls rs))
+right_pairs [] [] _ = refl
+right_pairs [] (r ∷ rs) same = absurd (omega (arith, same))
+right_pairs (l ∷ ls) [] same = absurd (omega (arith, same))
+right_pairs (l ∷ ls) (r ∷ rs) same = ap (λ more. r ∷ more) (right_pairs ls rs (omega (arith, same)))
+
+pairs_again : (ps : List Pair) → map (λ (rows : Option ℕ × Option ℕ). pair rows.0 rows.1) (zip (map (λ (p : Pair). p.left) ps) (map (λ (p : Pair). p.right) ps)) ≡ ps
+pairs_again [] = refl
+pairs_again (p ∷ ps) = ap (λ more. p ∷ more) (pairs_again ps)
+
+pairs_are : (made : Pairs) (ps : List Pair) → ArePairs made ps → pairs_value made ≡ ps
+pairs_are made ps are = (λ i. map (λ rows. pair rows.0 rows.1) (zip (are.left i) (are.right i))) ∙ pairs_again ps
+
+-- the frame that is meant, of pairs of rows
+module _ (old : List Text) (l r : NumberedTable) (numbers : NumberedKeys) (made : Pairs) (known : record { left : IsKnownTable old l; right : IsKnownTable old r; frames : (l.shape ≡ Frame) × (r.shape ≡ Frame); keys : AreAlike l r numbers; rows : AreRowsMet l r made }) where
   abbrev L : Table
   L = table_value old l
 
@@ -131,43 +149,31 @@ module _ (old : List Text) (l r : NumberedTable) (numbers : NumberedKeys) (known
   keys = keys_value numbers
 
   abbrev ps : List Pair
-  ps = pairs_in how L R keys
+  ps = pairs_value made
 
   abbrev frame_meant : Table
   frame_meant = merged L R keys ps
 
   abbrev answer : Result Entry FaultValue
-  answer = merged_rows L R how once keys
+  answer = limited frame_meant
 
   rows_meant : length frame_meant.labels ≡ length ps
   rows_meant = search length-map-range_with_len
 
-  limited_by : answer ≡ limited frame_meant
-  limited_by = grind (arith, found.rows.0)
-
-  pub many_so : (rights : List ℕ) (counted_right : ℕ) → rights ≡ filter (is_other keys.right) (range_with_len 0 counted_right) → counted_right ≡ length r.columns → (columns : ℕ) → columns ≡ min (length l.columns + length rights) (2 ^ 64 - 1)
-      → ((rows : ℕ) → within_limits rows columns ≡ (nat_le rows most && nat_le columns (2 ^ 16))) → met ≡ None → Makes old (Err (Refused Limit)) answer
-  many_so rights _ kept right_columns columns sum law is =
-      let many : most < length ps = rw is at found.rows.1 in
-      let others : rights ≡ right_places R keys = others_meant old r _ _ _ kept right_columns in
-      let all : length frame_meant.columns ≡ length l.columns + length rights = grind (arith, length-append, length-map, length-range_with_len, others) in
-      let beyond : within_limits (length ps) (length frame_meant.columns) ≡ false = grind (arith, nat_tests, law (length ps), all) in
-      grind (arith, limited_by, rows_meant, beyond)
+  are : ArePairs made ps
+  are = record { left = left_pairs made.left made.right known.rows.same; right = right_pairs made.left made.right known.rows.same }
 
   -- with labels that are made
   module _ (new : List Text) (labels slice : List (Option Label)) (labelled : record { longer : IsLonger old new; given : IsSettled headings_value new labels; labels : headings_value new labels ≡ merged_headings L R keys }) (sliced : slice ≡ labels)
-      (made : Pairs) (some : met ≡ Some made) (count : ℕ) (counted : count ≡ length made.left) where
+      (count : ℕ) (counted : count ≡ length made.left) where
     headed : length frame_meant.columns ≡ length labels
     headed = grind (arith, length-append, length-map)
-
-    are : ArePairs made ps
-    are = grind (arith, found.rows.1)
 
     rows_are : count ≡ length ps
     rows_are = counted ∙ ap length are.left ∙ length-map ps _
 
     pub beyond_so : within_limits count (length labels) ≡ false → Makes new (Err (Refused Limit)) answer
-    beyond_so = grind (arith, limited_by, headed, rows_meant, rows_are)
+    beyond_so = grind (arith, headed, rows_meant, rows_are)
 
     -- its columns and rows
     module _ (rights : List ℕ) (counted_right : ℕ) (kept : rights ≡ filter (is_other keys.right) (range_with_len 0 counted_right)) (columns : counted_right ≡ length r.columns) (a b called : Option Label) (a_is : a ≡ l.columns_name) (b_is : b ≡ r.columns_name) (named : record { name : heading_value old called ≡ common_name (heading_value old a) (heading_value old b); settled : IsSettled heading_value old called })
@@ -205,7 +211,7 @@ module _ (old : List Text) (l r : NumberedTable) (numbers : NumberedKeys) (known
 
       -- the frame that is made is the one that is frame_meant
       pub made_is : within_limits count (length labels) ≡ true → (made' : NumberedTable) → made' ≡ table_of Frame axis headings blocks → Makes new (Ok made') answer
-      made_is = grind (arith, limited_by, limited_within, headed, rows_meant, rows_are, whole_seen, whole_settled)
+      made_is = grind (arith, limited_within, headed, rows_meant, rows_are, whole_seen, whole_settled)
 
       labels_some : All IsSome labels
       labels_some =
@@ -217,5 +223,44 @@ module _ (old : List Text) (l r : NumberedTable) (numbers : NumberedKeys) (known
       -- its parts fit
       pub parts_fit : IsWhole (table_of Frame axis headings blocks)
       parts_fit =
-          let same = (rw some at found.inside).same in
+          let same = known.rows.same in
           grind (arith, labels_some, length-map, length-append, whole_seen, rows_numbered, columns_counted, frame_heads)
+
+-- the same of rows that are met
+module _ (old : List Text) (l r : NumberedTable) (numbers : NumberedKeys) (how : How) (once : Validate) (most : ℕ) (met : Option Pairs)
+    (found : MeetsBy old most (Ok met) (repeated_in once (table_value old l) (table_value old r) (keys_value numbers)) (pairs_in how (table_value old l) (table_value old r) (keys_value numbers))) where
+  abbrev l_met : Table
+  l_met = table_value old l
+
+  abbrev r_met : Table
+  r_met = table_value old r
+
+  abbrev keys_met : MergeKeys
+  keys_met = keys_value numbers
+
+  abbrev pairs_met : List Pair
+  pairs_met = pairs_in how l_met r_met keys_met
+
+  abbrev frame_met : Table
+  frame_met = merged l_met r_met keys_met pairs_met
+
+  abbrev answer_met : Result Entry FaultValue
+  answer_met = merged_rows l_met r_met how once keys_met
+
+  limited_by : answer_met ≡ limited frame_met
+  limited_by = grind (arith, found.0)
+
+  pub many_so : (rights : List ℕ) (counted_right : ℕ) → rights ≡ filter (is_other keys_met.right) (range_with_len 0 counted_right) → counted_right ≡ length r.columns → (columns : ℕ) → columns ≡ min (length l.columns + length rights) (2 ^ 64 - 1)
+      → ((rows : ℕ) → within_limits rows columns ≡ (nat_le rows most && nat_le columns (2 ^ 16))) → met ≡ None → Makes old (Err (Refused Limit)) answer_met
+  many_so rights _ kept right_columns columns sum law is =
+      let many : most < length pairs_met = rw is at found.1 in
+      let others : rights ≡ right_places r_met keys_met = others_meant old r _ _ _ kept right_columns in
+      let rows : length frame_met.labels ≡ length pairs_met = search length-map-range_with_len in
+      let all : length frame_met.columns ≡ length l.columns + length rights = grind (arith, length-append, length-map, length-range_with_len, others) in
+      let beyond : within_limits (length pairs_met) (length frame_met.columns) ≡ false = grind (arith, nat_tests, law (length pairs_met), all) in
+      grind (arith, limited_by, rows, beyond)
+
+  pub met_so : (pairs : Pairs) → met ≡ Some pairs → (new : List Text) (made : Result NumberedTable OpFault) → Makes new made (limited (merged l_met r_met keys_met (pairs_value pairs))) → Makes new made answer_met
+  met_so pairs is new made makes =
+      let are : ArePairs pairs pairs_met = (rw is at found.1).0 in
+      rw limited_by (subst (λ ps. Makes new made (limited (merged l_met r_met keys_met ps))) (pairs_are pairs _ are) makes)

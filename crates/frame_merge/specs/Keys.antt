@@ -58,8 +58,12 @@ pub record ArePaired (l r : NumberedTable) (keys : MergeKeys) : Type 0 where
   pub same : length keys.right ≡ length keys.left
   pub some : 1 ≤ length keys.left
 
--- four at most, and of the same kinds
-pub record AreMergeKeys (l r : NumberedTable) (keys : MergeKeys) : Type 0 where
+-- and of its kind
+pub record AreAlike (l r : NumberedTable) (keys : MergeKeys) : Type 0 where
   pub paired : ArePaired l r keys
-  pub few : length keys.left ≤ 4
   pub kinds : are_same_kinds (kinds_of l keys.left) (kinds_of r keys.right) ≡ true
+
+-- four at most
+pub record AreMergeKeys (l r : NumberedTable) (keys : MergeKeys) : Type 0 where
+  pub alike : AreAlike l r keys
+  pub few : length keys.left ≤ 4

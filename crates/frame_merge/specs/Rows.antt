@@ -1,5 +1,6 @@
 -- The rows of two frames that have equal keys.
-use Rattle.std.specs.Prelude.{◌≡◌, ◌<◌, ◌≤◌, ℕ, List, length, All, Option, Some, None, Result, Ok, Err}
+use Rattle.std.specs.Prelude.{◌≡◌, ◌<◌, ◌≤◌, ℕ, List, map, length, All, Option, Some, None, Result, Ok, Err}
+use Rattle.std.specs.List.{zip}
 use Rattle.column_core.specs.cells.Text.{Text}
 use Rattle.column_core.specs.cells.Cell.{LabelValue}
 use Rattle.column_core.specs.cells.Fault.{FaultValue}
@@ -7,7 +8,7 @@ use Rattle.column_core.specs.Moves.{IsPlaceOf}
 use Rattle.cell_core.specs.declared.code.Code.TheVariants.{BadMerge}
 use Rattle.meaning_join.specs.declared.How.{How}
 use Rattle.meaning_join.specs.declared.Validate.{Validate}
-use Rattle.meaning_join.specs.Pairs.{Pair, RepeatedKey, repeated_key, key_pairs}
+use Rattle.meaning_join.specs.Pairs.{Pair, pair, RepeatedKey, repeated_key, key_pairs}
 use Rattle.merge_concat.specs.declared.fault.MergeFault.{MergeFault}
 use Rattle.merge_concat.specs.declared.fault.MergeFault.TheVariants as fault
 use Rattle.merge_concat.specs.declared.pairs.Pairs.{Pairs}
@@ -27,6 +28,10 @@ repeated_in once l r keys = repeated_key same_tuple once (row_keys l keys.left) 
 
 abbrev pub pairs_in : How → Table → Table → MergeKeys → List Pair
 pairs_in how l r keys = key_pairs same_tuple tuple_before how (row_keys l keys.left) (row_keys r keys.right)
+
+-- the rows of both sides, pair by pair
+abbrev pub pairs_value : Pairs → List Pair
+pairs_value pairs = map (λ rows. pair rows.0 rows.1) (zip pairs.left pairs.right)
 
 -- a row of each side for each pair, if it has one there
 pub record AreRowsMet (l r : NumberedTable) (pairs : Pairs) : Type 0 where

@@ -4,7 +4,7 @@ ghost use Rattle.std.specs.List.{range_with_len};
 ghost use Rattle.cell_core.specs.declared.cell.Cell.TheVariants.{Na};
 ghost use Rattle.column_core.specs.Moves.{IsPlaceOf};
 ghost use Rattle.frame_store.specs.Parts.{columns_of, table_column, AreColumnsOf, IsHeld, IsSingle};
-ghost use Rattle.frame_merge.specs.Keys.{keys_value, AreMergeKeys};
+ghost use Rattle.frame_merge.specs.Keys.{keys_value, AreAlike};
 ghost use Rattle.frame_merge.specs.Rows.{AreRowsMet};
 ghost use Rattle.frame_merge.specs.Columns.{key_cell_at, key_cells, left_column_on, merged_columns};
 
@@ -73,7 +73,7 @@ fn left_column(
     pairs: &Pairs,
     place: usize,
 ) -> Result<Column, NoMemory>
-    requires keys { AreMergeKeys l.now r.now keys.now }
+    requires keys { AreAlike l.now r.now keys.now }
     requires rows { AreRowsMet l.now r.now pairs.now }
     requires place { place < length l.now.columns }
     ensures { IfOk result (λ column. table_column column ≡ left_column_on Na l.now.columns
@@ -102,7 +102,7 @@ fn left_columns(
     keys: &MergeKeys,
     pairs: &Pairs,
 ) -> Result<Blocks, NoMemory>
-    requires keys { AreMergeKeys l.now r.now keys.now }
+    requires keys { AreAlike l.now r.now keys.now }
     requires rows { AreRowsMet l.now r.now pairs.now }
     ensures single { IfOk result (All IsSingle) }
     ensures columns { IfOk result (λ made. columns_of made ≡ map (left_column_on Na l.now.columns
@@ -126,7 +126,7 @@ pub(crate) fn columns_met(
     rights: &Places,
     pairs: &Pairs,
 ) -> Result<Blocks, NoMemory>
-    requires keys { AreMergeKeys l.now r.now keys.now }
+    requires keys { AreAlike l.now r.now keys.now }
     requires rights { AreColumnsOf r.now rights.now }
     requires rows { AreRowsMet l.now r.now pairs.now }
     ensures single { IfOk result (All IsSingle) }

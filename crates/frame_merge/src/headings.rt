@@ -9,7 +9,7 @@ ghost use Rattle.frame_store.specs.Parts.{AreColumnsOf};
 ghost use Rattle.frame_store.specs.Shown.{headings_value};
 ghost use Rattle.frame_store.specs.World.{IsKnownTable};
 ghost use Rattle.frame_select.specs.Selected.{headings_at};
-ghost use Rattle.frame_merge.specs.Keys.{keys_value, AreMergeKeys};
+ghost use Rattle.frame_merge.specs.Keys.{keys_value, AreAlike};
 ghost use Rattle.frame_merge.specs.Headings.{label_beside, merged_headings, AreAmong};
 
 use crate::keys::MergeKeys;
@@ -100,7 +100,7 @@ pub(crate) fn merged_labels(
 ) -> Result<Vec<Option<Label>>, NoMemory>
     requires left { IsKnownTable dict.old l.now }
     requires right { IsKnownTable dict.old r.now }
-    requires keys { AreMergeKeys l.now r.now keys.now }
+    requires keys { AreAlike l.now r.now keys.now }
     requires rights { rights.now ≡ right_places (table_value dict.old r.now) (keys_value keys.now) }
     ensures longer { IsLonger dict.old dict.new }
     ensures given { IfOk result (λ made. IsSettled headings_value dict.new made.items) }

@@ -24,11 +24,13 @@ use frame_store::{ObjRef, OpFault};
 use indexmap::IndexSet;
 use std::alloc::Global;
 
-// The columns of either frame whose cells are the keys, one of the left for each of the right.
+/// The columns of either frame whose cells are the keys, one of the left for each of the right.
 #[derive(Drop)]
-pub(crate) struct MergeKeys {
-    pub(crate) left: Places,
-    pub(crate) right: Places,
+pub struct MergeKeys {
+    /// Those of the left frame.
+    pub left: Places,
+    /// Those of the right frame.
+    pub right: Places,
 }
 
 // The labels that `on` names, if it is given.
@@ -107,10 +109,14 @@ fn common_labels(
     Ok(cells)
 }
 
-// The columns of these labels on both sides. A label that is absent is refused first, of either side, and then one that
-// several columns have.
+/// The columns of these labels on both sides.
+///
+/// # Errors
+///
+/// `NoKey` of the first label that no column of the left has, and then of the right; then `BadValue(Repeated)` of the first
+/// that several columns of the left have, and then of the right. `NoMemory` may come in place of any answer.
 #[tactic(auto, using(crate::proofs::Hints::keys_named))]
-fn keys_named(
+pub fn keys_named(
     alloc: Global,
     dict: &TextDict,
     l: &ObjRef<'_>,
@@ -160,9 +166,9 @@ fn keys_told(
     }
 }
 
-// Whether the keys are of the same kinds on both sides.
+/// Whether the keys are of the same kinds on both sides.
 #[tactic(auto, using(crate::proofs::KeyLaws::not_same, crate::proofs::KeyLaws::same_on))]
-fn are_same_kinds(l: &ObjRef<'_>, r: &ObjRef<'_>, keys: &MergeKeys) -> bool
+pub fn are_same_kinds(l: &ObjRef<'_>, r: &ObjRef<'_>, keys: &MergeKeys) -> bool
     requires { ArePaired l.now r.now keys.now }
     ensures { result ≡ meant.are_same_kinds
         (kinds_of l.now keys.now.left) (kinds_of r.now keys.now.right) }

@@ -26,3 +26,5 @@ mod rows;
 mod suffixes;
 
 pub use calling::merge;
+pub use keys::{MergeKeys, are_same_kinds, keys_named};
+pub use merging::frame_of_pairs;

@@ -2,10 +2,10 @@
 use Rattle.{
   meaning_json.{
     proofs.cells.Common.{◌≡◌, ℕ, suc, ◌<◌, Bool, true, false, cond, List, [], ◌∷◌, ◌++◌, length, map, get_or, refl, ap, sym, ◌∙◌, append_assoc, arith, Option, Some, None, Ok, Err, subst, IfSome, length-append, length-map, get_or-map, map_push, take, take_all, take_more, ◌+◌, ◌-◌, ◌≤◌, GridValue, Label, label_datum, list_any, list_any-append, string_bytes, String, bytes_eq-Decides, with_text, Text, same_text, LabelValue, na},
-    specs.{tables.Table.{Table, heading_value, tuple_value}, format.Told.{told}, declared.Orient.TheVariants.{Records}, JsonWrite.{value_text, key_text, heading_label, column_labels, records_json, first_repeated, repeated, unless_repeated, json_text_of}},
+    specs.{tables.Table.{Table, heading_value, tuple_value}, format.Told.{told, heading_at}, declared.Orient.TheVariants.{Records}, JsonWrite.{value_text, key_text, heading_label, column_labels, records_json, first_repeated, repeated, unless_repeated, json_text_of}},
   },
   frame_format.proofs.ToldLaws.{columns_told, headings_seen, heading_seen},
-  json_frames.{specs.Labels.{texts_seen, repeated_from, IsFoundBehind}, proofs.TableLaws.{heading_is, keys_count}},
+  json_frames.{specs.{Labels.{texts_seen, repeated_from, IsFoundBehind}, Answers.{NamesGiven}, declared.writing.TextRefusal.TheVariants.{Repeated}}, proofs.TableLaws.{heading_is, keys_count}},
 }
 
 -- a text joins those behind it
@@ -108,3 +108,13 @@ module _ {Y : Type 0} (t : Table) (texts : List Text) (g : GridValue) (keys : Li
 
   pub written : (words : Text) → found ≡ None → words ≡ value_text (records_json t) → json_text_of Records (told texts g) ≡ Ok words
   written words none e = ap (json_text_of Records) (sym is) ∙ different_keys t keys found named at none ∙ ap Ok (sym e)
+
+-- The label of a column
+module _ (g : GridValue) (place : ℕ) (l : Label) (within : place < g.columns) (label : (texts : List Text) → label_datum texts l ≡ heading_label (heading_value texts (g.heading place))) where
+  label_told : (texts : List Text) → label_datum texts l ≡ heading_label (heading_at (told texts g) place)
+  label_told texts = label texts ∙ ap heading_label (heading_seen (told texts g) texts g refl place (g.heading place) (omega (arith, within, columns_told texts g)) refl)
+
+  pub label_given : (texts : List Text) (tuple : List Label) → tuple ≡ l ∷ [] → NamesGiven texts g (Repeated tuple)
+  label_given texts tuple one settled more =
+      ap (λ ls. Some (repeated (tuple_value (texts ++ more) ls))) one ∙ ap (λ d. Some (repeated (d ∷ []))) (label_told (texts ++ more) ∙ ap (λ t. heading_label (heading_at t place)) (settled more) ∙ sym (label_told texts))
+      ∙ ap (λ ls. Some (repeated (tuple_value texts ls))) (sym one)

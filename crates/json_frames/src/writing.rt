@@ -1,5 +1,5 @@
 // The JSON text of a frame.
-ghost use Rattle.std.specs.Prelude.{◌≡◌, ◌<◌, ◌++◌, ◌∷◌, [], length, map, OnOk, IfOk};
+ghost use Rattle.std.specs.Prelude.{◌≡◌, ◌<◌, ◌++◌, ◌∷◌, [], length, map, OnOk, IfOk, IfErr};
 ghost use Rattle.json.specs.Tree.{json_tokens};
 ghost use Rattle.cell_core.specs.declared.grid.Shape.TheVariants.{Frame};
 ghost use Rattle.meaning_json.specs.cells.Cell.{na_cell};
@@ -8,7 +8,7 @@ ghost use Rattle.meaning_json.specs.format.Told.{told};
 ghost use Rattle.meaning_json.specs.declared.Orient.TheVariants as orient;
 ghost use Rattle.meaning_json.specs.JsonWrite as meant;
 ghost use Rattle.json_frames.specs.Labels.{texts_seen};
-ghost use Rattle.json_frames.specs.Answers.{WritesAs};
+ghost use Rattle.json_frames.specs.Answers.{WritesAs, NamesGiven};
 
 use crate::labels::{first_repeated, heading_of};
 use crate::output::Output;
@@ -56,7 +56,9 @@ pub fn json_text<G: Grid>(
     orient: Orient,
 ) -> Result<Words, TextRefusal>
     requires { (G.table grid.now).shape ≡ Frame }
-    ensures { WritesAs dict.now result (meant.json_text_of orient (told dict.now (G.table grid.now))) }
+    ensures answer { WritesAs dict.now result
+        (meant.json_text_of orient (told dict.now (G.table grid.now))) }
+    ensures named { IfErr result (NamesGiven dict.now (G.table grid.now)) }
 {
     match orient {
         Orient::Records => records_text(alloc, dict, grid),
@@ -65,8 +67,9 @@ pub fn json_text<G: Grid>(
 }
 
 fn records_text<G: Grid>(alloc: Global, dict: &TextDict, grid: &G) -> Result<Words, TextRefusal>
-    ensures { WritesAs dict.now result
+    ensures answer { WritesAs dict.now result
         (meant.json_text_of orient.Records (told dict.now (G.table grid.now))) }
+    ensures named { IfErr result (NamesGiven dict.now (G.table grid.now)) }
 {
     let source = Source::new(dict, grid);
     let keys = keys_of(alloc, &source)?;
@@ -94,8 +97,9 @@ fn text_of_records<G: Grid>(
 }
 
 fn split_text<G: Grid>(alloc: Global, dict: &TextDict, grid: &G) -> Result<Words, TextRefusal>
-    ensures { WritesAs dict.now result
+    ensures answer { WritesAs dict.now result
         (meant.json_text_of orient.Split (told dict.now (G.table grid.now))) }
+    ensures named { IfErr result (NamesGiven dict.now (G.table grid.now)) }
 {
     let source = Source::new(dict, grid);
     if source.levels() != 1 {

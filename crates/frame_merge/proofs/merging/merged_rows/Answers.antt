@@ -1,34 +1,12 @@
 use Rattle.{
-  frame_parts.proofs.Common.{arith, columns_name_part},
-  frame_merge.proofs.TableLaws.{many_so, beyond_so, made_is, parts_fit},
-  frame_labels.proofs.NamedLaws.{others_inside},
+  frame_parts.proofs.Common.{arith},
+  frame_merge.proofs.TableLaws.{many_so, met_so},
 }
 use Rattle.frame_merge.proofs.merging.merged_rows.Goals as goal
 
-pub common_name-name-requires-clause-a : goal.common_name-name-requires-clause-a
-common_name-name-requires-clause-a c = rw c.columns_name.ensures (columns_name_part _ _ c.requires.left.given)
-
-pub common_name-name-requires-clause-b : goal.common_name-name-requires-clause-b
-common_name-name-requires-clause-b c = rw c.columns_name-2.ensures (columns_name_part _ _ c.requires.right.given)
-
 pub returns-in_default-clause-answer : goal.returns-in_default-clause-answer
 returns-in_default-clause-answer c =
-    many_so _ _ _ _ c.requires _ _ _ _ c.in_ok-met.ensures _ _ c.in_ok-rights.ensures c.columns.ensures _ (grind arith) c.rows_within-most.ensures.law c.in_default.is
-
-pub returns-then-not-within_limits-clause-answer : goal.returns-then-not-within_limits-clause-answer
-returns-then-not-within_limits-clause-answer c =
-    beyond_so _ _ _ _ c.requires _ _ _ _ c.in_ok-met.ensures _ _ _ c.in_ok-labels.ensures c.as_slice.ensures.value _ c.in-Some.is _ c.len-count.ensures (grind arith)
-
-pub columns_met-requires-clause-rights : goal.columns_met-requires-clause-rights
-columns_met-requires-clause-rights c = others_inside _ _ _ _ c.in_ok-rights.ensures c.columns.ensures
-
-pub new-requires-clause-whole : goal.new-requires-clause-whole
-new-requires-clause-whole c =
-    parts_fit _ _ _ _ c.requires _ _ _ _ c.in_ok-met.ensures _ _ _ c.in_ok-labels.ensures c.as_slice.ensures.value _ c.in-Some.is _ c.len-count.ensures
-    _ _ c.in_ok-rights.ensures c.columns.ensures _ _ _ c.columns_name.ensures c.columns_name-2.ensures c.common_name-name.ensures _ c.in_ok-axis.ensures _ c.in_ok-headings.ensures _ c.in_ok-blocks.ensures.columns
+    many_so c.args.dict.now c.args.l.now c.args.r.now c.args.keys.now c.args.how c.args.once _ _ c.in_ok-met.ensures.rows _ _ c.in_ok-rights.ensures c.columns.ensures _ (grind arith) c.rows_within-most.ensures.law c.in_default.is
 
 pub returns-clause-answer : goal.returns-clause-answer
-returns-clause-answer c =
-    made_is _ _ _ _ c.requires _ _ _ _ c.in_ok-met.ensures _ _ _ c.in_ok-labels.ensures c.as_slice.ensures.value _ c.in-Some.is _ c.len-count.ensures
-    _ _ c.in_ok-rights.ensures c.columns.ensures _ _ _ c.columns_name.ensures c.columns_name-2.ensures c.common_name-name.ensures _ c.in_ok-axis.ensures _ c.in_ok-headings.ensures _ c.in_ok-blocks.ensures.columns
-    (grind arith) _ c.new.ensures
+returns-clause-answer c = met_so c.args.dict.now c.args.l.now c.args.r.now c.args.keys.now c.args.how c.args.once _ _ c.in_ok-met.ensures.rows _ c.in-Some.is _ _ c.frame_of_pairs.ensures.answer
